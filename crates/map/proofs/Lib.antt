@@ -1,0 +1,12 @@
+pub mod Results
+pub mod Orderings
+pub mod Maps
+pub mod Members
+pub mod Adding
+pub mod Exact
+pub mod Perms
+pub mod Sizes
+pub mod Gathered
+pub mod Grouping
+pub mod OnePassLaws
+pub mod Origins

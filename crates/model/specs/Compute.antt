@@ -1,0 +1,130 @@
+-- One name that opens every definition of the model: a proof by computation says `unfolding open-all`. Assumes nothing.
+use Rattle.model.specs.Answer.{numberOf, told}
+use Rattle.model.specs.Lists.{select, all, any, insertSorted, sort, from, each}
+use Rattle.model.specs.Bytes.{compareBytes, before, after, onto, split, joined}
+use Rattle.model.specs.Path.{code, comparePaths, named, leading, components}
+use Rattle.model.specs.Number.{readDigits, readSome, readNumber, decimalDigits, decimal}
+use Rattle.model.specs.Tags.{allKinds, defaultTag, differ}
+use Rattle.model.specs.Line.{
+  beforeTrimmed,
+  trimmed,
+  kindAmong,
+  fromField,
+  inField,
+  numberField,
+  textField,
+  takenField,
+  checksumField,
+  lastBefore,
+  readOne,
+  readBody,
+  bodyOf,
+  readTrimmed,
+  readRecord,
+  readLine,
+  printFields,
+  printTaken,
+  printChecksum,
+  printRecord,
+}
+use Rattle.model.specs.Output.{written, outputAfter}
+use Rattle.model.specs.Parts.{partOf, takenIn, checksumIn, recordIn, printLine}
+use Rattle.model.specs.Report.{
+  itemKey,
+  compareItems,
+  compareSections,
+  compareKeys,
+  entryKey,
+  startOf,
+  takenOf,
+  checksumOf,
+  countOf,
+  sum,
+  sumTaken,
+  agree,
+  combineItems,
+  combineEntries,
+  merge,
+  within,
+}
+use Rattle.model.specs.Reading.{
+  withoutEmptyLast,
+  lines,
+  outside,
+  open-section,
+  entries,
+  spellingOf,
+  replaceSection,
+  keepSection,
+  addCalls,
+  enterItem,
+  ignored,
+  effect,
+  step,
+  readLines,
+  readText,
+}
+use Rattle.model.specs.Printing.{
+  isSection,
+  isFunction,
+  isBranch,
+  isLine,
+  itemsHere,
+  sectionHere,
+  sections,
+  printKey,
+  comparePrinted,
+  functionsOf,
+  startRecord,
+  dataRecord,
+  hits,
+  group,
+  sectionRecords,
+  printRecords,
+  printSections,
+  printReport,
+}
+use Rattle.model.specs.Bundle.{u32At, textCount, textBytes, textStart, textLength, wellFormed, textAt, texts}
+use Rattle.model.specs.Gather.{readAndPrint, gatherText, gatherTexts, gather, shown, gatherProgram}
+use Rattle.model.specs.Joined.{
+  insertKey,
+  distinctKeys,
+  itemsAt,
+  given,
+  allAgree,
+  agreeing,
+  total,
+  totalGiven,
+  joinedAs,
+  joinedItem,
+  joinedEntry,
+  joinedReport,
+  summedOf,
+  spellings,
+}
+use Rattle.model.specs.Ranges.{
+  ascending,
+  wellFormedRanges,
+  halfOpen,
+  joinInto,
+  insertRange,
+  insertCall,
+  sliceAfter,
+  holds,
+  queryCall,
+}
+use Rattle.model.specs.Filter.{
+  lineOf,
+  isHeld,
+  startLine,
+  hasStart,
+  endBefore,
+  heldFunctions,
+  filterItems,
+  filterSection,
+  filterText,
+}
+
+unfoldable pub open-all : {A : Type 0} → A → A
+unfolding numberOf told select all any insertSorted sort from each compareBytes before after onto split joined code comparePaths named leading components readDigits readSome readNumber decimalDigits decimal allKinds defaultTag differ beforeTrimmed trimmed kindAmong fromField inField numberField textField takenField checksumField lastBefore readOne readBody bodyOf readTrimmed readRecord readLine printFields printTaken printChecksum printRecord written outputAfter partOf takenIn checksumIn recordIn printLine itemKey compareItems compareSections compareKeys entryKey startOf takenOf checksumOf countOf sum sumTaken agree combineItems combineEntries merge within withoutEmptyLast lines outside open-section entries spellingOf replaceSection keepSection addCalls enterItem ignored effect step readLines readText isSection isFunction isBranch isLine itemsHere sectionHere sections printKey comparePrinted functionsOf startRecord dataRecord hits group sectionRecords printRecords printSections printReport u32At textCount textBytes textStart textLength wellFormed textAt texts readAndPrint gatherText gatherTexts gather shown gatherProgram insertKey distinctKeys itemsAt given allAgree agreeing total totalGiven joinedAs joinedItem joinedEntry joinedReport summedOf spellings ascending wellFormedRanges halfOpen joinInto insertRange insertCall sliceAfter holds queryCall lineOf isHeld startLine hasStart endBefore heldFunctions filterItems filterSection filterText
+open-all a = a

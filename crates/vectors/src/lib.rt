@@ -1,0 +1,1 @@
+// What the Rust answered, and the proof that the definitions answer the same, are in specs/.

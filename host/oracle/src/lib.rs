@@ -1,0 +1,18 @@
+//! The oracle: the unchanged Rust asked for what document 01 asks of the port, in document 01's words and numbers.
+//!
+//! Every question is answered by a value or a [`Fault`]. A fault is a refusal with document 01's number and place, or says that the
+//! question lies outside the domain of comparison: bytes that are not UTF-8, and sums and range lists for which document 01 added a
+//! number. Limits on entries and on the output (10, 14, 15) are the port's alone and are not known here.
+
+// The Rust's files name each other from the root of their crate, so they stand at the root of this one.
+include!(concat!(env!("OUT_DIR"), "/lcov/lib.rs"));
+
+mod fault;
+mod line;
+mod ranges;
+mod text;
+
+pub use fault::{hush_overflow, Fault, Refusal};
+pub use line::{print_record, read_line};
+pub use ranges::{closed, filter, query, ranges_after};
+pub use text::{compare_paths, gather, print_report, read_text, Mode};
