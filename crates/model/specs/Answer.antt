@@ -31,7 +31,7 @@ use Rattle.model.specs.Limits.{u64-max}
 -- ---- "What a caller gets back"
 
 -- a fault's number
-unfoldable pub numberOf : Fault → ℕ
+abbrev pub numberOf : Fault → ℕ
 -- tag unknown
 numberOf UnknownRecord = 1
 -- field missing

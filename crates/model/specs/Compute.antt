@@ -1,5 +1,5 @@
 -- One name that opens every definition of the model: a proof by computation says `unfolding open-all`. Assumes nothing.
-use Rattle.model.specs.Answer.{numberOf, told}
+use Rattle.model.specs.Answer.{told}
 use Rattle.model.specs.Lists.{select, all, any, insertSorted, sort, from, each}
 use Rattle.model.specs.Bytes.{compareBytes, before, after, onto, split, joined}
 use Rattle.model.specs.Path.{code, comparePaths, named, leading, components}
@@ -126,5 +126,5 @@ use Rattle.model.specs.Filter.{
 }
 
 unfoldable pub open-all : {A : Type 0} → A → A
-unfolding numberOf told select all any insertSorted sort from each compareBytes before after onto split joined code comparePaths named leading components readDigits readSome readNumber decimalDigits decimal allKinds defaultTag differ beforeTrimmed trimmed kindAmong fromField inField numberField textField takenField checksumField lastBefore readOne readBody bodyOf readTrimmed readRecord readLine printFields printTaken printChecksum printRecord written outputAfter partOf takenIn checksumIn recordIn printLine itemKey compareItems compareSections compareKeys entryKey startOf takenOf checksumOf countOf sum sumTaken agree combineItems combineEntries merge within withoutEmptyLast lines outside open-section entries spellingOf replaceSection keepSection addCalls enterItem ignored effect step readLines readText isSection isFunction isBranch isLine itemsHere sectionHere sections printKey comparePrinted functionsOf startRecord dataRecord hits group sectionRecords printRecords printSections printReport u32At textCount textBytes textStart textLength wellFormed textAt texts readAndPrint gatherText gatherTexts gather shown gatherProgram insertKey distinctKeys itemsAt given allAgree agreeing total totalGiven joinedAs joinedItem joinedEntry joinedReport summedOf spellings ascending wellFormedRanges halfOpen joinInto insertRange insertCall sliceAfter holds queryCall lineOf isHeld startLine hasStart endBefore heldFunctions filterItems filterSection filterText
+unfolding told select all any insertSorted sort from each compareBytes before after onto split joined code comparePaths named leading components readDigits readSome readNumber decimalDigits decimal allKinds defaultTag differ beforeTrimmed trimmed kindAmong fromField inField numberField textField takenField checksumField lastBefore readOne readBody bodyOf readTrimmed readRecord readLine printFields printTaken printChecksum printRecord written outputAfter partOf takenIn checksumIn recordIn printLine itemKey compareItems compareSections compareKeys entryKey startOf takenOf checksumOf countOf sum sumTaken agree combineItems combineEntries merge within withoutEmptyLast lines outside open-section entries spellingOf replaceSection keepSection addCalls enterItem ignored effect step readLines readText isSection isFunction isBranch isLine itemsHere sectionHere sections printKey comparePrinted functionsOf startRecord dataRecord hits group sectionRecords printRecords printSections printReport u32At textCount textBytes textStart textLength wellFormed textAt texts readAndPrint gatherText gatherTexts gather shown gatherProgram insertKey distinctKeys itemsAt given allAgree agreeing total totalGiven joinedAs joinedItem joinedEntry joinedReport summedOf spellings ascending wellFormedRanges halfOpen joinInto insertRange insertCall sliceAfter holds queryCall lineOf isHeld startLine hasStart endBefore heldFunctions filterItems filterSection filterText
 open-all a = a

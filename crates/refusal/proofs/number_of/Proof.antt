@@ -1,0 +1,45 @@
+use borrow.Author.Needs.{needs}
+use Rattle.refusal.proofs.Laws.{number-is}
+use Rattle.refusal.proofs.number_of.Statement.{statement}
+use Rattle.refusal.proofs.number_of.Tie as tie
+
+pub number-of-spec : {M : Type 1} → statement M
+number-of-spec =
+    tie.close
+    (tie.spec
+    (λ c. search needs)
+    (λ c. search needs)
+    (λ c. search needs)
+    (λ c. search needs)
+    (λ c. search needs)
+    (λ c. search needs)
+    (λ c. search needs)
+    (λ c. search needs)
+    (λ c. search needs)
+    (λ c. search needs)
+    (λ c. search needs)
+    (λ c. search needs)
+    (λ c. search needs)
+    (λ c. search needs)
+    (λ c. search needs)
+    (λ c. search needs)
+    (λ c. search needs)
+    (λ c. search needs)
+    (λ c. search (number-is, needs))
+    (λ c. search (number-is, needs))
+    (λ c. search (number-is, needs))
+    (λ c. search (number-is, needs))
+    (λ c. search (number-is, needs))
+    (λ c. search (number-is, needs))
+    (λ c. search (number-is, needs))
+    (λ c. search (number-is, needs))
+    (λ c. search (number-is, needs))
+    (λ c. search (number-is, needs))
+    (λ c. search (number-is, needs))
+    (λ c. search (number-is, needs))
+    (λ c. search (number-is, needs))
+    (λ c. search (number-is, needs))
+    (λ c. search (number-is, needs))
+    (λ c. search (number-is, needs))
+    (λ c. search (number-is, needs))
+    (λ c. search (number-is, needs)))
