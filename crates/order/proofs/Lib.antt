@@ -1,0 +1,6 @@
+pub mod PrefixLaws
+pub mod CompareLaws
+pub mod SplitLaws
+pub mod ComponentLaws
+pub mod PlaceLaws
+pub mod PathLaws
