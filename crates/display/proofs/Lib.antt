@@ -1,0 +1,4 @@
+pub mod OverLaws
+pub mod FieldLaws
+pub mod ShapeLaws
+pub mod LineLaws

@@ -1,0 +1,198 @@
+-- The line of a record's shape is the model's line, and what the printer answers. Assumes nothing.
+use Prim.Native.Nat.{ℕ, _+_, _-_, _*_, _^_, _≤_, _<_, min}
+use mathlib.Core.Path.{_≡_, refl, sym, ap, _∙_}
+use mathlib.Core.List.{List, [], _∷_, _++_, map, append-assoc, append-nil}
+use mathlib.Core.Bool.{Bool, true, false}
+use mathlib.Core.Option.{none, some}
+use native.Mathlib.Omega.{arith}
+use lib.Dec.{leb, lit≤}
+use lib.ListN.{length, take, drop}
+use mir.Val.{Fits}
+use mir.Syntax.{w64}
+use borrow.Author.Tests.{leb-true, le-leb, lt-leb}
+use Rattle.model.specs.declared.Fault.the-variants.{PartOutside, OutputTooShort}
+use Rattle.model.specs.declared.Kind.{Kind}
+use Rattle.model.specs.declared.Kind.the-variants as Kd
+use Rattle.model.specs.declared.Part.{Part}
+use Rattle.model.specs.declared.Refusal.{Refusal}
+use Rattle.model.specs.declared.Taken.the-variants as T
+use Rattle.model.specs.declared.Checksum.the-variants as C
+use Rattle.model.specs.declared.Record.{Record}
+use Rattle.model.specs.declared.Record.the-variants.{TestName, SourceFile, FunctionName, FunctionData, FunctionsFound, FunctionsHit, BranchData, BranchesFound, BranchesHit, LineData, LinesFound, LinesHit, EndOfRecord}
+use Rattle.model.specs.Bytes.{Bytes, ascii, joined}
+use Rattle.model.specs.Answer.{accepted, refuse, refuseLength}
+use Rattle.model.specs.Number.{decimal}
+use Rattle.model.specs.Record as Model
+use Rattle.model.specs.Tags.{defaultTag}
+use Rattle.model.specs.Line.{printFields, printTaken, printChecksum, printRecord}
+use Rattle.model.specs.Limits.{u64-max}
+use Rattle.model.specs.Output.{written, outputAfter}
+use Rattle.model.specs.Calls.{writeAnswer}
+use Rattle.model.specs.Parts.{partOf, takenIn, checksumIn, recordIn, printLine}
+use Rattle.text.specs.Put.{over}
+use Rattle.display.specs.Shape.{ShapeOf, separated, shown, lastLen, lastField, inside, sepAfter, headOf, shapeFields, shapeLine, neededAt, kindOf, numbersOf, lastOf}
+use Rattle.display.specs.declared.shape.Last.{Last}
+use Rattle.display.specs.declared.shape.Last.the-variants as L
+use Rattle.display.specs.declared.shape.Shape.{Shape}
+use Rattle.model.specs.declared.WriteAnswer.the-variants.{Written, Refused}
+use Rattle.display.proofs.ShapeLaws.{after-numbers, fields-len, line-len}
+
+inside-most : (t : Bytes) (l : Last) → inside (length t) l ≡ true → length t * 1 < 2 ^ 63 → lastLen l ≤ 9223372036854775808
+unfolding inside lastLen
+inside-most t L.Nothing e h = lit≤ tt
+inside-most t L.Dash e h = lit≤ tt
+inside-most t (L.Text p) e h = omega (arith, leb-true (p .start + p .len) (length t) e)
+
+-- the line of a record, whose text parts lie in t
+unfoldable printed : Bytes → Record → Bytes
+printed t a = defaultTag (kindOf a) ++ separated 58 (map decimal (numbersOf a) ++ lastField t (lastOf a)) ++ (10 ∷ [])
+
+-- ---- the model's line
+
+commas : (f : Bytes) (fs : List Bytes) → f ++ separated 44 fs ≡ joined (f ∷ fs)
+unfolding separated joined
+commas f [] = append-nil f
+commas f (g ∷ gs) = ap (λ (l : Bytes). f ++ 44 ∷ l) (commas g gs)
+
+line-fields : (kind : Kind) (f : Bytes) (fs : List Bytes) → printFields defaultTag kind (f ∷ fs) ++ (10 ∷ []) ≡ defaultTag kind ++ separated 58 (f ∷ fs) ++ (10 ∷ [])
+unfolding printFields separated
+line-fields kind f fs = ap (λ (l : Bytes). defaultTag kind ++ (58 ∷ l) ++ (10 ∷ [])) (sym (commas f fs))
+
+module _ (t : Bytes) (room : ℕ) where
+  -- it is the line of the record that the lent record is
+  line-of : (a : Record) (made : Model.Record) → recordIn t a ≡ accepted made → printRecord defaultTag made ++ (10 ∷ []) ≡ printed t a → printLine defaultTag t a room ≡ written room (printed t a)
+  unfolding printLine
+  line-of a made e q = rw (e, q)
+
+  part-there : (p : Part) → leb (p .start + p .len) (length t) ≡ true → partOf t p ≡ accepted (take (p .len) (drop (p .start) t))
+  unfolding partOf
+  part-there p e = rw e
+
+  part-not : (p : Part) → leb (p .start + p .len) (length t) ≡ false → partOf t p ≡ refuse PartOutside
+  unfolding partOf
+  part-not p e = rw e
+
+  line-inside : (a : Record) → inside (length t) (lastOf a) ≡ true → printLine defaultTag t a room ≡ written room (printed t a)
+  unfolding inside recordIn takenIn checksumIn printRecord printFields printTaken printChecksum joined printed separated lastField
+  line-inside (TestName p) e = line-of (TestName p) (Model.testName (take (p .len) (drop (p .start) t))) (rw (part-there p e)) (line-fields Kd.TestName (take (p .len) (drop (p .start) t)) [])
+  line-inside (SourceFile p) e = line-of (SourceFile p) (Model.sourceFile (take (p .len) (drop (p .start) t))) (rw (part-there p e)) (line-fields Kd.SourceFile (take (p .len) (drop (p .start) t)) [])
+  line-inside (FunctionName n p) e = line-of (FunctionName n p) (Model.functionName n (take (p .len) (drop (p .start) t))) (rw (part-there p e)) (line-fields Kd.FunctionName (decimal n) (take (p .len) (drop (p .start) t) ∷ []))
+  line-inside (FunctionData n p) e = line-of (FunctionData n p) (Model.functionData n (take (p .len) (drop (p .start) t))) (rw (part-there p e)) (line-fields Kd.FunctionData (decimal n) (take (p .len) (drop (p .start) t) ∷ []))
+  line-inside (FunctionsFound n) e = line-of (FunctionsFound n) (Model.functionsFound n) refl (line-fields Kd.FunctionsFound (decimal n) [])
+  line-inside (FunctionsHit n) e = line-of (FunctionsHit n) (Model.functionsHit n) refl (line-fields Kd.FunctionsHit (decimal n) [])
+  line-inside (BranchData l b c (T.Given n)) e = line-of (BranchData l b c (T.Given n)) (Model.branchData l b c (some n)) refl (line-fields Kd.BranchData (decimal l) (decimal b ∷ decimal c ∷ decimal n ∷ []))
+  line-inside (BranchData l b c T.Absent) e = line-of (BranchData l b c T.Absent) (Model.branchData l b c none) refl (line-fields Kd.BranchData (decimal l) (decimal b ∷ decimal c ∷ ascii "-" ∷ []))
+  line-inside (BranchesFound n) e = line-of (BranchesFound n) (Model.branchesFound n) refl (line-fields Kd.BranchesFound (decimal n) [])
+  line-inside (BranchesHit n) e = line-of (BranchesHit n) (Model.branchesHit n) refl (line-fields Kd.BranchesHit (decimal n) [])
+  line-inside (LineData l n (C.Given p)) e = line-of (LineData l n (C.Given p)) (Model.lineData l n (some (take (p .len) (drop (p .start) t)))) (rw (part-there p e)) (line-fields Kd.LineData (decimal l) (decimal n ∷ take (p .len) (drop (p .start) t) ∷ []))
+  line-inside (LineData l n C.Absent) e = line-of (LineData l n C.Absent) (Model.lineData l n none) refl (line-fields Kd.LineData (decimal l) (decimal n ∷ []))
+  line-inside (LinesFound n) e = line-of (LinesFound n) (Model.linesFound n) refl (line-fields Kd.LinesFound (decimal n) [])
+  line-inside (LinesHit n) e = line-of (LinesHit n) (Model.linesHit n) refl (line-fields Kd.LinesHit (decimal n) [])
+  line-inside EndOfRecord e = line-of EndOfRecord Model.endOfRecord refl (ap (λ (l : Bytes). l ++ (10 ∷ [])) (sym (append-nil (defaultTag Kd.EndOfRecord))))
+
+  no-way : {A : Type 0} → true ≡ false → A
+  no-way e = let z : _≡_ {A = ℕ} 0 1 = cc in absurd (omega arith)
+
+  record-outside : (a : Record) → inside (length t) (lastOf a) ≡ false → recordIn t a ≡ refuse PartOutside
+  unfolding inside recordIn checksumIn
+  record-outside (TestName p) e = rw (part-not p e)
+  record-outside (SourceFile p) e = rw (part-not p e)
+  record-outside (FunctionName n p) e = rw (part-not p e)
+  record-outside (FunctionData n p) e = rw (part-not p e)
+  record-outside (FunctionsFound n) e = no-way e
+  record-outside (FunctionsHit n) e = no-way e
+  record-outside (BranchData l b c (T.Given n)) e = no-way e
+  record-outside (BranchData l b c T.Absent) e = no-way e
+  record-outside (BranchesFound n) e = no-way e
+  record-outside (BranchesHit n) e = no-way e
+  record-outside (LineData l n (C.Given p)) e = rw (part-not p e)
+  record-outside (LineData l n C.Absent) e = no-way e
+  record-outside (LinesFound n) e = no-way e
+  record-outside (LinesHit n) e = no-way e
+  record-outside EndOfRecord e = no-way e
+
+  line-outside : (a : Record) → inside (length t) (lastOf a) ≡ false → printLine defaultTag t a room ≡ refuse PartOutside
+  unfolding printLine
+  line-outside a e = rw (record-outside a e)
+
+module _ (t : Bytes) (a : Record) (s : Shape) (w : ShapeOf a s) where
+  pub shape-few : s .count ≤ 4
+  shape-few = w .few
+
+  form : Kind → List ℕ → Last → Bytes
+  form kind ns last = defaultTag kind ++ separated 58 (map decimal ns ++ lastField t last) ++ (10 ∷ [])
+
+  shape-form : shapeLine t (s .kind) (s .numbers) (s .count) (s .last) ≡ form (s .kind) (take (s .count) (s .numbers)) (s .last)
+  unfolding shapeLine shapeFields headOf shown form
+  shape-form =
+      ap (λ (l : Bytes). l ++ (10 ∷ []))
+      (append-assoc (defaultTag (s .kind)) (separated 58 (shown (s .numbers) (s .count))) (separated (sepAfter (s .count)) (lastField t (s .last)))
+      ∙ ap (λ (l : Bytes). defaultTag (s .kind) ++ l) (sym (after-numbers (s .numbers) (s .count) (lastField t (s .last)) (w .long))))
+
+  shape-printed : shapeLine t (s .kind) (s .numbers) (s .count) (s .last) ≡ printed t a
+  unfolding printed form
+  shape-printed =
+      shape-form
+      ∙ ap (λ (k : Kind). form k (take (s .count) (s .numbers)) (s .last)) (w .kind)
+      ∙ ap (λ (ns : List ℕ). form (kindOf a) ns (s .last)) (w .numbers)
+      ∙ ap (λ (l : Last). form (kindOf a) (numbersOf a) l) (w .last)
+
+  module _ (r : Bool) (tested : r ≡ inside (length t) (s .last)) where
+    tested-of : (d : Bool) → r ≡ d → inside (length t) (lastOf a) ≡ d
+    tested-of d e = ap (inside (length t)) (sym (w .last)) ∙ sym tested ∙ e
+
+    pub print-outside : (room : ℕ) (q : Refusal) → r ≡ false → q ≡ neededAt PartOutside 0 → Refused q ≡ writeAnswer (printLine defaultTag t a room)
+    unfolding writeAnswer
+    print-outside room q e f = rw (line-outside t room a (tested-of false e), f)
+
+    pub print-left : (out : Bytes) → r ≡ false → out ≡ outputAfter (printLine defaultTag t a (length out)) out
+    unfolding outputAfter
+    print-left out e = rw (line-outside t (length out) a (tested-of false e))
+
+    module _ (yes : r ≡ true) where
+      pub print-within : inside (length t) (s .last) ≡ true
+      print-within = sym tested ∙ yes
+
+      pub last-most : length t * 1 < 2 ^ 63 → lastLen (s .last) ≤ 9223372036854775808
+      last-most h = inside-most t (s .last) print-within h
+
+      module _ (h l : ℕ) (head : h ≡ length (headOf (s .kind) (s .numbers) (s .count))) (rest : l ≡ lastLen (s .last)) where
+        needed : h + l + 1 ≡ length (printed t a)
+        needed =
+            line-len t (s .kind) (s .count) (s .numbers) (s .last) (h + l) (fields-len t (s .kind) (s .count) (s .numbers) (s .last) h l print-within head rest)
+            ∙ ap length shape-printed
+
+        short : (room : ℕ) → room < h + l + 1 → printLine defaultTag t a room ≡ refuseLength (h + l + 1)
+        unfolding written
+        short room k = line-inside t room a (tested-of true yes) ∙ rw (← needed, lt-leb (h + l + 1) room k)
+
+        fits-in : (room : ℕ) → h + l + 1 ≤ room → printLine defaultTag t a room ≡ accepted (printed t a)
+        unfolding written
+        fits-in room k = line-inside t room a (tested-of true yes) ∙ rw (← needed, le-leb (h + l + 1) room k)
+
+        pub needed-fits : h ≤ 97 → length t * 1 < 2 ^ 63 → Fits w64 (h + l)
+        needed-fits k b = record { fits = omega (arith, last-most b) }
+
+        pub needed-fits-more : h ≤ 97 → length t * 1 < 2 ^ 63 → Fits w64 (h + l + 1)
+        needed-fits-more k b = record { fits = omega (arith, last-most b) }
+
+        pub print-short : (room : ℕ) (q : Refusal) → h ≤ 97 → length t * 1 < 2 ^ 63 → room < h + l + 1 → q ≡ neededAt OutputTooShort (h + l + 1) → Refused q ≡ writeAnswer (printLine defaultTag t a room)
+        unfolding writeAnswer
+        print-short room q few b k f =
+            let m : min (h + l + 1) u64-max ≡ h + l + 1 = omega (arith, last-most b) in
+            rw (short room k, f, m)
+
+        pub print-kept : (out : Bytes) → length out < h + l + 1 → out ≡ outputAfter (printLine defaultTag t a (length out)) out
+        unfolding outputAfter
+        print-kept out k = rw (short (length out) k)
+
+        pub print-room : (room : ℕ) → h + l + 1 ≤ room → length (shapeLine t (s .kind) (s .numbers) (s .count) (s .last)) ≤ room
+        print-room room k = rw (shape-printed, ← needed) k
+
+        pub print-written : (n room : ℕ) → h + l + 1 ≤ room → n ≡ length (shapeLine t (s .kind) (s .numbers) (s .count) (s .last)) → Written n ≡ writeAnswer (printLine defaultTag t a room)
+        unfolding writeAnswer
+        print-written n room k e = rw (fits-in room k, e, shape-printed)
+
+        pub print-out : (old out : Bytes) → h + l + 1 ≤ length old → out ≡ over (shapeLine t (s .kind) (s .numbers) (s .count) (s .last)) old → out ≡ outputAfter (printLine defaultTag t a (length old)) old
+        unfolding outputAfter
+        print-out old out k e = rw (fits-in (length old) k) (rw shape-printed at e)

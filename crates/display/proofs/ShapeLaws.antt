@@ -1,0 +1,116 @@
+-- A record's shape, and the line that its fields make. Assumes nothing.
+use Prim.Native.Nat.{ℕ, zero, suc, _+_, _-_, _^_, _≤_, _<_}
+use mathlib.Core.Path.{_≡_, refl, sym, ap, _∙_}
+use mathlib.Core.List.{List, [], _∷_, _++_, map, append-assoc, append-nil}
+use mathlib.Core.Bool.{true}
+use native.Mathlib.Omega.{arith}
+use native.Mathlib.Numerals.{one-add}
+use lib.Dec.{eqb·suc-zero}
+use lib.ListN.{length, take, drop, set, length-append, length-drop, length-set}
+use lib.Seq.{length-take-le, set-append-seam, append-snoc}
+use mir.Val.{Fits}
+use mir.Syntax.{w64}
+use borrow.Author.Tests.{leb-true}
+use Rattle.model.specs.declared.Kind.{Kind}
+use Rattle.model.specs.declared.Taken.{Taken}
+use Rattle.model.specs.declared.Checksum.{Checksum}
+use Rattle.model.specs.declared.Record.{Record}
+use Rattle.model.specs.declared.Record.the-variants.{BranchData, LineData}
+use Rattle.model.specs.Bytes.{Bytes}
+use Rattle.model.specs.Number.{decimal}
+use Rattle.model.specs.Output.{outputAfter}
+use Rattle.text.specs.Put.{over}
+use Rattle.text.proofs.ByteLaws.{drop-next}
+use Rattle.display.specs.Shape.{ShapeOf, separated, shown, lastLen, lastField, inside, sepAfter, headOf, shapeFields, shapeLine}
+use Rattle.display.specs.declared.shape.Last.{Last}
+use Rattle.display.specs.declared.shape.Last.the-variants as L
+use Rattle.display.specs.declared.shape.Shape.{Shape}
+use Rattle.display.proofs.OverLaws.{over-size, second-room}
+
+-- the shape of a record that is known by its variant
+pub shape-is : (a b : Record) (s : Shape) → a ≡ b → ShapeOf b s → ShapeOf a s
+shape-is a b s e h = rw e h
+
+pub shape-taken : (l b c : ℕ) (t u : Taken) (s : Shape) → t ≡ u → ShapeOf (BranchData l b c u) s → ShapeOf (BranchData l b c t) s
+shape-taken l b c t u s e h = rw e h
+
+pub shape-checksum : (l n : ℕ) (t u : Checksum) (s : Shape) → t ≡ u → ShapeOf (LineData l n u) s → ShapeOf (LineData l n t) s
+shape-checksum l n t u s e h = rw e h
+
+pub ruleset shape-laws = (shape-is, shape-taken, shape-checksum)
+
+-- the last field's length
+module _ (t : Bytes) where
+  long-last : (last : Last) (sep : ℕ) → inside (length t) last ≡ true → length (separated sep (lastField t last)) ≡ lastLen last
+  unfolding separated lastField lastLen inside
+  long-last L.Nothing sep e = refl
+  long-last L.Dash sep e = refl
+  long-last (L.Text p) sep e =
+      let h : p .start + p .len ≤ length t = leb-true (p .start + p .len) (length t) e in
+      let k : length (take (p .len) (drop (p .start) t)) ≡ p .len = length-take-le (p .len) (drop (p .start) t) (simp length-drop (omega arith)) in
+      ap (λ (l : Bytes). suc (length l)) (append-nil (take (p .len) (drop (p .start) t))) ∙ ap suc k ∙ sym (one-add (p .len))
+
+  module _ (kind : Kind) (count sep : ℕ) (numbers : List ℕ) (last : Last) (is : sep ≡ sepAfter count) where
+    pub fields-are : shapeFields t kind numbers count last ≡ headOf kind numbers count ++ separated sep (lastField t last)
+    unfolding shapeFields
+    fields-are = rw is
+
+    pub last-room : (old out : Bytes) (at : ℕ) → inside (length t) last ≡ true → out ≡ over (headOf kind numbers count) old → at ≡ length (headOf kind numbers count) → length (shapeFields t kind numbers count last) ≤ length old → lastLen last ≤ length (take (length out - at) (drop at out))
+    last-room old out at e held upTo room = rw (long-last last sep e) at (second-room (shapeFields t kind numbers count last) (headOf kind numbers count) (separated sep (lastField t last)) old fields-are room out at held upTo)
+
+  module _ (kind : Kind) (count : ℕ) (numbers : List ℕ) (last : Last) (at n : ℕ) (within : inside (length t) last ≡ true) (e : at ≡ length (headOf kind numbers count)) (f : n ≡ lastLen last) where
+    pub fields-len : at + n ≡ length (shapeFields t kind numbers count last)
+    unfolding shapeFields
+    fields-len = rw (e, f, length-append, long-last last (sepAfter count) within)
+
+    pub fields-fits : (old : Bytes) → length (shapeFields t kind numbers count last) ≤ length old → length old < 2 ^ 64 → Fits w64 (at + n)
+    fields-fits old room h = record { fits = omega (arith, fields-len) }
+
+  module _ (kind : Kind) (count : ℕ) (numbers : List ℕ) (last : Last) (n : ℕ) where
+    pub fields-first : length (shapeFields t kind numbers count last) ≤ n → length (headOf kind numbers count) ≤ n
+    unfolding shapeFields
+    fields-first h = omega (arith, length-append (headOf kind numbers count) (separated (sepAfter count) (lastField t last)))
+
+    line-more : length (shapeLine t kind numbers count last) ≡ length (shapeFields t kind numbers count last) + 1
+    unfolding shapeLine
+    line-more = length-append (shapeFields t kind numbers count last) (10 ∷ [])
+
+    pub line-first : length (shapeLine t kind numbers count last) ≤ n → length (shapeFields t kind numbers count last) ≤ n
+    line-first h = omega (arith, line-more)
+
+    pub line-len : n ≡ length (shapeFields t kind numbers count last) → n + 1 ≡ length (shapeLine t kind numbers count last)
+    line-len e = omega (arith, line-more)
+
+    module _ (old out : Bytes) (held : out ≡ over (shapeFields t kind numbers count last) old) (upTo : n ≡ length (shapeFields t kind numbers count last)) (room : length (shapeLine t kind numbers count last) ≤ length old) where
+      line-size : length out ≡ length old
+      line-size = over-size old out (shapeFields t kind numbers count last) [] [] n held (omega (arith, line-more))
+
+      pub line-within : n < length out
+      line-within = omega (arith, line-more, line-size)
+
+      pub line-fits : length old < 2 ^ 64 → Fits w64 (n + 1)
+      line-fits h = record { fits = omega (arith, line-more) }
+
+      pub line-out : set out n 10 ≡ over (shapeLine t kind numbers count last) old
+      unfolding outputAfter shapeLine
+      line-out =
+          rw (held, upTo, drop-next 0 old (length (shapeFields t kind numbers count last)) (omega (arith, line-more)), set-append-seam, append-snoc, length-append)
+
+      pub line-kept : length (set out n 10) ≡ length old
+      line-kept = length-set out n 10 ∙ line-size
+
+-- fields after fields
+all-commas : (fs gs : List Bytes) → separated 44 (fs ++ gs) ≡ separated 44 fs ++ separated 44 gs
+unfolding separated
+all-commas [] gs = refl
+all-commas (f ∷ fs) gs =
+    ap (λ (l : Bytes). 44 ∷ f ++ l) (all-commas fs gs) ∙ ap (λ (l : Bytes). 44 ∷ l) (sym (append-assoc f (separated 44 fs) (separated 44 gs)))
+
+pub after-numbers : (numbers : List ℕ) (count : ℕ) (gs : List Bytes) → count ≤ length numbers → separated 58 (shown numbers count ++ gs) ≡ separated 58 (shown numbers count) ++ separated (sepAfter count) gs
+unfolding separated shown sepAfter
+after-numbers numbers zero gs h = refl
+after-numbers [] (suc count) gs h = absurd (omega arith)
+after-numbers (x ∷ ns) (suc count) gs h =
+    rw (eqb·suc-zero count)
+    (ap (λ (l : Bytes). 58 ∷ decimal x ++ l) (all-commas (map decimal (take count ns)) gs)
+    ∙ ap (λ (l : Bytes). 58 ∷ l) (sym (append-assoc (decimal x) (separated 44 (map decimal (take count ns))) (separated 44 gs))))

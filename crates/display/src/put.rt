@@ -1,0 +1,145 @@
+// A shape's line measured and written, field by field, each into the rest of the output.
+ghost use mathlib.Core.Path.{_≡_};
+ghost use Prim.Native.Nat.{_+_, _≤_, _<_};
+ghost use mathlib.Core.List.{_∷_};
+ghost use mathlib.Core.Bool.{true};
+ghost use lib.ListN.{length};
+ghost use Rattle.model.specs.Number.{decimal};
+ghost use Rattle.text.specs.Put.{over};
+ghost use Rattle.display.specs.Shape.{separated, shown, lastLen, lastField, inside, sepAfter, headOf, shapeFields, shapeLine};
+use crate::shape::Last;
+use crate::tag;
+use model::Kind;
+
+// Writes a field at the front of out: the byte sep, then the digits of v.
+fn put_number(sep: u8, v: u64, out: &mut [u8]) -> usize
+    requires { ⌜ 1 + length (decimal v) ≤ length (now out) ⌝ }
+    ensures { λ r. ⌜ (r ≡ 1 + length (decimal v)) × (now (out .exit) ≡ over (sep ∷ decimal v) (now (out .entry))) ⌝ }
+{
+    out[0] = sep;
+    let n = text::put_decimal(v, &mut out[1..]);
+    1 + n
+}
+
+// Writes a field at the front of out: the byte sep, then the bytes of s.
+fn put_text(sep: u8, s: &[u8], out: &mut [u8]) -> usize
+    requires { ⌜ 1 + length (now s) ≤ length (now out) ⌝ }
+    ensures { λ r. ⌜ (r ≡ 1 + length (now (s .entry))) × (now (out .exit) ≡ over (sep ∷ now (s .entry)) (now (out .entry))) ⌝ }
+{
+    out[0] = sep;
+    let n = text::put_bytes(s, &mut out[1..]);
+    1 + n
+}
+
+// The length of the first count numbers as fields.
+fn numbers_len(numbers: [u64; 4], count: usize) -> usize
+    requires { ⌜ count ≤ 4 ⌝ }
+    ensures { λ r. ⌜ (r ≡ length (separated 58 (shown numbers count))) × (r ≤ 84) ⌝ }
+{
+    let mut n = 0;
+    let mut i = 0;
+    while i < count {
+        n = n + 1 + text::decimal_len(numbers[i]);
+        i += 1;
+    }
+    n
+}
+
+// Writes the first count numbers as fields at the front of out.
+fn put_numbers(numbers: [u64; 4], count: usize, out: &mut [u8]) -> usize
+    requires { ⌜ (count ≤ 4) × (length (separated 58 (shown numbers count)) ≤ length (now out)) ⌝ }
+    ensures { λ r. ⌜ (r ≡ length (separated 58 (shown numbers count))) × (now (out .exit) ≡ over (separated 58 (shown numbers count)) (now (out .entry))) ⌝ }
+{
+    let mut at = 0;
+    let mut sep = b':';
+    let mut i = 0;
+    while i < count {
+        let n = put_number(sep, numbers[i], &mut out[at..]);
+        at = at + n;
+        sep = b',';
+        i += 1;
+    }
+    at
+}
+
+// Writes the last field at the front of out.
+fn put_last(sep: u8, last: Last, text: &[u8], out: &mut [u8]) -> usize
+    requires { ⌜ (inside (length (now text)) last ≡ true) × (lastLen last ≤ length (now out)) ⌝ }
+    ensures { λ r. ⌜ (r ≡ lastLen last) × (now (out .exit) ≡ over (separated sep (lastField (now (text .entry)) last)) (now (out .entry))) ⌝ }
+{
+    match last {
+        Last::Nothing => 0,
+        Last::Dash => put_text(sep, b"-", out),
+        Last::Text(part) => {
+            let start = part.start;
+            let end = start + part.len;
+            put_text(sep, &text[start..end], out)
+        }
+    }
+}
+
+fn sep_after(count: usize) -> u8
+    ensures { λ r. ⌜ r ≡ sepAfter count ⌝ }
+{
+    if count == 0 {
+        return b':';
+    }
+    b','
+}
+
+// The length of the tag and the numbers.
+pub fn head_len(kind: Kind, numbers: [u64; 4], count: usize) -> usize
+    requires { ⌜ count ≤ 4 ⌝ }
+    ensures { λ r. ⌜ (r ≡ length (headOf kind numbers count)) × (r ≤ 97) ⌝ }
+{
+    tag::tag_len(kind) + numbers_len(numbers, count)
+}
+
+// Writes the tag and the numbers at the front of out.
+fn put_head(kind: Kind, numbers: [u64; 4], count: usize, out: &mut [u8]) -> usize
+    requires { ⌜ (count ≤ 4) × (length (headOf kind numbers count) ≤ length (now out)) ⌝ }
+    ensures { λ r. ⌜ (r ≡ length (headOf kind numbers count)) × (now (out .exit) ≡ over (headOf kind numbers count) (now (out .entry))) ⌝ }
+{
+    let at = tag::put_tag(kind, out);
+    let n = put_numbers(numbers, count, &mut out[at..]);
+    at + n
+}
+
+// Writes all fields of a shape at the front of out.
+fn put_fields(
+    kind: Kind,
+    numbers: [u64; 4],
+    count: usize,
+    last: Last,
+    text: &[u8],
+    out: &mut [u8],
+) -> usize
+    requires { ⌜ (count ≤ 4) × (inside (length (now text)) last ≡ true) ⌝ }
+    requires { ⌜ length (shapeFields (now text) kind numbers count last) ≤ length (now out) ⌝ }
+    ensures { λ r. ⌜ r ≡ length (shapeFields (now (text .entry)) kind numbers count last) ⌝ }
+    ensures { λ _. ⌜ now (out .exit) ≡ over (shapeFields (now (text .entry)) kind numbers count last) (now (out .entry)) ⌝ }
+{
+    let at = put_head(kind, numbers, count, out);
+    let sep = sep_after(count);
+    let n = put_last(sep, last, text, &mut out[at..]);
+    at + n
+}
+
+// Writes the line of a shape at the front of out.
+pub fn put_line(
+    kind: Kind,
+    numbers: [u64; 4],
+    count: usize,
+    last: Last,
+    text: &[u8],
+    out: &mut [u8],
+) -> usize
+    requires { ⌜ (count ≤ 4) × (inside (length (now text)) last ≡ true) ⌝ }
+    requires { ⌜ length (shapeLine (now text) kind numbers count last) ≤ length (now out) ⌝ }
+    ensures { λ r. ⌜ r ≡ length (shapeLine (now (text .entry)) kind numbers count last) ⌝ }
+    ensures { λ _. ⌜ now (out .exit) ≡ over (shapeLine (now (text .entry)) kind numbers count last) (now (out .entry)) ⌝ }
+{
+    let end = put_fields(kind, numbers, count, last, text, out);
+    out[end] = 10;
+    end + 1
+}

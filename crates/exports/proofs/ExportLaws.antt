@@ -1,0 +1,69 @@
+-- What the exported calls promise follows from what the crates below promise. Assumes nothing.
+use Prim.Native.Nat.{ℕ, Ordering}
+use mathlib.Core.Path.{_≡_, sym, ap, _∙_}
+use mathlib.Core.List.{List, [], _∷_, _++_}
+use Rattle.model.specs.declared.LineAnswer.{LineAnswer}
+use Rattle.model.specs.declared.LineAnswer.the-variants as Line
+use Rattle.model.specs.declared.Record.{Record as LentRecord}
+use Rattle.model.specs.declared.Refusal.{Refusal}
+use Rattle.model.specs.declared.WriteAnswer.{WriteAnswer}
+use Rattle.model.specs.Bytes.{Bytes, newline}
+use Rattle.model.specs.Answer.{Answer, refused, _>>=_}
+use Rattle.model.specs.Record.{Record}
+use Rattle.model.specs.Tags.{defaultTag}
+use Rattle.model.specs.Line.{readLine, printRecord}
+use Rattle.model.specs.Output.{written, outputAfter}
+use Rattle.model.specs.Parts.{printLine}
+use Rattle.model.specs.Calls.{lineRead, writeAnswer}
+use Rattle.order.specs.declared.Order.{Order}
+use Rattle.order.specs.Orders.{orderOf}
+use Rattle.exports.specs.Words.{lineWords, lineNumber, writeWords, writeNumber, holding}
+use Rattle.exports.specs.Exports.{ReadLine, printedLine, orderNumber}
+
+pub line-read : (line : Bytes) (slice slice′ : List ℕ) (number : ℕ) (got : LineAnswer) (words : List ℕ) → lineRead line got ≡ readLine defaultTag line
+    → number ≡ lineNumber got → words ≡ lineWords got → slice′ ≡ holding words slice → ReadLine line slice slice′ number
+line-read line slice slice′ number got words is n w e = record { answer = got; is = is; numbered = n; words = rw w at e }
+
+-- ---- a line read and printed
+
+module _ (line : Bytes) (room : ℕ) (got : LineAnswer) (is : lineRead line got ≡ readLine defaultTag line) where
+  -- a line that is refused is not printed
+  module _ (r : Refusal) (e : got ≡ Line.Refused r) where
+    refused-line : printedLine line room ≡ refused r
+    unfolding printedLine lineRead
+    refused-line = rw (← is, e)
+
+    pub refused-number : (n : ℕ) → n ≡ lineNumber got → n ≡ writeNumber (writeAnswer (printedLine line room))
+    unfolding writeAnswer
+    refused-number n h = rw refused-line (rw e at h)
+
+    pub refused-words : (words slice slice′ : List ℕ) → words ≡ lineWords got → slice′ ≡ holding words slice
+        → slice′ ≡ holding (writeWords (writeAnswer (printedLine line room))) slice
+    unfolding writeAnswer
+    refused-words words slice slice′ w h = rw refused-line (rw (w, e) at h)
+
+    pub refused-out : (out : Bytes) → out ≡ outputAfter (printedLine line room) out
+    unfolding outputAfter
+    refused-out out = rw refused-line
+
+  -- one that is read is printed as its record is
+  module _ (lent : LentRecord) (e : got ≡ Line.Read lent) where
+    pub read-line : printLine defaultTag line lent room ≡ printedLine line room
+    unfolding printLine printedLine lineRead
+    read-line = let h : lineRead line (Line.Read lent) ≡ readLine defaultTag line = rw e at is in rw h
+
+    module _ (wrote : WriteAnswer) (w : wrote ≡ writeAnswer (printLine defaultTag line lent room)) where
+      pub read-number : (n : ℕ) → n ≡ writeNumber wrote → n ≡ writeNumber (writeAnswer (printedLine line room))
+      read-number n h = h ∙ ap writeNumber w ∙ ap (λ (a : Answer Bytes). writeNumber (writeAnswer a)) read-line
+
+      pub read-words : (words slice slice′ : List ℕ) → words ≡ writeWords wrote → slice′ ≡ holding words slice
+          → slice′ ≡ holding (writeWords (writeAnswer (printedLine line room))) slice
+      read-words words slice slice′ v h = rw (v, w, read-line) at h
+
+    pub read-out : (old out : Bytes) → out ≡ outputAfter (printLine defaultTag line lent room) old → out ≡ outputAfter (printedLine line room) old
+    read-out old out h = rw read-line at h
+
+-- ---- two paths
+
+pub order-number : (order is : Order) (o : Ordering) (n : ℕ) → orderOf order ≡ o → order ≡ is → n ≡ orderNumber (orderOf is) → n ≡ orderNumber o
+order-number order is o n told e h = h ∙ ap (λ (x : Order). orderNumber (orderOf x)) (sym e) ∙ ap orderNumber told

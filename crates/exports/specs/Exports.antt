@@ -1,0 +1,29 @@
+-- What the exported calls answer and leave in the lent slices, told by the model's definitions. Assumes nothing.
+use Prim.Native.Nat.{ℕ, Ordering, Ordering·lt, Ordering·eq, Ordering·gt}
+use mathlib.Core.Path.{_≡_}
+use mathlib.Core.List.{List, [], _∷_, _++_}
+use Rattle.model.specs.declared.LineAnswer.{LineAnswer}
+use Rattle.model.specs.Bytes.{Bytes, newline}
+use Rattle.model.specs.Answer.{Answer, _>>=_}
+use Rattle.model.specs.Tags.{defaultTag}
+use Rattle.model.specs.Line.{readLine, printRecord}
+use Rattle.model.specs.Output.{written}
+use Rattle.model.specs.Calls.{lineRead}
+use Rattle.exports.specs.Words.{lineWords, lineNumber, holding}
+
+-- a line read: the number and the words of an answer that is the model's. Parts are told by their place, which the answer chooses
+pub record ReadLine (line : Bytes) (slice slice′ : List ℕ) (number : ℕ) : Type 0 where
+  pub answer : LineAnswer
+  pub is : lineRead line answer ≡ readLine defaultTag line
+  pub numbered : number ≡ lineNumber answer
+  pub words : slice′ ≡ holding (lineWords answer) slice
+
+-- a line read, and its record printed with byte 10 after it
+unfoldable pub printedLine : Bytes → ℕ → Answer Bytes
+printedLine line room = readLine defaultTag line >>= λ made. written room (printRecord defaultTag made ++ newline ∷ [])
+
+-- 0 for less, 1 for equal, 2 for greater
+abbrev pub orderNumber : Ordering → ℕ
+orderNumber Ordering·lt = 0
+orderNumber Ordering·eq = 1
+orderNumber Ordering·gt = 2

@@ -1,0 +1,144 @@
+-- Laws of the decimal digits. Assumes nothing.
+use Prim.Native.Nat.{ℕ, zero, suc, _+_, _-_, _*_, _/_, _%_, _^_, _≤_, _<_}
+use mathlib.Core.Path.{_≡_, refl, sym, ap, _∙_, subst}
+use mathlib.Core.List.{List, [], _∷_, _++_, append-assoc, append-nil}
+use native.Mathlib.Omega.{arith}
+use native.Mathlib.Nat.{pow-suc, div-lt-iff-lt-mul, lt-of-lt-of-le}
+use native.Mathlib.Numerals.{add-one}
+use lib.Dec.{lit≤}
+use lib.ListN.{length, take, drop, getD, set, length-append, length-take, length-drop, length-set, take-append-drop}
+use lib.Seq.{set-at, take-suc, append-snoc, length-take-le}
+use borrow.Author.Tests.{lt-ltb, le-ltb, ltb-true, ltb-false}
+use mathlib.Core.Bool.{Bool, true, false, cond}
+use lib.Dec.{ltb}
+use Rattle.model.specs.Bytes.{Bytes}
+use Rattle.model.specs.Number.{decimal, decimalDigits}
+use Rattle.model.proofs.NumberLaws.{decimalDigits-small, decimalDigits-large}
+use Rattle.model.specs.Output.{written, outputAfter}
+use Rattle.text.specs.Put.{putLen, over}
+use Rattle.text.proofs.PutLaws.{short-len, short-out, fits-len, fits-out}
+
+-- the last k digits of n
+unfoldable pub lastDigits : ℕ → ℕ → Bytes
+lastDigits zero n = []
+lastDigits (suc k) n = lastDigits k (n / 10) ++ ((48 + n % 10) ∷ [])
+
+-- how many digits n has, where it has at most k + 1
+unfoldable pub digitCount : ℕ → ℕ → ℕ
+digitCount zero n = 1
+digitCount (suc k) n = cond (ltb n 10) 1 (suc (digitCount k (n / 10)))
+
+one-digit : (n v : ℕ) → v < 10 → decimalDigits (suc n) v ≡ lastDigits 1 v
+unfolding lastDigits
+one-digit n v h = let z : v % 10 ≡ v = omega arith in decimalDigits-small n v h ∙ rw z
+
+-- the model's digits are the last ones, as many as there are
+all-digits : (k v : ℕ) → v < 10 ^ suc k → decimalDigits (suc k) v ≡ lastDigits (digitCount k v) v
+unfolding digitCount lastDigits
+all-digits zero v h = one-digit zero v h
+all-digits (suc k) v h = go (ltb v 10) refl (λ b. all-digits k (v / 10) b)
+  where
+    go : (d : Bool) → ltb v 10 ≡ d → (v / 10 < 10 ^ suc k → decimalDigits (suc k) (v / 10) ≡ lastDigits (digitCount k (v / 10)) (v / 10)) → decimalDigits (suc (suc k)) v ≡ lastDigits (cond d 1 (suc (digitCount k (v / 10)))) v
+    go true e rest = one-digit (suc k) v (ltb-true v 10 e)
+    go false e rest = decimalDigits-large (suc k) v (ltb-false v 10 e) ∙ ap (λ (l : Bytes). l ++ ((48 + v % 10) ∷ [])) (rest (div-lt-iff-lt-mul (lit≤ tt) .1 (rw pow-suc at h)))
+
+decimal-is : (v : ℕ) → v < 2 ^ 64 → decimal v ≡ lastDigits (digitCount 19 v) v
+unfolding decimal
+decimal-is v h = all-digits 19 v (lt-of-lt-of-le h (lit≤ tt))
+
+-- n digits of v are counted, and rest is left, which has at most f + 1
+pub record Counting (v rest n : ℕ) : Type 0 where
+  pub small : v < 2 ^ 64
+  pub f : ℕ
+  pub fuel : n + f ≡ 20
+  pub below : rest < 10 ^ suc f
+  pub count : n + digitCount f rest ≡ suc (digitCount 19 v)
+
+pub count-start : (v : ℕ) → v < 2 ^ 64 → Counting v v 1
+count-start v h = record { small = h; f = 19; fuel = refl; below = lt-of-lt-of-le h (lit≤ tt); count = omega arith }
+
+pub count-more : (v rest n : ℕ) → Counting v rest n → 10 ≤ rest → Counting v (rest / 10) (n + 1)
+unfolding digitCount
+count-more v rest n w h = go (w .f) (w .fuel) (w .below) (w .count)
+  where
+    go : (f : ℕ) → n + f ≡ 20 → rest < 10 ^ suc f → n + digitCount f rest ≡ suc (digitCount 19 v) → Counting v (rest / 10) (n + 1)
+    go zero u b c = absurd (omega arith)
+    go (suc f) u b c =
+        record {
+          small = w .small;
+          f = f;
+          fuel = omega arith;
+          below = div-lt-iff-lt-mul (lit≤ tt) .1 (rw pow-suc at b);
+          count = omega (arith, rw (le-ltb rest 10 h) at c);
+        }
+
+count-all : (v rest n : ℕ) → Counting v rest n → rest < 10 → n ≡ digitCount 19 v
+unfolding digitCount
+count-all v rest n w h = go (w .f) (w .count)
+  where
+    go : (f : ℕ) → n + digitCount f rest ≡ suc (digitCount 19 v) → n ≡ digitCount 19 v
+    go zero c = omega arith
+    go (suc f) c = omega (arith, rw (lt-ltb rest 10 h) at c)
+
+pub length-lastDigits : (k n : ℕ) → length (lastDigits k n) ≡ k
+unfolding lastDigits
+length-lastDigits zero n = refl
+length-lastDigits (suc k) n = simp (length-append, length-lastDigits k (n / 10)) (omega arith)
+
+decimal-length : (v : ℕ) → v < 2 ^ 64 → length (decimal v) ≡ digitCount 19 v
+decimal-length v h = ap length (decimal-is v h) ∙ length-lastDigits (digitCount 19 v) v
+
+pub count-end : (v rest n : ℕ) → Counting v rest n → rest < 10 → n ≡ length (decimal v)
+count-end v rest n w h = count-all v rest n w h ∙ sym (decimal-length v (w .small))
+
+-- the digits of v are written from behind, down to i: those left to write are the i of rest
+pub record Filling (v : ℕ) (old out : Bytes) (rest i : ℕ) : Type 0 where
+  pub done : Bytes
+  pub digits : lastDigits i rest ++ done ≡ decimal v
+  pub held : out ≡ take i old ++ (done ++ drop (length (decimal v)) old)
+  pub room : i ≤ length old
+  pub size : length out ≡ length old
+
+pub fill-start : (v n : ℕ) (old : Bytes) → v < 2 ^ 64 → n ≡ length (decimal v) → n ≤ length old → Filling v old old v n
+fill-start v n old small e h =
+    record {
+      done = [];
+      digits = append-nil (lastDigits n v) ∙ ap (λ (k : ℕ). lastDigits k v) (e ∙ decimal-length v small) ∙ sym (decimal-is v small);
+      held = rw (e, take-append-drop);
+      room = omega arith;
+      size = refl;
+    }
+
+pub fill-more : (v : ℕ) (old out : Bytes) (rest i : ℕ) → Filling v old out rest i → 0 < i → Filling v old (set out (i - 1) (48 + rest % 10)) (rest / 10) (i - 1)
+unfolding lastDigits
+fill-more v old out rest zero w h = absurd (omega arith)
+fill-more v old out rest (suc i) w h =
+    let z : suc i - 1 ≡ i = omega arith in
+    let r : i < length old = w .room in
+    let t : length (take i old) ≡ i = length-take-le i old (omega arith) in
+    record {
+      done = (48 + rest % 10) ∷ w .done;
+      digits = rw (z, ← append-snoc) (w .digits);
+      held = rw (z, w .held, take-suc old i 0 r, append-snoc) (set-at (take i old) _ _ _ i t);
+      room = omega arith;
+      size = simp length-set (w .size);
+    }
+
+fill-end : (v : ℕ) (old out : Bytes) (rest i : ℕ) → Filling v old out rest i → i ≤ 0 → out ≡ over (decimal v) old
+unfolding lastDigits outputAfter
+fill-end v old out rest zero w h = w .held ∙ ap (λ (d : Bytes). d ++ drop (length (decimal v)) old) (w .digits)
+fill-end v old out rest (suc i) w h = absurd (omega arith)
+
+pub fill-out : (v : ℕ) (old out : Bytes) (rest i n : ℕ) → Filling v old out rest i → i ≤ 0 → n ≡ length (decimal v) → n ≤ length old → out ≡ outputAfter (written (length old) (decimal v)) old
+fill-out v old out rest i n w h e k = fits-out (decimal v) old out (omega arith) (fill-end v old out rest i w h)
+
+-- n digits, where the output has room for them or not
+module _ (v n : ℕ) (old : Bytes) (is : n ≡ length (decimal v)) where
+  pub digits-short-len : length old < n → 0 ≡ putLen (written (length old) (decimal v))
+  digits-short-len h = short-len (decimal v) old (omega arith)
+
+  pub digits-short-out : length old < n → old ≡ outputAfter (written (length old) (decimal v)) old
+  digits-short-out h = short-out (decimal v) old (omega arith)
+
+  pub digits-len : n ≤ length old → n ≡ putLen (written (length old) (decimal v))
+  digits-len h = fits-len (decimal v) old n (omega arith) is

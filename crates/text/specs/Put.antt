@@ -1,0 +1,15 @@
+-- What the writing functions of this crate promise, told by the model's definitions. Assumes nothing.
+use Prim.Native.Nat.{ℕ}
+use lib.ListN.{length}
+use Rattle.model.specs.Bytes.{Bytes}
+use Rattle.model.specs.Answer.{Answer, accepted, refused}
+use Rattle.model.specs.Output.{outputAfter}
+
+-- how many bytes an answer puts into the output
+abbrev pub putLen : Answer Bytes → ℕ
+putLen (accepted bytes) = length bytes
+putLen (refused r) = 0
+
+-- an output with s at its front
+abbrev pub over : Bytes → Bytes → Bytes
+over s out = outputAfter (accepted s) out

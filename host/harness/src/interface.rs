@@ -1,0 +1,42 @@
+//! The port's calls on lines and paths, and the meaning of the eight words that they answer with.
+
+/// The calls of the port, in safe form.
+///
+/// A number is 0 for an answer and else document 01's refusal. The eight words are written where the slice holds them all; a shorter
+/// slice stays, and so do words past the eighth.
+pub trait Port {
+    fn read_line(&self, line: &[u8], answer: &mut [u64]) -> u32;
+
+    /// Reads a line and prints its record with byte 10 after it.
+    fn print_line(&self, line: &[u8], out: &mut [u8], answer: &mut [u64]) -> u32;
+
+    /// One of [`LESS`], [`EQUAL`] and [`GREATER`].
+    fn compare_paths(&self, a: &[u8], b: &[u8]) -> u32;
+}
+
+pub const WORDS: usize = 8;
+pub type Words = [u64; WORDS];
+
+// The words of a line that is read. A kind is its place from 1 in `RecordKind`; what a kind does not have is 0.
+pub const KIND: usize = 0;
+pub const FIRST_NUMBER: usize = 1;
+pub const NUMBERS: usize = 4;
+pub const GIVEN: usize = 5;
+pub const START: usize = 6;
+pub const LEN: usize = 7;
+
+// The word of a line that is printed.
+pub const WRITTEN: usize = 0;
+
+// The words of a refusal.
+pub const TEXT: usize = 0;
+pub const LINE: usize = 1;
+pub const FIELD: usize = 2;
+pub const NEEDED: usize = 3;
+
+/// Document 01's refusal of an output that is too short.
+pub const OUTPUT_TOO_SHORT: u32 = 14;
+
+pub const LESS: u32 = 0;
+pub const EQUAL: u32 = 1;
+pub const GREATER: u32 = 2;
