@@ -230,7 +230,7 @@ def main():
     arguments.add_argument("--check", action="store_true")
     arguments = arguments.parse_args()
 
-    subprocess.run(["cargo", "build", "--release", "--offline", "--quiet"], cwd=HOST, check=True)
+    subprocess.run(["cargo", "build", "--release", "--offline", "--quiet", "-p", "oracle"], cwd=HOST, check=True)
     stale = []
     for kind in KINDS:
         pairs = answered(kind)
