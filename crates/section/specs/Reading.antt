@@ -1,0 +1,98 @@
+-- The state between two lines, read back from the words. Assumes nothing.
+use Prim.Native.Nat.{ℕ, _+_, _*_, _≤_, _<_}
+use mathlib.Core.Path.{_≡_}
+use mathlib.Core.Logic.{_⊎_}
+use mathlib.Core.Bool.{Bool, true, false}
+use mathlib.Core.List.{List}
+use lib.ListN.{length}
+use Rattle.store.specs.Places.{Same}
+use Rattle.store.specs.Rows.{row-words}
+use Rattle.store.specs.Store.{row, Store}
+use Rattle.model.specs.declared.Part.{Part}
+use Rattle.model.specs.Bytes.{Bytes}
+use Rattle.model.specs.Answer.{Answer, accepted, _>>=_, refuse}
+use Rattle.model.specs.Report.{within}
+use Rattle.model.specs.Reading.{State as ModelState, entries}
+use Rattle.items.specs.Items.{partIn, PartInside}
+use Rattle.items.specs.Open.{itemsAt, Open}
+use Rattle.section.specs.declared.State.{State}
+use Rattle.section.specs.declared.Step.{Step}
+use Rattle.section.specs.declared.Step.the-variants.{Next, Refused}
+use Rattle.section.specs.Sections.{entriesAt, Sections}
+
+-- ---- the words
+
+-- the words for `limit` rows, their index, and as many spare words behind it
+pub record Room (ws : List ℕ) (index limit : ℕ) : Type 0 where
+  pub rows : limit * row-words ≤ index
+  pub words : index + limit + limit ≤ length ws
+
+-- there is a row at the place, or no more may be had
+pub record Ready (ws ws′ : List ℕ) (index used limit place r : ℕ) : Type 0 where
+  pub store : Store ws′ index r
+  pub more : used ≤ r
+  pub most : r ≤ limit
+  pub rows : Same (row ws index) (row ws′ index) 0 used
+  pub free : (place < r) ⊎ (r ≡ limit)
+
+-- ---- states
+
+abbrev pub insideOf : State → ℕ → ℕ → Part → State
+insideOf st used items path = record { kept = st .kept; used = used; items = items; inside = true; test = st .test; path = path }
+
+abbrev pub outsideOf : ℕ → ℕ → Part → State
+outsideOf kept used test = record { kept = kept; used = used; items = 0; inside = false; test = test; path = record { start = 0; len = 0 } }
+
+-- the model's state that the words are
+abbrev pub stateOf : Bytes → List ℕ → ℕ → State → ModelState
+stateOf text ws index st = record {
+  kept = entriesAt text ws index (st .kept);
+  test = partIn text (st .test);
+  inside = st .inside;
+  path = partIn text (st .path);
+  items = itemsAt text ws index (st .kept + 1) (st .items);
+}
+
+-- inside, the section's own row has a place; outside, nothing is open
+abbrev pub Opened : Bool → State → Type 0
+Opened true st = st .kept < st .used
+Opened false st = st .items ≡ 0
+
+-- the words have room for the state
+pub record Space (ws : List ℕ) (index limit : ℕ) (st : State) : Type 0 where
+  pub room : Room ws index limit
+  pub store : Store ws index (st .used)
+  pub kept : st .kept ≤ st .used
+  pub most : st .used ≤ limit
+
+-- the words hold the state
+pub record Valid (text ws : List ℕ) (index limit : ℕ) (st : State) : Type 0 where
+  pub space : Space ws index limit st
+  pub sections : Sections text ws index (st .used) (st .kept)
+  pub open-items : st .kept < st .used → Open text ws index (st .used) (st .kept + 1) (st .items)
+  pub opened : Opened (st .inside) st
+  pub test : PartInside text (st .test)
+  pub path : PartInside text (st .path)
+
+-- ---- steps
+
+-- after the effect the entries are counted
+abbrev pub counted : ℕ → Answer ModelState → Answer ModelState
+counted limit answer = answer >>= λ next. within limit (entries next) next
+
+abbrev pub seenStep : Bytes → List ℕ → ℕ → Step → Answer ModelState
+seenStep text ws index (Next st) = accepted (stateOf text ws index st)
+seenStep text ws index (Refused fault) = refuse fault
+
+abbrev pub ValidStep : Bytes → List ℕ → ℕ → ℕ → Step → Type 0
+ValidStep text ws index limit (Next st) = Valid text ws index limit st
+ValidStep text ws index limit (Refused fault) = Unit {0}
+
+-- the step's answer is the model's, and its state is fit for the next line
+pub record StepOf (text ws′ : List ℕ) (index limit : ℕ) (answer : Answer ModelState) (r : Step) : Type 0 where
+  pub is : seenStep text ws′ index r ≡ answer
+  pub valid : ValidStep text ws′ index limit r
+
+-- the step is an effect on the state that the words ws hold, and the words ws′ hold what comes of it
+abbrev pub StepBy : (ModelState → Answer ModelState) → List ℕ → List ℕ → List ℕ → ℕ → ℕ → State → Step → Type 0
+StepBy effect text ws ws′ index limit st r = StepOf text ws′ index limit (counted limit (effect (stateOf text ws index st))) r

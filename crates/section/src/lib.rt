@@ -1,0 +1,176 @@
+// One text read section by section (document 01, "Sections"): the state between two lines, and what a record does to it. Each step
+// answers the model's next state, read back from the words, or the fault; entries are counted after the record took effect.
+pub mod closing;
+
+use model::Fault;
+use model::Part;
+use store::Row;
+ghost use mathlib.Core.Path.{_≡_};
+ghost use mathlib.Core.List.{List, []};
+ghost use Prim.Native.Nat.{ℕ, _≤_};
+ghost use Rattle.model.specs.Record.{testName, sourceFile, endOfRecord};
+ghost use Rattle.model.specs.Reading.{outside, enterItem, effect};
+ghost use Rattle.store.specs.Store.{Store};
+ghost use Rattle.items.specs.Items.{partIn, PartInside, itemOf, Inner};
+ghost use Rattle.items.specs.Entering.{Adds, combineOf};
+ghost use Rattle.section.specs.Reading.{Room, Ready, insideOf, outsideOf, stateOf, Space, Valid, StepBy};
+
+// How many entries are kept, how many rows are in use, and how many items the open section has; the last test name and path.
+pub struct State {
+    pub kept: usize,
+    pub used: usize,
+    pub items: usize,
+    pub inside: bool,
+    pub test: Part,
+    pub path: Part,
+}
+
+pub enum Step {
+    Next(State),
+    Refused(Fault),
+}
+
+// A section is open.
+fn inside(state: State, used: usize, items: usize, path: Part) -> State
+    ensures { λ r. ⌜ r ≡ insideOf state used items path ⌝ }
+{
+    let test = state.test;
+    State {
+        kept: state.kept,
+        used: used,
+        items: items,
+        inside: true,
+        test: test,
+        path: path,
+    }
+}
+
+// No section is open.
+fn outside(kept: usize, used: usize, test: Part) -> State
+    ensures { λ r. ⌜ r ≡ outsideOf kept used test ⌝ }
+{
+    let none = Part { start: 0, len: 0 };
+    State {
+        kept: kept,
+        used: used,
+        items: 0,
+        inside: false,
+        test: test,
+        path: none,
+    }
+}
+
+// Before the first line.
+pub fn start() -> State
+    ensures valid { λ r. ⌜ ((text words : List ℕ) (index limit : ℕ) → Room words index limit → Valid text words index limit r) ⌝ }
+    ensures state { λ r. ⌜ ((text words : List ℕ) (index : ℕ) → stateOf text words index r ≡ outside [] []) ⌝ }
+{
+    let none = Part { start: 0, len: 0 };
+    outside(0, 0, none)
+}
+
+// One row more, if all are in use up to `place` and the limit allows it. Answers the number of rows in use.
+fn ready(words: &mut [u64], index: usize, used: usize, limit: usize, place: usize) -> usize
+    requires { ⌜ Store (now words) index used × Room (now words) index limit × (used ≤ limit) × (place ≤ used) ⌝ }
+    ensures { λ r. ⌜ Ready (now (words .entry)) (now (words .exit)) index used limit place r ⌝ }
+{
+    if place < used {
+        return used;
+    }
+    if used < limit {
+        store::grow(words, index, used);
+        return used + 1;
+    }
+    used
+}
+
+// FN, FNDA, BRDA and DA: the row is entered into the open section, which it opens if none is.
+pub fn enter_line(
+    text: &[u8],
+    words: &mut [u64],
+    index: usize,
+    limit: usize,
+    state: State,
+    row: Row,
+    adds: bool,
+) -> Step
+    requires { ⌜ Valid (now text) (now words) index limit state × Inner (now text) row × Adds adds row ⌝ }
+    ensures { λ r. ⌜ StepBy (enterItem (combineOf adds) (itemOf (now (text .entry)) row)) (now (text .entry)) (now (words .entry)) (now (words .exit)) index limit state r ⌝ }
+{
+    let kept = state.kept;
+    let n = state.items;
+    let path = state.path;
+    let own = ready(words, index, state.used, limit, kept);
+    if own <= kept {
+        return Step::Refused(Fault::TooManyEntries);
+    }
+    let used = ready(words, index, own, limit, kept + 1 + n);
+    match items::enter(text, words, index, used, kept + 1, n, row, adds) {
+        items::Entered::Items(m) => {
+            return Step::Next(inside(state, used, m, path));
+        }
+        items::Entered::Refused(fault) => {
+            return Step::Refused(fault);
+        }
+    }
+}
+
+// TN: the name of the next section.
+pub fn test_line(state: State, name: Part) -> Step
+    ensures { λ r. ⌜ ((text words : List ℕ) (index limit : ℕ) → Valid text words index limit state → PartInside text name → StepBy (effect (testName (partIn text name))) text words words index limit state r) ⌝ }
+{
+    let inside = state.inside;
+    if inside {
+        return Step::Refused(Fault::UnexpectedRecord);
+    }
+    Step::Next(outside(state.kept, state.used, name))
+}
+
+// SF, and the found and hit lines, which open the section and keep its path.
+pub fn open_line(words: &mut [u64], index: usize, limit: usize, state: State, path: Part) -> Step
+    requires { ⌜ Space (now words) index limit state ⌝ }
+    ensures { λ r. ⌜ ((text : List ℕ) → Valid text (now (words .entry)) index limit state → PartInside text path → StepBy (effect (sourceFile (partIn text path))) text (now (words .entry)) (now (words .exit)) index limit state r) ⌝ }
+{
+    let kept = state.kept;
+    let used = ready(words, index, state.used, limit, kept);
+    if used <= kept {
+        return Step::Refused(Fault::TooManyEntries);
+    }
+    Step::Next(inside(state, used, state.items, path))
+}
+
+// end_of_record: the open section is kept, unless nothing is in it.
+pub fn end_line(text: &[u8], words: &mut [u64], index: usize, limit: usize, state: State) -> Step
+    requires { ⌜ Valid (now text) (now words) index limit state ⌝ }
+    ensures { λ r. ⌜ StepBy (effect endOfRecord) (now (text .entry)) (now (words .entry)) (now (words .exit)) index limit state r ⌝ }
+{
+    let none = Part { start: 0, len: 0 };
+    let n = state.items;
+    if n == 0 {
+        return Step::Next(outside(state.kept, state.used, none));
+    }
+    let test = state.test;
+    let path = state.path;
+    let key = Row {
+        test: test.start as u64,
+        test_len: test.len as u64,
+        path: path.start as u64,
+        path_len: path.len as u64,
+        tag: 0,
+        k1: 0,
+        k2: 0,
+        k3: 0,
+        count: 0,
+    };
+    let kept = closing::close(
+        text,
+        words,
+        index,
+        state.used,
+        index + limit,
+        state.kept,
+        n,
+        key,
+    );
+    Step::Next(outside(kept, state.used, none))
+}

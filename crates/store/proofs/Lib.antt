@@ -1,0 +1,5 @@
+pub mod PlaceLaws
+pub mod ListedLaws
+pub mod WordLaws
+pub mod StoreLaws
+pub mod Halving

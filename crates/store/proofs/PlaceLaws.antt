@@ -1,0 +1,103 @@
+-- Laws of what is said place by place: cases on places, blocks that are brought, and three blocks that are turned. Assumes nothing.
+use mathlib.Core.Path.{_≡_, refl, sym, _∙_}
+use mathlib.Core.Logic.{_≢_}
+use Prim.Native.Nat.{ℕ, _+_, _-_, _≤_, _<_}
+use native.Mathlib.Decide.{ℕ-discrete, decLt}
+use native.Mathlib.Omega.{arith}
+use Rattle.store.specs.Places.{Brought, Turned}
+use Rattle.store.specs.Store.{Index}
+
+pub by-eq : {C : Type 0} (a b : ℕ) → (a ≡ b → C) → (a ≢ b → C) → C
+by-eq a b f g = elim (ℕ-discrete a b) [ yes e ↦ f e | no n ↦ g n ]
+
+pub by-lt : {C : Type 0} (a b : ℕ) → (a < b → C) → (b ≤ a → C) → C
+by-lt a b f g = elim (decLt a b) [ yes e ↦ f e | no n ↦ g (omega arith) ]
+
+-- ---- a block that is brought
+
+-- nothing comes past nothing
+pub brought-none : {A : Type 0} {f : ℕ → A} {used to from n : ℕ} → to ≡ from → Brought f f used to from n
+brought-none {A} {f} {used} {to} {from} {n} e = record {
+  below = λ k l h. refl;
+  there = λ k m l h q. let z : k ≡ m = omega arith in rw z;
+  up = λ k m l h q. absurd (omega arith);
+  above = λ k l h. refl;
+}
+
+-- what is brought by one reading of the places is brought by another that goes with it
+pub brought-along : {A B : Type 0} {f g : ℕ → A} (f′ g′ : ℕ → B) {used to from n : ℕ} → to ≤ from → from + n ≤ used
+    → ((k m : ℕ) → m < used → g k ≡ f m → g′ k ≡ f′ m) → Brought f g used to from n → Brought f′ g′ used to from n
+brought-along f′ g′ l h along β = record {
+  below = λ k p q. along k k (omega arith) (β .below k p q);
+  there = λ k m p q e. along k m (omega arith) (β .there k m p q e);
+  up = λ k m p q e. along k m (omega arith) (β .up k m p q e);
+  above = λ k p q. along k k q (β .above k p q);
+}
+
+-- the place k has what the place m had
+data Source (to from n k m : ℕ) : Type 0 where
+  under : k < to → m ≡ k → Source to from n k m
+  there : to ≤ k → k < to + n → m + to ≡ from + k → Source to from n k m
+  between : to + n ≤ k → k < from + n → m + n ≡ k → Source to from n k m
+  over : from + n ≤ k → m ≡ k → Source to from n k m
+
+-- no two places have what one had
+source-once : {to from n k j m : ℕ} → to ≤ from → Source to from n k m → Source to from n j m → k ≡ j
+source-once h (under a e) (under b f) = omega arith
+source-once h (under a e) (there b d f) = omega arith
+source-once h (under a e) (between b d f) = omega arith
+source-once h (under a e) (over b f) = omega arith
+source-once h (there a c e) (under b f) = omega arith
+source-once h (there a c e) (there b d f) = omega arith
+source-once h (there a c e) (between b d f) = omega arith
+source-once h (there a c e) (over b f) = omega arith
+source-once h (between a c e) (under b f) = omega arith
+source-once h (between a c e) (there b d f) = omega arith
+source-once h (between a c e) (between b d f) = omega arith
+source-once h (between a c e) (over b f) = omega arith
+source-once h (over a e) (under b f) = omega arith
+source-once h (over a e) (there b d f) = omega arith
+source-once h (over a e) (between b d f) = omega arith
+source-once h (over a e) (over b f) = omega arith
+
+-- numbers of which a block is brought are an index still
+pub brought-index : {f g : ℕ → ℕ} {used to from n : ℕ} → to ≤ from → from + n ≤ used → Brought f g used to from n → Index f used → Index g used
+brought-index {f} {g} {used} {to} {from} {n} l h β ι = record {
+  below = λ k p. below k (source k p);
+  once = λ k j p q e. once k j (source k p) (source j q) e;
+}
+  where
+    From : ℕ → Type 0
+    From k = (m : ℕ) × (m < used) × Source to from n k m × (g k ≡ f m)
+
+    source : (k : ℕ) → k < used → From k
+    source k p = by-lt k to
+        (λ a. (k, p, under a refl, β .below k (omega arith) a))
+        (λ a. by-lt k (to + n)
+        (λ b. (from + (k - to), omega arith, there a b (omega arith), β .there k (from + (k - to)) a b (omega arith)))
+        (λ b. by-lt k (from + n)
+        (λ c. (k - n, omega arith, between b c (omega arith), β .up k (k - n) b (omega arith) (omega arith)))
+        (λ c. (k, p, over c refl, β .above k c p))))
+
+    below : (k : ℕ) → From k → g k < used
+    below k (m, p, s, e) = rw e (ι .below m p)
+
+    once : (k j : ℕ) → From k → From j → g k ≡ g j → k ≡ j
+    once k j (m, p, s, e) (m′, p′, s′, e′) x =
+        let y : m ≡ m′ = ι .once m m′ p p′ (sym e ∙ x ∙ e′) in
+        source-once l (rw y at s) s′
+
+-- ---- three blocks that are turned
+
+-- the last block comes to the front, and then the second before the first
+pub turned : {A : Type 0} {f g h : ℕ → A} {used lo hi mid end : ℕ} → lo ≤ hi → hi ≤ mid → mid ≤ end → end ≤ used
+    → Brought f g used lo mid (end - mid) → Brought g h used (lo + (end - mid)) (hi + (end - mid)) (mid - hi) → Turned f h used lo hi mid end
+turned {lo = lo} {hi = hi} {mid = mid} {end = end} a b c d β γ =
+    let t = end - mid in
+    record {
+      below = λ k p q. γ .below k p (omega arith) ∙ β .below k p q;
+      third = λ k m p q e. γ .below k (omega arith) (omega arith) ∙ β .there k m p q e;
+      second = λ k m p q e. γ .there k (m + t) p q (omega arith) ∙ β .up (m + t) m (omega arith) (omega arith) (omega arith);
+      first = λ k m p q e. γ .up k (m + t) (omega arith) (omega arith) (omega arith) ∙ β .up (m + t) m (omega arith) (omega arith) (omega arith);
+      above = λ k p q. γ .above k (omega arith) q ∙ β .above k (omega arith) q;
+    }

@@ -1,0 +1,167 @@
+-- Laws of rows in the order of an index: what a step does to the words is what its contract says of the rows. Assumes nothing.
+use mathlib.Core.Path.{_≡_, refl, sym, ap, _∙_}
+use mathlib.Core.Logic.{_≢_}
+use mathlib.Core.List.{List}
+use Prim.Native.Nat.{ℕ, _+_, _*_, _-_, _≤_, _<_}
+use native.Mathlib.Omega.{arith}
+use lib.ListN.{length, set, length-set}
+use lib.Seq.{getD-set-same, getD-set-other}
+use Rattle.store.specs.declared.Row.{Row}
+use Rattle.store.specs.Places.{Same, Shifted, Put, Brought}
+use Rattle.store.specs.Rows.{row-words, word, rowAt, Kept, Moved, Written}
+use Rattle.store.specs.Store.{number, Store, row}
+use Rattle.store.proofs.PlaceLaws.{by-eq, brought-along, brought-index}
+use Rattle.store.proofs.WordLaws.{same-row, other-row}
+
+-- the index's words are written, the rows are not: a place that has the number of another has its row
+renumbered : {ws ws′ : List ℕ} {index used lo hi : ℕ} → Store ws index used → Kept ws ws′ lo hi → index ≤ lo
+    → (k m : ℕ) → m < used → number ws′ index k ≡ number ws index m → row ws′ index k ≡ row ws index m
+unfolding row
+renumbered {ws} {ws′} {index} σ κ h k m l e = ap (rowAt ws′) e ∙ same-row κ (number ws index m) (omega (arith, σ .numbers .below m l, σ .rows-end))
+
+-- ---- one more number at the end
+
+module _ {ws : List ℕ} (index used : ℕ) (σ : Store ws index used) (h : (used + 1) * row-words ≤ index) (l : index + used < length ws) where
+  last : number (set ws (index + used) used) index used ≡ used
+  last = getD-set-same ws (index + used) used 0 l
+
+  older : (k : ℕ) → k < used → number (set ws (index + used) used) index k ≡ number ws index k
+  older k p = getD-set-other ws (index + used) (index + k) used 0 (omega arith)
+
+  -- an older number is not the new one
+  apart : (k j : ℕ) → k < used → j ≡ used → number (set ws (index + used) used) index k ≢ number (set ws (index + used) used) index j
+  apart k j p e f =
+      let g : number ws index k ≡ used = sym (older k p) ∙ f ∙ ap (number (set ws (index + used) used) index) e ∙ last in
+      omega (arith, σ .numbers .below k p)
+
+  pub grown : Store (set ws (index + used) used) index (used + 1)
+  grown = record {
+    rows-end = h;
+    index-end = simp length-set (omega arith);
+    numbers = record {
+      below = λ k p. by-eq k used (λ e. rw (e, last) (omega arith)) (λ n. rw (older k (omega arith)) (omega (arith, σ .numbers .below k (omega arith))));
+      once = λ k j p q e. by-eq k used
+          (λ x. by-eq j used (λ y. omega arith) (λ y. absurd (apart j k (omega arith) x (sym e))))
+          (λ x. by-eq j used (λ y. absurd (apart k j (omega arith) y e))
+          (λ y. σ .numbers .once k j (omega arith) (omega arith) (sym (older k (omega arith)) ∙ e ∙ older j (omega arith))));
+    };
+  }
+
+  pub grown-rows : Same (row ws index) (row (set ws (index + used) used) index) 0 used
+  grown-rows k p q = renumbered σ kept (omega arith) k k q (older k q)
+    where
+      kept : Kept ws (set ws (index + used) used) (index + used) (index + used + 1)
+      kept = record { below = λ j i. getD-set-other ws (index + used) j used 0 (omega arith); above = λ j i. getD-set-other ws (index + used) j used 0 (omega arith) }
+
+-- ---- a row is written, and the numbers stay
+
+-- rows are written below the index
+pub same-numbers : {ws ws′ : List ℕ} {index used : ℕ} → Store ws index used → length ws′ ≡ length ws → ((k : ℕ) → number ws′ index k ≡ number ws index k) → Store ws′ index used
+same-numbers σ e same = record {
+  rows-end = σ .rows-end;
+  index-end = omega (arith, σ .index-end);
+  numbers = record {
+    below = λ k p. rw (same k) (σ .numbers .below k p);
+    once = λ k m p q x. σ .numbers .once k m p q (sym (same k) ∙ x ∙ same m);
+  };
+}
+
+pub written-numbers : {ws ws′ : List ℕ} {index j : ℕ} {r : Row} → Written ws ws′ j r → j * row-words + row-words ≤ index → (k : ℕ) → number ws′ index k ≡ number ws index k
+written-numbers {index = index} w h k = w .kept .above (index + k) (omega arith)
+
+module _ {ws ws′ : List ℕ} {index used i : ℕ} {r : Row} (σ : Store ws index used) (l : i < used) (w : Written ws ws′ (number ws index i) r) where
+  same : (k : ℕ) → number ws′ index k ≡ number ws index k
+  same = written-numbers w (omega (arith, σ .numbers .below i l, σ .rows-end))
+
+  pub put-store : length ws′ ≡ length ws → Store ws′ index used
+  put-store e = same-numbers σ e same
+
+  pub put-row : Put (row ws index) (row ws′ index) used i r
+  unfolding row
+  put-row = record {
+    there = ap (rowAt ws′) (same i) ∙ w .there;
+    others = λ k p n. ap (rowAt ws′) (same k) ∙ other-row w (number ws index k) (λ x. n (σ .numbers .once k i p l x));
+  }
+
+-- ---- a block of the index is brought
+
+module _ {ws ws′ : List ℕ} {index used to from n : ℕ} (σ : Store ws index used) (h : to ≤ from) (l : from + n ≤ used)
+    (β : Brought (number ws index) (number ws′ index) used to from n) where
+  pub brought-store : length ws′ ≡ length ws → Store ws′ index used
+  brought-store e = record {
+    rows-end = σ .rows-end;
+    index-end = omega (arith, σ .index-end);
+    numbers = brought-index h l β (σ .numbers);
+  }
+
+  pub brought-rows : {hi : ℕ} → Kept ws ws′ index hi → Brought (row ws index) (row ws′ index) used to from n
+  brought-rows κ = brought-along (row ws index) (row ws′ index) h l (renumbered σ κ (omega arith)) β
+
+-- one number is taken out, those between go up, and it is put in front
+module _ {ws ws₁ : List ℕ} (index to from : ℕ) (h : to ≤ from) (l : index + from < length ws) (e : length ws₁ ≡ length ws)
+    (μ : Moved ws ws₁ (index + to) (index + to + 1) (from - to)) where
+  abbrev moved : List ℕ
+  moved = set ws₁ (index + to) (word ws (index + from))
+
+  pub one-kept : Kept ws moved index (index + from + 1)
+  one-kept = record {
+    below = λ j p. getD-set-other ws₁ (index + to) j (word ws (index + from)) 0 (omega arith) ∙ μ .kept .below j (omega arith);
+    above = λ j p. getD-set-other ws₁ (index + to) j (word ws (index + from)) 0 (omega arith) ∙ μ .kept .above j (omega arith);
+  }
+
+  pub one-brought : (used : ℕ) → Brought (number ws index) (number moved index) used to from 1
+  one-brought used = record {
+    below = λ k p q. getD-set-other ws₁ (index + to) (index + k) (word ws (index + from)) 0 (omega arith) ∙ μ .kept .below (index + k) (omega arith);
+    there = λ k m p q x.
+        let y : m ≡ from = omega arith in
+        let z : k ≡ to = omega arith in
+        rw (y, z) (getD-set-same ws₁ (index + to) (word ws (index + from)) 0 (omega arith));
+    up = λ k m p q x. getD-set-other ws₁ (index + to) (index + k) (word ws (index + from)) 0 (omega arith) ∙ μ .shifted (index + k) (index + m) (omega arith) (omega arith) (omega arith);
+    above = λ k p q. getD-set-other ws₁ (index + to) (index + k) (word ws (index + from)) 0 (omega arith) ∙ μ .kept .above (index + k) (omega arith);
+  }
+
+-- n numbers are taken out to the spare words, those between go up, and they are put in front
+module _ {ws ws₁ ws₂ ws₃ : List ℕ} (index used to from : ℕ) {n spare : ℕ} (h : to ≤ from) (l : from + n ≤ used) (s : index + used ≤ spare)
+    (μ₁ : Moved ws ws₁ (index + from) spare n) (μ₂ : Moved ws₁ ws₂ (index + to) (index + to + n) (from - to)) (μ₃ : Moved ws₂ ws₃ spare (index + to) n) where
+  pub block-kept : Kept ws ws₃ index (spare + n)
+  block-kept = record {
+    below = λ j p. μ₃ .kept .below j (omega arith) ∙ μ₂ .kept .below j (omega arith) ∙ μ₁ .kept .below j (omega arith);
+    above = λ j p. μ₃ .kept .above j (omega arith) ∙ μ₂ .kept .above j (omega arith) ∙ μ₁ .kept .above j (omega arith);
+  }
+
+  pub block-brought : Brought (number ws index) (number ws₃ index) used to from n
+  block-brought = record {
+    below = λ k p q. μ₃ .kept .below (index + k) (omega arith) ∙ μ₂ .kept .below (index + k) (omega arith) ∙ μ₁ .kept .below (index + k) (omega arith);
+    there = λ k m p q e.
+        let j = spare + (k - to) in
+        μ₃ .shifted (index + k) j (omega arith) (omega arith) (omega arith) ∙ μ₂ .kept .above j (omega arith) ∙ μ₁ .shifted j (index + m) (omega arith) (omega arith) (omega arith);
+    up = λ k m p q e. μ₃ .kept .above (index + k) (omega arith) ∙ μ₂ .shifted (index + k) (index + m) (omega arith) (omega arith) (omega arith) ∙ μ₁ .kept .below (index + m) (omega arith);
+    above = λ k p q. μ₃ .kept .above (index + k) (omega arith) ∙ μ₂ .kept .above (index + k) (omega arith) ∙ μ₁ .kept .below (index + k) (omega arith);
+  }
+
+-- ---- rows laid out in order
+
+-- the first i rows are laid out
+pub record Laid (ws₀ ws : List ℕ) (index used to i : ℕ) : Type 0 where
+  pub store : Store ws index used
+  pub table : Shifted (row ws₀ index) (rowAt ws) 0 to i
+  pub rows : Same (row ws₀ index) (row ws index) 0 used
+
+pub laid-none : {ws : List ℕ} {index used : ℕ} (to : ℕ) → Store ws index used → Laid ws ws index used to 0
+laid-none to σ = record { store = σ; table = λ k m l h e. absurd (omega arith); rows = λ k l h. refl }
+
+pub laid-one : {ws₀ ws ws′ : List ℕ} {index used to i : ℕ} {r : Row} → Laid ws₀ ws index used to i → i < used → used ≤ to → (to + i) * row-words + row-words ≤ index
+    → length ws′ ≡ length ws → r ≡ row ws index i → Written ws ws′ (to + i) r → Laid ws₀ ws′ index used to (i + 1)
+unfolding row
+laid-one {ws₀} {ws} {ws′} {index} {used} {to} {i} ξ l h room len e w =
+    let same = written-numbers w room in
+    record {
+      store = same-numbers (ξ .store) len same;
+      table = λ k m p q x. by-eq k (to + i)
+          (λ y. let z : m ≡ i = omega arith in rw (y, z) (w .there ∙ e ∙ ξ .rows i (omega arith) l))
+          (λ y. other-row w k y ∙ ξ .table k m p (omega arith) x);
+      rows = λ k p q. ap (rowAt ws′) (same k) ∙ other-row w (number ws index k) (omega (arith, ξ .store .numbers .below k q)) ∙ ξ .rows k p q;
+    }
+
+pub laid-done : {ws₀ ws : List ℕ} {index used to i n : ℕ} → Laid ws₀ ws index used to i → i ≡ n → Laid ws₀ ws index used to n
+laid-done ξ e = rw e at ξ

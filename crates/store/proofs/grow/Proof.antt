@@ -1,0 +1,15 @@
+-- `store::grow` meets its contract. Assumes nothing.
+use borrow.Author.Needs.{needs}
+use Rattle.store.proofs.StoreLaws.{grown, grown-rows}
+use Rattle.store.proofs.grow.Statement.{statement}
+use Rattle.store.proofs.grow.Tie as tie
+
+pub grow-spec : {M : Type 1} → statement M
+grow-spec =
+    tie.close
+    (tie.spec
+    (λ c. search needs)
+    (λ c. search needs)
+    (λ c. search needs)
+    (λ c. search needs)
+    (λ c. (grown _ _ (c .pre .0) (c .pre .1) (c .pre .2), grown-rows _ _ (c .pre .0) (c .pre .1) (c .pre .2))))

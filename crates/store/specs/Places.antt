@@ -1,0 +1,46 @@
+-- What is said place by place: f is what each place had, g what it has. Places hold words, row numbers or rows. Assumes nothing.
+use Prim.Native.Nat.{ℕ, zero, suc, _+_, _-_, _≤_, _<_}
+use mathlib.Core.Path.{_≡_}
+use mathlib.Core.Logic.{_≢_}
+use mathlib.Core.Bool.{Bool, true, false}
+use mathlib.Core.List.{List, [], _∷_}
+
+-- f 0, f 1 and so on, n of them
+unfoldable pub listed : {A : Type 0} → (ℕ → A) → ℕ → List A
+listed f zero = []
+listed f (suc n) = f 0 ∷ listed (λ i. f (suc i)) n
+
+-- of the n places, a test holds at the first r and at no other
+pub record Cut (test : ℕ → Bool) (n r : ℕ) : Type 0 where
+  pub most : r ≤ n
+  pub past : (k : ℕ) → k < r → test k ≡ true
+  pub rest : (k : ℕ) → r ≤ k → k < n → test k ≡ false
+
+module _ {A : Type 0} (f g : ℕ → A) where
+  -- nothing changed from lo up to, not including, hi
+  abbrev pub Same : ℕ → ℕ → Type 0
+  Same lo hi = (k : ℕ) → lo ≤ k → k < hi → g k ≡ f k
+
+  -- the n places from to on have what those from from on had
+  abbrev pub Shifted : ℕ → ℕ → ℕ → Type 0
+  Shifted from to n = (k m : ℕ) → to ≤ k → k < to + n → m + to ≡ from + k → g k ≡ f m
+
+  -- x stands at place i; the others below used are as they were
+  pub record Put (used i : ℕ) (x : A) : Type 0 where
+    pub there : g i ≡ x
+    pub others : (k : ℕ) → k < used → k ≢ i → g k ≡ f k
+
+  -- the n at from have come to to, and those between have gone up by n
+  pub record Brought (used to from n : ℕ) : Type 0 where
+    pub below : Same 0 to
+    pub there : Shifted from to n
+    pub up : Shifted to (to + n) (from - to)
+    pub above : Same (from + n) used
+
+  -- the blocks from lo, from hi and from mid, up to end, have changed places: the last is first, and the first last
+  pub record Turned (used lo hi mid end : ℕ) : Type 0 where
+    pub below : Same 0 lo
+    pub third : Shifted mid lo (end - mid)
+    pub second : Shifted hi (lo + (end - mid)) (mid - hi)
+    pub first : Shifted lo (lo + (end - hi)) (hi - lo)
+    pub above : Same end used
