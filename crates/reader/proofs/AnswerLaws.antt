@@ -1,0 +1,35 @@
+-- Answers by the case that was met. Assumes nothing.
+use Prim.Native.Nat.{ℕ}
+use mathlib.Core.Path.{_≡_}
+use mathlib.Core.Bool.{true, false}
+use Rattle.model.specs.declared.Fault.{Fault}
+use Rattle.model.specs.declared.Fault.the-variants.{UnknownRecord, UnexpectedEof}
+use Rattle.model.specs.declared.Record.{Record}
+use Rattle.model.specs.declared.Refusal.{Refusal}
+use Rattle.model.specs.declared.LineAnswer.{LineAnswer}
+use Rattle.model.specs.declared.LineAnswer.the-variants as A
+use Rattle.section.specs.declared.State.{State}
+use Rattle.section.specs.declared.Step.{Step}
+use Rattle.section.specs.declared.Step.the-variants as S
+use Rattle.reader.specs.declared.LineStep.the-variants as L
+use Rattle.reader.specs.declared.TextAnswer.the-variants as T
+use Rattle.reader.specs.Reader.{atLine, faultAt, refusedLine, refusedStep, endedText}
+
+module _ (number : ℕ) (r : Refusal) where
+  pub line-is-refused : (got : LineAnswer) (q : Refusal) → got ≡ A.Refused q → r ≡ atLine number q → L.Refused r ≡ refusedLine number got
+  line-is-refused got q e h = rw (e, h)
+
+  pub line-is-read : (got : LineAnswer) (made : Record) → got ≡ A.Read made → r ≡ faultAt number UnknownRecord → L.Refused r ≡ refusedLine number got
+  line-is-read got made e h = rw (e, h)
+
+  pub step-is-refused : (done : Step) (fault : Fault) → done ≡ S.Refused fault → r ≡ faultAt number fault → L.Refused r ≡ refusedStep number done
+  step-is-refused done fault e h = rw (e, h)
+
+  pub step-is-next : (done : Step) (st : State) → done ≡ S.Next st → r ≡ faultAt number UnknownRecord → L.Refused r ≡ refusedStep number done
+  step-is-next done st e h = rw (e, h)
+
+  pub ended-inside : (st : State) → st .inside ≡ true → r ≡ faultAt number UnexpectedEof → T.Refused r ≡ endedText st number
+  ended-inside st i h = rw (i, h)
+
+pub ended-outside : (st : State) (number : ℕ) → st .inside ≡ false → T.Read (st .kept) (st .used) ≡ endedText st number
+ended-outside st number i = rw i

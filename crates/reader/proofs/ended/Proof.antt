@@ -1,0 +1,12 @@
+use borrow.Author.Needs.{needs}
+use Rattle.reader.proofs.AnswerLaws.{ended-inside, ended-outside}
+use Rattle.reader.proofs.ended.Statement.{statement}
+use Rattle.reader.proofs.ended.Tie as tie
+
+pub ended-spec : {M : Type 1} → statement M
+ended-spec =
+    tie.close
+    (tie.spec
+    (λ c κs. search needs)
+    (λ c. search (ended-inside, needs))
+    (λ c. search (ended-outside, needs)))
