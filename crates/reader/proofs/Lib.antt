@@ -5,3 +5,4 @@ pub mod LoopLaws
 pub mod AnswerLaws
 pub mod LineLaws
 pub mod TextLaws
+pub mod TableLaws

@@ -58,4 +58,4 @@ text-done text ws index limit at number st r p end e = go (st .inside) refl
   where
     go : (b : Bool) → st .inside ≡ b → TextRead text ws index limit r
     go true i = rw (e, i) (record { is = sym (done-inside text ws index limit at number st p end i); held = tt })
-    go false i = rw (e, i) (record { is = sym (done-outside text ws index limit at number st p end i); held = p .valid .sections })
+    go false i = rw (e, i) (record { is = sym (done-outside text ws index limit at number st p end i); held = (p .valid .sections, p .valid .space .most) })

@@ -17,7 +17,9 @@ use Rattle.model.specs.Reading.{lines, readLines, readText}
 use Rattle.section.specs.declared.State.{State}
 use Rattle.section.specs.declared.Step.{Step}
 use Rattle.section.specs.declared.Step.the-variants as S
-use Rattle.section.specs.Sections.{entriesAt, Sections}
+use Rattle.store.specs.Places.{listed}
+use Rattle.store.specs.Rows.{rowAt}
+use Rattle.section.specs.Sections.{entryOf, entriesAt, Sections}
 use Rattle.section.specs.Reading.{stateOf, Valid}
 use Rattle.reader.specs.declared.LineStep.{LineStep}
 use Rattle.reader.specs.declared.LineStep.the-variants as L
@@ -65,11 +67,26 @@ abbrev pub seenText : Bytes → List ℕ → ℕ → TextAnswer → Answer Repor
 seenText text ws index (T.Read kept used) = accepted (entriesAt text ws index kept)
 seenText text ws index (T.Refused r) = refused r
 
-abbrev pub HeldText : Bytes → List ℕ → ℕ → TextAnswer → Type 0
-HeldText text ws index (T.Read kept used) = Sections text ws index used kept
-HeldText text ws index (T.Refused r) = Unit {0}
+-- its rows are within the limit
+abbrev pub HeldText : Bytes → List ℕ → ℕ → ℕ → TextAnswer → Type 0
+HeldText text ws index limit (T.Read kept used) = Sections text ws index used kept × (used ≤ limit)
+HeldText text ws index limit (T.Refused r) = Unit {0}
 
 -- the text's answer is the model's
 pub record TextRead (text ws : List ℕ) (index limit : ℕ) (r : TextAnswer) : Type 0 where
   pub is : seenText text ws index r ≡ readText defaultTag limit text
-  pub held : HeldText text ws index r
+  pub held : HeldText text ws index limit r
+
+-- ---- the report as a table
+
+-- the rows of a report stand behind the `limit` rows that were read into, in key order
+abbrev pub tableAt : Bytes → List ℕ → ℕ → ℕ → Report
+tableAt text ws limit n = listed (λ k. entryOf text (rowAt ws (limit + k))) n
+
+abbrev pub seenTable : Bytes → List ℕ → ℕ → TextAnswer → Answer Report
+seenTable text ws limit (T.Read kept used) = accepted (tableAt text ws limit kept)
+seenTable text ws limit (T.Refused r) = refused r
+
+-- the text's report, as a table, is the model's
+pub record TableRead (text ws : List ℕ) (limit : ℕ) (r : TextAnswer) : Type 0 where
+  pub is : seenTable text ws limit r ≡ readText defaultTag limit text
