@@ -24,7 +24,7 @@ const BEGINNINGS: [&[u8]; 8] = [
     b"./",
     b"/./",
     b"../",
-    b"/home/lab/work/recogniser/",
+    b"/home/lab/recogniser/",
 ];
 const BETWEEN: [&[u8]; 4] = [b"/", b"/", b"//", b"/./"];
 const ENDS: [&[u8]; 4] = [b"", b"", b"/", b"/."];

@@ -3,12 +3,12 @@
 use crate::Chance;
 
 const FOLDERS: [&str; 8] = [
-    "/home/lab/work/recogniser/src/decoder",
-    "/home/lab/work/recogniser/src/decoder/lattice",
-    "/home/lab/work/recogniser/src/acoustic/features",
-    "/home/lab/work/recogniser/src/language_model",
-    "/home/lab/work/recogniser/include/recogniser/util",
-    "/home/lab/work/recogniser/build/generated/protocol",
+    "/home/lab/recogniser/src/decoder",
+    "/home/lab/recogniser/src/decoder/lattice",
+    "/home/lab/recogniser/src/acoustic/features",
+    "/home/lab/recogniser/src/language_model",
+    "/home/lab/recogniser/include/recogniser/util",
+    "/home/lab/recogniser/build/generated/protocol",
     "/usr/include/c++/12/bits",
     "/usr/include/x86_64-linux-gnu/c++/12/bits",
 ];
