@@ -33,7 +33,7 @@ split-some sep (b ∷ bs) e = go (eqb b sep) e
     go true e = impossible cc
     go false e = onto-some b (split sep bs) e
 
-split-free : (sep : ℕ) (xs : Bytes) → Free sep xs → split sep xs ≡ xs ∷ []
+pub split-free : (sep : ℕ) (xs : Bytes) → Free sep xs → split sep xs ≡ xs ∷ []
 unfolding split onto
 split-free sep [] f = refl
 split-free sep (b ∷ bs) f = rw (f .0, split) (ap (onto b) (split-free sep bs (f .1)))

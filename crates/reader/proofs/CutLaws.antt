@@ -11,9 +11,10 @@ use lib.ListN.{length, take, drop}
 use lib.Seq.{take-at, drop-at}
 use borrow.Author.Tests.{eqb-true}
 use Rattle.model.specs.Order.{if_then_else_}
-use Rattle.model.specs.Bytes.{Bytes, newline, before, split, onto, Free}
+use Rattle.model.specs.Bytes.{Bytes, newline, before, split, Free}
 use Rattle.model.specs.Reading.{withoutEmptyLast, lines}
 use Rattle.model.proofs.TextLaws.{lines-seam}
+use Rattle.order.proofs.SplitLaws.{split-free}
 use Rattle.text.proofs.ByteLaws.{drop-end}
 
 -- ---- what stands before a separator
@@ -40,11 +41,6 @@ parted sep (b ∷ bs) = go (eqb b sep) refl (parted sep bs)
     go true e d = inr (bs, ap (λ (x : ℕ). x ∷ bs) (eqb-true b sep e))
     go false e (inl h) = inl (ap (λ (l : Bytes). b ∷ l) h)
     go false e (inr (ys, h)) = inr (ys, ap (λ (l : Bytes). b ∷ l) h)
-
-split-free : (sep : ℕ) (xs : Bytes) → Free sep xs → split sep xs ≡ xs ∷ []
-unfolding split onto
-split-free sep [] f = refl
-split-free sep (b ∷ bs) f = rw (f .0, split) (ap (onto b) (split-free sep bs (f .1)))
 
 -- ---- lines
 

@@ -1,5 +1,5 @@
 -- A text read line by line: what holds between two lines, and the answer read back from the words. Assumes nothing.
-use Prim.Native.Nat.{ℕ, _+_, _≤_, _<_}
+use Prim.Native.Nat.{ℕ, _+_, _*_, _≤_, _<_}
 use mathlib.Core.Path.{_≡_}
 use mathlib.Core.Bool.{cond}
 use mathlib.Core.List.{List}
@@ -18,7 +18,7 @@ use Rattle.section.specs.declared.State.{State}
 use Rattle.section.specs.declared.Step.{Step}
 use Rattle.section.specs.declared.Step.the-variants as S
 use Rattle.store.specs.Places.{listed}
-use Rattle.store.specs.Rows.{rowAt}
+use Rattle.store.specs.Rows.{row-words, rowAt}
 use Rattle.section.specs.Sections.{entryOf, entriesAt, Sections}
 use Rattle.section.specs.Reading.{stateOf, Valid}
 use Rattle.reader.specs.declared.LineStep.{LineStep}
@@ -78,6 +78,14 @@ pub record TextRead (text ws : List ℕ) (index limit : ℕ) (r : TextAnswer) : 
   pub held : HeldText text ws index limit r
 
 -- ---- the report as a table
+
+-- where the index starts: past the rows that are read into and as many for the table
+abbrev pub table-index : ℕ → ℕ
+table-index limit = limit * (row-words + row-words)
+
+-- the words of a reading: those, the index, and as many spare words
+abbrev pub table-words : ℕ → ℕ
+table-words limit = limit * (row-words + row-words + 2)
 
 -- the rows of a report stand behind the `limit` rows that were read into, in key order
 abbrev pub tableAt : Bytes → List ℕ → ℕ → ℕ → Report

@@ -17,6 +17,7 @@ use store::Row;
 ghost use mathlib.Core.Path.{_≡_};
 ghost use Prim.Native.Nat.{_+_, _≤_};
 ghost use lib.ListN.{length};
+ghost use Rattle.model.specs.Limits.{u64-max};
 ghost use Rattle.section.specs.Reading.{Valid};
 ghost use Rattle.reader.specs.Effect.{kindNumber, textPart, movedPart, movedChecksum, PartWithin, ChecksumWithin, Within, RowOf, RecordAt, Steps};
 
@@ -68,7 +69,7 @@ fn text_part(record: Record) -> Part
 
 // A part of the line, which has `len` bytes from `at` on, as a part of the text.
 fn move_part(part: Part, at: usize, len: usize) -> Part
-    requires { ⌜ (at + len ≤ 18446744073709551615) × PartWithin len part ⌝ }
+    requires { ⌜ (at + len ≤ u64-max) × PartWithin len part ⌝ }
     ensures { λ r. ⌜ r ≡ movedPart at part ⌝ }
 {
     Part {
@@ -78,7 +79,7 @@ fn move_part(part: Part, at: usize, len: usize) -> Part
 }
 
 fn move_checksum(checksum: Checksum, at: usize, len: usize) -> Checksum
-    requires { ⌜ (at + len ≤ 18446744073709551615) × ChecksumWithin len checksum ⌝ }
+    requires { ⌜ (at + len ≤ u64-max) × ChecksumWithin len checksum ⌝ }
     ensures { λ r. ⌜ r ≡ movedChecksum at checksum ⌝ }
 {
     match checksum {
@@ -89,7 +90,7 @@ fn move_checksum(checksum: Checksum, at: usize, len: usize) -> Checksum
 
 // The row that an FN, FNDA, BRDA or DA line enters; no other record is asked.
 fn item_row(record: Record, at: usize, len: usize) -> Row
-    requires { ⌜ (at + len ≤ 18446744073709551615) × Within len «record» ⌝ }
+    requires { ⌜ (at + len ≤ u64-max) × Within len «record» ⌝ }
     ensures { λ r. ⌜ RowOf at len «record» r ⌝ }
 {
     match record {

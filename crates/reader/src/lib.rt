@@ -8,10 +8,10 @@ use model::Refusal;
 use section::State;
 use section::Step;
 ghost use mathlib.Core.Path.{_≡_};
-ghost use Prim.Native.Nat.{_*_, _≤_, _<_};
+ghost use Prim.Native.Nat.{_≤_, _<_};
 ghost use lib.ListN.{length};
 ghost use Rattle.section.specs.Reading.{Room};
-ghost use Rattle.reader.specs.Reader.{atLine, faultAt, refusedLine, refusedStep, endedText, Progress, LineDone, TextRead, TableRead};
+ghost use Rattle.reader.specs.Reader.{atLine, faultAt, refusedLine, refusedStep, endedText, Progress, LineDone, TextRead, table-words, TableRead};
 
 // The state after a line and where the next line starts, or why the text is refused.
 enum LineStep {
@@ -135,13 +135,16 @@ pub fn read_lines(text: &[u8], words: &mut [u64], index: usize, limit: usize) ->
     ended(state, number)
 }
 
+// Where the index starts, for each row of the limit: `table-index` in specs/Reader.antt.
+const INDEX: usize = store::ROW_WORDS + store::ROW_WORDS;
+
 // Reads a text and lays its report out as a table: the rows from number `limit` on, in key order. The words hold `limit` rows, as many for
 // the table, the index, and as many spare words.
 pub fn read_report(text: &[u8], words: &mut [u64], limit: usize) -> TextAnswer
-    requires { ⌜ limit * 20 ≤ length (now words) ⌝ }
+    requires { ⌜ table-words limit ≤ length (now words) ⌝ }
     ensures { λ r. ⌜ TableRead (now (text .entry)) (now (words .exit)) limit r ⌝ }
 {
-    let index = limit * 18;
+    let index = limit * INDEX;
     let got = read_lines(text, words, index, limit);
     let TextAnswer::Read { kept, used } = got else {
         return got;
