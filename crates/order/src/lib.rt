@@ -5,6 +5,7 @@ mod prefix;
 
 pub use path::compare_paths;
 use prefix::common_prefix;
+pub use prefix::quad;
 ghost use mathlib.Core.Path.{_≡_};
 ghost use Prim.Native.Nat.{compare};
 ghost use lib.Dec.{isEq};

@@ -25,7 +25,8 @@ fn pair(s: &[u8], i: usize) -> u64
     byte(s, i) + byte(s, i + 1) * 0x100
 }
 
-fn quad(s: &[u8], i: usize) -> u64
+// Four bytes from place i on as one number, the lowest first.
+pub fn quad(s: &[u8], i: usize) -> u64
     requires { ⌜ i + 4 ≤ length (now s) ⌝ }
     ensures { λ r. ⌜ IsNumber (now (s .entry)) i 4 r ⌝ }
 {

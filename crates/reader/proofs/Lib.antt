@@ -5,4 +5,3 @@ pub mod LoopLaws
 pub mod AnswerLaws
 pub mod LineLaws
 pub mod TextLaws
-pub mod TableLaws

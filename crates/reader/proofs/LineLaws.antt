@@ -25,7 +25,7 @@ use Rattle.section.specs.declared.Step.the-variants as S
 use Rattle.reader.specs.declared.LineStep.{LineStep}
 use Rattle.reader.specs.declared.LineStep.the-variants as L
 use Rattle.reader.specs.Effect.{RecordAt, Steps}
-use Rattle.reader.specs.Reader.{Progress, refusedLine, refusedStep, LineDone}
+use Rattle.reader.specs.Reader.{refusedLine, refusedStep, LineDone}
 use Rattle.reader.proofs.LoopLaws.{line-refused, step-refused, step-next}
 
 -- the rest of the text, as the code lends it
@@ -66,17 +66,17 @@ module _ (text : List ℕ) (at len : ℕ) (got : LineAnswer) where
       inside : (lent : LentRecord) → got ≡ A.Read lent → partsInside (lineOf text at len) got → partsInside (lineOf text at len) (A.Read lent)
       inside lent e i = rw e at i
 
-module _ (text ws : List ℕ) (index limit at number len : ℕ) (st : State) (p : Progress text ws index limit at number st) (more : at < length text)
+module _ (text ws : List ℕ) (index limit at number len : ℕ) (st : State) (more : at < length text)
     (cut : len ≡ length (before newline (restOf text at))) (short : len ≤ length (restOf text at)) (got : LineAnswer)
     (is : lineRead (lineOf text at len) got ≡ readRecord defaultTag (lineOf text at len)) where
   read-is : lineRead (take len (drop at text)) got ≡ readRecord defaultTag (take len (drop at text))
   read-is = rw (line-is text at len) at is
 
-  pub done-refused : (q : Refusal) (r : LineStep) → got ≡ A.Refused q → r ≡ refusedLine number got → LineDone text ws index limit at number r
+  pub done-refused : (q : Refusal) (r : LineStep) → got ≡ A.Refused q → r ≡ refusedLine number got → LineDone text ws ws index limit at number st r
   unfolding lineRead
   done-refused q r e h =
       let f : readRecord defaultTag (take len (drop at text)) ≡ refused q = sym (rw e at read-is) in
-      let t = line-refused text ws index limit at number st p more len (cut-is text at len cut) q f in
+      let t = line-refused text ws index limit at number st more len (cut-is text at len cut) q f in
       record { after = rw (h, e) t }
 
   module _ (lent : LentRecord) (e : got ≡ A.Read lent) (i : partsInside (lineOf text at len) got) (ws′ : List ℕ) (done : Step)
@@ -85,19 +85,14 @@ module _ (text ws : List ℕ) (index limit at number len : ℕ) (st : State) (p 
     unfolding lineRead
     lent-is = rw e at read-is
 
-    pub done-step : (fault : Fault) (r : LineStep) → done ≡ S.Refused fault → r ≡ refusedStep number done → LineDone text ws′ index limit at number r
+    pub done-step : (fault : Fault) (r : LineStep) → done ≡ S.Refused fault → r ≡ refusedStep number done → LineDone text ws ws′ index limit at number st r
     done-step fault r d h =
         let r = record-at text at len got lent e i in
-        let t = step-refused text ws index limit at number st p more len (cut-is text at len cut) lent (r .made) (r .is) lent-is ws′ done fault (steps .by (r .made) (r .is)) d in
+        let t = step-refused text ws index limit at number st more len (cut-is text at len cut) lent (r .made) (r .is) lent-is ws′ done fault (steps .by (r .made) (r .is)) d in
         record { after = rw (h, d) t }
 
-    pub done-next : (after : State) → done ≡ S.Next after → LineDone text ws′ index limit at number (L.Next after (at + len + 1))
+    pub done-next : (after : State) → done ≡ S.Next after → LineDone text ws ws′ index limit at number st (L.Next after (at + len + 1))
     done-next after d =
         let r = record-at text at len got lent e i in
-        record {
-          after = (
-            step-next text ws index limit at number st p more len (cut-is text at len cut) lent (r .made) (r .is) lent-is ws′ done after (steps .by (r .made) (r .is)) d,
-            omega arith,
-            omega (arith, line-end text at len more short),
-          );
-        }
+        let (valid, left) = step-next text ws index limit at number st more len (cut-is text at len cut) lent (r .made) (r .is) lent-is ws′ done after (steps .by (r .made) (r .is)) d in
+        record { after = (valid, left, omega arith, omega (arith, line-end text at len more short)) }

@@ -1,5 +1,4 @@
--- The loop over a text's lines: what is left of the text, read from the state that the words hold, gives the whole text's answer.
--- Assumes nothing.
+-- The loop over a text's lines: the answer to what is left, by what the next line does. Assumes nothing.
 use Prim.Native.Nat.{ℕ, suc, _+_, _≤_, _<_}
 use native.Mathlib.Omega.{arith}
 use native.Mathlib.Numerals.{add-one}
@@ -17,6 +16,7 @@ use Rattle.model.specs.Order.{if_then_else_}
 use Rattle.model.specs.Bytes.{Bytes, newline, before}
 use Rattle.model.specs.Answer.{Answer, accepted, refused, _>>=_, onLine}
 use Rattle.model.specs.Record.{Record}
+use Rattle.model.specs.Report.{Report}
 use Rattle.model.specs.Tags.{defaultTag}
 use Rattle.model.specs.Line.{readRecord}
 use Rattle.model.specs.Parts.{recordIn}
@@ -26,7 +26,7 @@ use Rattle.section.specs.declared.Step.{Step}
 use Rattle.section.specs.declared.Step.the-variants.{Next, Refused}
 use Rattle.section.specs.Sections.{entriesAt}
 use Rattle.section.specs.Reading.{stateOf, Valid, counted, seenStep, ValidStep, StepOf}
-use Rattle.reader.specs.Reader.{Progress, atLine, faultAt}
+use Rattle.reader.specs.Reader.{leftAt, Progress, atLine, faultAt}
 use Rattle.reader.proofs.CutLaws.{lines-none, lines-cut}
 
 take-before : (sep : ℕ) (xs : Bytes) → take (length (before sep xs)) xs ≡ before sep xs
@@ -39,21 +39,24 @@ take-before sep (b ∷ bs) = go (eqb b sep) (take-before sep bs)
     go true e = refl
     go false e = ap (λ (l : Bytes). b ∷ l) e
 
-module _ (text ws : List ℕ) (index limit at number : ℕ) (st : State) (p : Progress text ws index limit at number st) where
+module _ (text ws : List ℕ) (index limit at number : ℕ) (st : State) where
   abbrev here : ModelState
   here = stateOf text ws index st
+
+  abbrev answer : Answer Report
+  answer = leftAt text ws index limit at number st
 
   -- ---- past the last line
 
   module _ (end : length text ≤ at) where
-    ended : readLines defaultTag limit number [] here ≡ readText defaultTag limit text
-    ended = ap (λ (ls : List Bytes). readLines defaultTag limit number ls here) (lines-none text at end) ∙ p .left
+    ended : readLines defaultTag limit number [] here ≡ answer
+    ended = ap (λ (ls : List Bytes). readLines defaultTag limit number ls here) (lines-none text at end)
 
-    pub done-inside : st .inside ≡ true → readText defaultTag limit text ≡ refused (faultAt number UnexpectedEof)
+    pub done-inside : st .inside ≡ true → answer ≡ refused (faultAt number UnexpectedEof)
     unfolding readLines
     done-inside i = sym ended ∙ rw i
 
-    pub done-outside : st .inside ≡ false → readText defaultTag limit text ≡ accepted (entriesAt text ws index (st .kept))
+    pub done-outside : st .inside ≡ false → answer ≡ accepted (entriesAt text ws index (st .kept))
     unfolding readLines
     done-outside i = sym ended ∙ rw i
 
@@ -78,12 +81,12 @@ module _ (text ws : List ℕ) (index limit at number : ℕ) (st : State) (p : Pr
 
     -- the line's step, and what follows
     whole : (onLine number (step defaultTag limit line here) >>= λ next. readLines defaultTag limit (suc number) (lines (drop (at + len + 1) text)) next)
-        ≡ readText defaultTag limit text
+        ≡ answer
     unfolding readLines
-    whole = ap (λ (ls : List Bytes). readLines defaultTag limit number ls here) (sym rest-is) ∙ p .left
+    whole = ap (λ (ls : List Bytes). readLines defaultTag limit number ls here) (sym rest-is)
 
     -- a line that is refused ends the reading there
-    pub line-refused : (q : Refusal) → readRecord defaultTag line ≡ refused q → readText defaultTag limit text ≡ refused (atLine number q)
+    pub line-refused : (q : Refusal) → readRecord defaultTag line ≡ refused q → answer ≡ refused (atLine number q)
     unfolding step
     line-refused q e = sym whole ∙ rw e
 
@@ -94,33 +97,29 @@ module _ (text ws : List ℕ) (index limit at number : ℕ) (st : State) (p : Pr
       step-is = let e : readRecord defaultTag line ≡ accepted made = sym read ∙ is in rw e
 
       pub step-refused : (ws′ : List ℕ) (r : Step) (fault : Fault) → StepOf text ws′ index limit (counted limit (effect made here)) r → r ≡ Refused fault
-          → readText defaultTag limit text ≡ refused (faultAt number fault)
+          → answer ≡ refused (faultAt number fault)
       step-refused ws′ r fault o e =
           let s : step defaultTag limit line here ≡ seenStep text ws′ index (Refused fault) = step-is ∙ sym (o .is) ∙ ap (seenStep text ws′ index) e in
           sym whole ∙ rw s
 
       pub step-next : (ws′ : List ℕ) (r : Step) (st′ : State) → StepOf text ws′ index limit (counted limit (effect made here)) r → r ≡ Next st′
-          → Progress text ws′ index limit (at + len + 1) (number + 1) st′
+          → Valid text ws′ index limit st′ × (leftAt text ws′ index limit (at + len + 1) (number + 1) st′ ≡ answer)
       step-next ws′ r st′ o e =
           let s : step defaultTag limit line here ≡ seenStep text ws′ index (Next st′) = step-is ∙ sym (o .is) ∙ ap (seenStep text ws′ index) e in
-          record {
-            valid = next-valid r st′ (o .valid) e;
-            left = rw (add-one number) (follow s whole);
-            few = omega (arith, p .few);
-          }
+          (next-valid r st′ (o .valid) e, rw (add-one number) (follow s whole))
         where
           next-valid : (r : Step) (st′ : State) → ValidStep text ws′ index limit r → r ≡ Next st′ → Valid text ws′ index limit st′
           next-valid r st′ v e = rw e at v
 
           follow : step defaultTag limit line here ≡ accepted (stateOf text ws′ index st′)
               → (onLine number (step defaultTag limit line here) >>= λ next. readLines defaultTag limit (suc number) (lines (drop (at + len + 1) text)) next)
-              ≡ readText defaultTag limit text
-              → readLines defaultTag limit (suc number) (lines (drop (at + len + 1) text)) (stateOf text ws′ index st′) ≡ readText defaultTag limit text
+              ≡ answer
+              → readLines defaultTag limit (suc number) (lines (drop (at + len + 1) text)) (stateOf text ws′ index st′) ≡ answer
           follow s w = rw s at w
 
 -- before the first line
-pub start-progress : (text ws : List ℕ) (index limit : ℕ) (st : State) → Valid text ws index limit st → stateOf text ws index st ≡ outside [] []
-    → Progress text ws index limit 0 1 st
+pub start-progress : (text ws : List ℕ) (index limit from : ℕ) (st : State) → Valid text ws index limit st → stateOf text ws index st ≡ outside [] []
+    → Progress text ws index limit from from 1 st
 unfolding readText
-start-progress text ws index limit st v s =
-    record { valid = v; left = ap (readLines defaultTag limit 1 (lines text)) s; few = omega arith }
+start-progress text ws index limit from st v s =
+    record { valid = v; left = ap (readLines defaultTag limit 1 (lines (drop from text))) s; few = omega arith }

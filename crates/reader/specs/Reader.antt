@@ -1,5 +1,5 @@
 -- A text read line by line: what holds between two lines, and the answer read back from the words. Assumes nothing.
-use Prim.Native.Nat.{ℕ, _+_, _*_, _≤_, _<_}
+use Prim.Native.Nat.{ℕ, _+_, _≤_, _<_}
 use mathlib.Core.Path.{_≡_}
 use mathlib.Core.Bool.{cond}
 use mathlib.Core.List.{List}
@@ -17,20 +17,21 @@ use Rattle.model.specs.Reading.{lines, readLines, readText}
 use Rattle.section.specs.declared.State.{State}
 use Rattle.section.specs.declared.Step.{Step}
 use Rattle.section.specs.declared.Step.the-variants as S
-use Rattle.store.specs.Places.{listed}
-use Rattle.store.specs.Rows.{row-words, rowAt}
-use Rattle.section.specs.Sections.{entryOf, entriesAt, Sections}
+use Rattle.section.specs.Sections.{entriesAt, Sections}
 use Rattle.section.specs.Reading.{stateOf, Valid}
 use Rattle.reader.specs.declared.LineStep.{LineStep}
 use Rattle.reader.specs.declared.LineStep.the-variants as L
 use Rattle.reader.specs.declared.TextAnswer.{TextAnswer}
 use Rattle.reader.specs.declared.TextAnswer.the-variants as T
 
--- what is left of the text from `at` on, its next line having this number, read from the state that the words hold, gives the whole
--- text's answer
-pub record Progress (text ws : List ℕ) (index limit at number : ℕ) (st : State) : Type 0 where
+-- the answer to what is left from `at` on, its next line having this number, read from the state that the words hold
+abbrev pub leftAt : Bytes → List ℕ → ℕ → ℕ → ℕ → ℕ → State → Answer Report
+leftAt text ws index limit at number st = readLines defaultTag limit number (lines (drop at text)) (stateOf text ws index st)
+
+-- the words hold a state, and what is left gives the answer of the whole, which starts at `from`
+pub record Progress (text ws : List ℕ) (index limit from at number : ℕ) (st : State) : Type 0 where
   pub valid : Valid text ws index limit st
-  pub left : readLines defaultTag limit number (lines (drop at text)) (stateOf text ws index st) ≡ readText defaultTag limit text
+  pub left : leftAt text ws index limit at number st ≡ readText defaultTag limit (drop from text)
   pub few : number ≤ at + 1
 
 -- a refusal at a line
@@ -53,14 +54,15 @@ refusedStep number (S.Next st) = L.Refused (faultAt number UnknownRecord)
 abbrev pub endedText : State → ℕ → TextAnswer
 endedText st number = cond (st .inside) (T.Refused (faultAt number UnexpectedEof)) (T.Read (st .kept) (st .used))
 
--- after a line: the next one starts at `next`, or the whole text is refused
-abbrev pub AfterLine : List ℕ → List ℕ → ℕ → ℕ → ℕ → ℕ → LineStep → Type 0
-AfterLine text ws index limit at number (L.Next st next) =
-    Progress text ws index limit next (number + 1) st × (at < next) × (next ≤ length text + 1)
-AfterLine text ws index limit at number (L.Refused r) = readText defaultTag limit text ≡ refused r
+-- after a line: the next one starts at `next`, and what is left gives the same answer; or that is the refusal
+abbrev pub AfterLine : Bytes → List ℕ → ℕ → ℕ → ℕ → ℕ → Answer Report → LineStep → Type 0
+AfterLine text ws index limit at number answer (L.Next st next) =
+    Valid text ws index limit st × (leftAt text ws index limit next (number + 1) st ≡ answer) × (at < next) × (next ≤ length text + 1)
+AfterLine text ws index limit at number answer (L.Refused r) = answer ≡ refused r
 
-pub record LineDone (text ws : List ℕ) (index limit at number : ℕ) (r : LineStep) : Type 0 where
-  pub after : AfterLine text ws index limit at number r
+-- the words ws and the state before the line, the words ws′ after it
+pub record LineDone (text ws ws′ : List ℕ) (index limit at number : ℕ) (st : State) (r : LineStep) : Type 0 where
+  pub after : AfterLine text ws′ index limit at number (leftAt text ws index limit at number st) r
 
 -- the report that the first entries in the index's order are
 abbrev pub seenText : Bytes → List ℕ → ℕ → TextAnswer → Answer Report
@@ -72,29 +74,7 @@ abbrev pub HeldText : Bytes → List ℕ → ℕ → ℕ → TextAnswer → Type
 HeldText text ws index limit (T.Read kept used) = Sections text ws index used kept × (used ≤ limit)
 HeldText text ws index limit (T.Refused r) = Unit {0}
 
--- the text's answer is the model's
-pub record TextRead (text ws : List ℕ) (index limit : ℕ) (r : TextAnswer) : Type 0 where
-  pub is : seenText text ws index r ≡ readText defaultTag limit text
+-- the answer is the model's for the text that starts at `from`
+pub record TextRead (text ws : List ℕ) (index limit from : ℕ) (r : TextAnswer) : Type 0 where
+  pub is : seenText text ws index r ≡ readText defaultTag limit (drop from text)
   pub held : HeldText text ws index limit r
-
--- ---- the report as a table
-
--- where the index starts: past the rows that are read into and as many for the table
-abbrev pub table-index : ℕ → ℕ
-table-index limit = limit * (row-words + row-words)
-
--- the words of a reading: those, the index, and as many spare words
-abbrev pub table-words : ℕ → ℕ
-table-words limit = limit * (row-words + row-words + 2)
-
--- the rows of a report stand behind the `limit` rows that were read into, in key order
-abbrev pub tableAt : Bytes → List ℕ → ℕ → ℕ → Report
-tableAt text ws limit n = listed (λ k. entryOf text (rowAt ws (limit + k))) n
-
-abbrev pub seenTable : Bytes → List ℕ → ℕ → TextAnswer → Answer Report
-seenTable text ws limit (T.Read kept used) = accepted (tableAt text ws limit kept)
-seenTable text ws limit (T.Refused r) = refused r
-
--- the text's report, as a table, is the model's
-pub record TableRead (text ws : List ℕ) (limit : ℕ) (r : TextAnswer) : Type 0 where
-  pub is : seenTable text ws limit r ≡ readText defaultTag limit text

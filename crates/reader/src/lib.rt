@@ -10,8 +10,8 @@ use section::Step;
 ghost use mathlib.Core.Path.{_≡_};
 ghost use Prim.Native.Nat.{_≤_, _<_};
 ghost use lib.ListN.{length};
-ghost use Rattle.section.specs.Reading.{Room};
-ghost use Rattle.reader.specs.Reader.{atLine, faultAt, refusedLine, refusedStep, endedText, Progress, LineDone, TextRead, table-words, TableRead};
+ghost use Rattle.section.specs.Reading.{Room, Valid};
+ghost use Rattle.reader.specs.Reader.{atLine, faultAt, refusedLine, refusedStep, endedText, LineDone, TextRead};
 
 // The state after a line and where the next line starts, or why the text is refused.
 enum LineStep {
@@ -81,8 +81,8 @@ fn read_line_at(
     at: usize,
     number: u64,
 ) -> LineStep
-    requires { ⌜ Progress (now text) (now words) index limit at number state × (at < length (now text)) ⌝ }
-    ensures { λ r. ⌜ LineDone (now (text .entry)) (now (words .exit)) index limit at number r ⌝ }
+    requires { ⌜ Valid (now text) (now words) index limit state × (at < length (now text)) ⌝ }
+    ensures { λ r. ⌜ LineDone (now (text .entry)) (now (words .entry)) (now (words .exit)) index limit at number state r ⌝ }
 {
     let len = text::find(&text[at..], b'\n');
     let got = record::read_record(&text[at..at + len]);
@@ -111,13 +111,20 @@ fn ended(state: State, number: u64) -> TextAnswer
     }
 }
 
-// Reads a text into `limit` rows at the front of the words, whose index starts at word `index`.
-pub fn read_lines(text: &[u8], words: &mut [u64], index: usize, limit: usize) -> TextAnswer
-    requires { ⌜ Room (now words) index limit ⌝ }
-    ensures { λ r. ⌜ TextRead (now (text .entry)) (now (words .exit)) index limit r ⌝ }
+// Reads the text that starts at `from` into `limit` rows at the front of the words, whose index starts at word `index`. The rows' names are
+// parts of all that is lent: a bundle's texts are read so that their rows can be compared.
+pub fn read_lines(
+    text: &[u8],
+    from: usize,
+    words: &mut [u64],
+    index: usize,
+    limit: usize,
+) -> TextAnswer
+    requires { ⌜ Room (now words) index limit × (from ≤ length (now text)) ⌝ }
+    ensures { λ r. ⌜ TextRead (now (text .entry)) (now (words .exit)) index limit from r ⌝ }
 {
     let mut state = section::start();
-    let mut at = 0;
+    let mut at = from;
     let mut number = 1;
     while at < text.len() {
         let got = read_line_at(text, words, index, limit, state, at, number);
@@ -133,22 +140,4 @@ pub fn read_lines(text: &[u8], words: &mut [u64], index: usize, limit: usize) ->
         }
     }
     ended(state, number)
-}
-
-// Where the index starts, for each row of the limit: `table-index` in specs/Reader.antt.
-const INDEX: usize = store::ROW_WORDS + store::ROW_WORDS;
-
-// Reads a text and lays its report out as a table: the rows from number `limit` on, in key order. The words hold `limit` rows, as many for
-// the table, the index, and as many spare words.
-pub fn read_report(text: &[u8], words: &mut [u64], limit: usize) -> TextAnswer
-    requires { ⌜ table-words limit ≤ length (now words) ⌝ }
-    ensures { λ r. ⌜ TableRead (now (text .entry)) (now (words .exit)) limit r ⌝ }
-{
-    let index = limit * INDEX;
-    let got = read_lines(text, words, index, limit);
-    let TextAnswer::Read { kept, used } = got else {
-        return got;
-    };
-    store::lay_out(words, index, used, kept, limit);
-    got
 }

@@ -1,3 +1,4 @@
 pub mod Sections
 pub mod Closing
 pub mod Reading
+pub mod Table

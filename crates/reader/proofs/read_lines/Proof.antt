@@ -8,11 +8,11 @@ use Rattle.reader.proofs.read_lines.Statement.{statement}
 use Rattle.reader.proofs.read_lines.Tie as tie
 
 abbrev Inv-loop : tie.InvT-loop
-Inv-loop text words₀ index limit state₀ at₀ number₀ words state at number =
-    Progress text words index limit at number state × (at ≤ length text + 1) × (length words ≡ length words₀)
+Inv-loop text from words₀ index limit state₀ at₀ number₀ words state at number =
+    Progress text words index limit from at number state × (at ≤ length text + 1) × (length words ≡ length words₀)
 
 abbrev μ-loop : tie.MeasureT-loop
-μ-loop text words₀ index limit state₀ at₀ number₀ words state at number = length text + 1 - at
+μ-loop text from words₀ index limit state₀ at₀ number₀ words state at number = length text + 1 - at
 
 pub read-lines-spec : {M : Type 1} → statement M
 read-lines-spec =
@@ -29,7 +29,7 @@ read-lines-spec =
     (λ c. search needs)
     (λ c. search (number-fits, needs))
     (λ c. search (text-less, needs))
-    (λ c. search (text-next, text-most, needs))
+    (λ c. (search (text-next, needs), search (text-most, needs), search needs))
     (λ c κs. search needs)
     (λ c. search needs)
     (λ c. search (text-done, needs)))

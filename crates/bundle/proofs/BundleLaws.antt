@@ -1,0 +1,158 @@
+-- A bundle's sizes and places, as the code meets them. Assumes nothing.
+use Prim.Native.Nat.{ℕ, zero, suc, _+_, _*_, _-_, _^_, _≤_, _<_}
+use native.Mathlib.Omega.{arith}
+use native.Mathlib.Numerals.{add-one}
+use mathlib.Core.Path.{_≡_, refl, sym, ap, _∙_}
+use mathlib.Core.Logic.{_≢_}
+use mathlib.Core.Bool.{Bool, true, false, _&&_}
+use mathlib.Core.List.{List, [], _∷_, List·Memᴰ as Member, List·Memᴰ·head as here, List·Memᴰ·tail as there}
+use lib.Dec.{leb, eqb}
+use borrow.Author.Tests.{leb-true, le-leb, lt-leb, eqb-true, eqb-false, eq-eqb, ne-eqb}
+use lib.ListN.{length, getD, take, drop}
+use lib.Seq.{drop-cons}
+use Rattle.model.specs.declared.Part.{Part}
+use Rattle.model.specs.Lists.{all, from}
+use Rattle.model.specs.Bytes.{Bytes}
+use Rattle.model.specs.Limits.{u32-max, most-texts}
+use Rattle.model.specs.Bundle.{u32At, textCount, textBytes, textStart, textLength, wellFormed}
+use Rattle.model.proofs.ListLaws.{and-left, and-right, all-each}
+use Rattle.order.specs.Prefixes.{numberOf, IsNumber}
+use Rattle.bundle.specs.Places.{partAt, fitsFrom}
+
+-- four bytes are a little-endian u32
+pub quad-u32 : (s : Bytes) (i r : ℕ) → i + 4 ≤ length s → IsNumber s i 4 r → (r ≡ u32At s i) × (r ≤ u32-max)
+unfolding u32At
+quad-u32 s i r h n = (n .is ∙ four, omega (arith, n .fits))
+  where
+    at-least : (width k next : ℕ) → k < length s → next ≡ suc k → take (suc width) (drop k s) ≡ getD s k 0 ∷ take width (drop next s)
+    at-least width k next l e = rw (drop-cons s k 0, e)
+
+    four : numberOf (take 4 (drop i s)) ≡ getD s i 0 + 256 * getD s (i + 1) 0 + 65_536 * getD s (i + 2) 0 + 16_777_216 * getD s (i + 3) 0
+    four =
+        ap numberOf (at-least 3 i (i + 1) (omega arith) (omega arith)
+        ∙ ap (λ (t : Bytes). getD s i 0 ∷ t) (at-least 2 (i + 1) (i + 2) (omega arith) (omega arith)
+        ∙ ap (λ (t : Bytes). getD s (i + 1) 0 ∷ t) (at-least 1 (i + 2) (i + 3) (omega arith) (omega arith)
+        ∙ ap (λ (t : Bytes). getD s (i + 2) 0 ∷ t) (at-least 0 (i + 3) (i + 4) (omega arith) (omega arith)))))
+        ∙ omega arith
+
+pub count-is : (s : Bytes) (r : ℕ) → r ≡ u32At s 0 → r ≡ textCount s
+unfolding textCount
+count-is s r e = e
+
+pub start-is : (s : Bytes) (i r : ℕ) → r ≡ u32At s (8 + 4 * i) → r ≡ textStart s i
+unfolding textStart
+start-is s i r e = e
+
+pub length-is : (s : Bytes) (n i r : ℕ) → n ≡ textCount s → r ≡ u32At s (8 + 4 * n + 4 * i) → r ≡ textLength s i
+unfolding textLength
+length-is s n i r e h = rw e at h
+
+-- ---- each start + length
+
+module _ (s : Bytes) (i n total : ℕ) (so-far : fitsFrom s 0 n total ≡ fitsFrom s i n total) where
+  pub fit-end : n ≤ i → true ≡ fitsFrom s 0 n total
+  unfolding fitsFrom from all
+  fit-end h = let e : n - i ≡ 0 = omega arith in sym (so-far ∙ rw e)
+
+  module _ (more : i < n) (start len : ℕ) (begins : start ≡ textStart s i) (lasts : len ≡ textLength s i) where
+    one-more : fitsFrom s i n total ≡ (leb (start + len) total && fitsFrom s (i + 1) n total)
+    unfolding fitsFrom from all
+    one-more = let e : n - i ≡ suc (n - (i + 1)) = omega arith in rw (e, add-one i, begins, lasts)
+
+    pub fit-next : start + len ≤ total → fitsFrom s 0 n total ≡ fitsFrom s (i + 1) n total
+    fit-next h = so-far ∙ one-more ∙ rw (le-leb (start + len) total h)
+
+    pub fit-over : total < start + len → false ≡ fitsFrom s 0 n total
+    fit-over h = sym (so-far ∙ one-more ∙ rw (lt-leb (start + len) total h))
+
+-- ---- well formed
+
+module _ (s : Bytes) where
+  pub bad-short : length s < 8 → false ≡ wellFormed s
+  unfolding wellFormed
+  bad-short h = rw (lt-leb 8 (length s) h)
+
+  module _ (sized : 8 ≤ length s) (n total : ℕ) (count : n ≡ u32At s 0) (bytes : total ≡ u32At s 4) where
+    pub bad-count : most-texts < n → false ≡ wellFormed s
+    unfolding wellFormed textCount
+    bad-count h = rw (le-leb 8 (length s) sized, ← count, lt-leb n most-texts h)
+
+    module _ (few : n ≤ most-texts) where
+      pub bad-length : length s ≢ 8 + 8 * n + total → false ≡ wellFormed s
+      unfolding wellFormed textCount textBytes
+      bad-length h = rw (le-leb 8 (length s) sized, ← count, ← bytes, le-leb n most-texts few, ne-eqb (length s) (8 + 8 * n + total) h)
+
+      pub good-if : length s ≡ 8 + 8 * n + total → (r : Bool) → r ≡ fitsFrom s 0 n total → r ≡ wellFormed s
+      unfolding wellFormed textCount textBytes fitsFrom
+      good-if h r e =
+          let all-of : n - 0 ≡ n = omega arith in
+          e ∙ sym (rw (le-leb 8 (length s) sized, ← count, ← bytes, le-leb n most-texts few, eq-eqb (length s) (8 + 8 * n + total) h, all-of))
+
+-- ---- what a well-formed bundle says
+
+from-member : (a n k : ℕ) → a ≤ k → k < a + n → Member k (from a n)
+unfolding from
+from-member a zero k h l = absurd (omega arith)
+from-member a (suc n) k h l = go (eqb k a) refl (λ m. from-member (suc a) n k m (omega arith))
+  where
+    go : (t : Bool) → eqb k a ≡ t → (suc a ≤ k → Member k (from (suc a) n)) → Member k (a ∷ from (suc a) n)
+    go true e rest = here (eqb-true k a e)
+    go false e rest = there (rest (omega (arith, eqb-false k a e)))
+
+module _ (s : Bytes) (well : wellFormed s ≡ true) where
+  abbrev sized : Bool
+  sized = leb 8 (length s)
+
+  abbrev few : Bool
+  few = leb (textCount s) most-texts
+
+  abbrev long : Bool
+  long = eqb (length s) (8 + 8 * textCount s + textBytes s)
+
+  abbrev inside : ℕ → Bool
+  inside i = leb (textStart s i + textLength s i) (textBytes s)
+
+  abbrev each-inside : Bool
+  each-inside = all inside (from 0 (textCount s))
+
+  first-three : (sized && few && long) ≡ true
+  unfolding wellFormed
+  first-three = and-left (sized && few && long) each-inside well
+
+  first-two : (sized && few) ≡ true
+  first-two = and-left (sized && few) long first-three
+
+  pub well-sized : 8 ≤ length s
+  well-sized = leb-true 8 (length s) (and-left sized few first-two)
+
+  pub well-few : textCount s ≤ most-texts
+  well-few = leb-true (textCount s) most-texts (and-right sized few first-two)
+
+  pub counted-few : (n : ℕ) → n ≡ u32At s 0 → n ≤ most-texts
+  unfolding textCount
+  counted-few n e = rw e well-few
+
+  pub well-length : length s ≡ 8 + 8 * textCount s + textBytes s
+  well-length = eqb-true (length s) (8 + 8 * textCount s + textBytes s) (and-right (sized && few) long first-three)
+
+  pub well-text : (i : ℕ) → i < textCount s → textStart s i + textLength s i ≤ textBytes s
+  unfolding wellFormed
+  well-text i h =
+      leb-true (textStart s i + textLength s i) (textBytes s)
+      (all-each inside (from 0 (textCount s)) (and-right (sized && few && long) each-inside well) i (from-member 0 (textCount s) i (omega arith) (omega arith)))
+
+-- the place of a text
+module _ (s : Bytes) (i : ℕ) (well : wellFormed s ≡ true) (h : i < textCount s) where
+  pub start-room : 8 + 4 * i + 4 ≤ length s
+  start-room = omega (arith, well-length s well)
+
+  module _ (n : ℕ) (count : n ≡ textCount s) where
+    pub length-room : 8 + 4 * n + 4 * i + 4 ≤ length s
+    length-room = omega (arith, well-length s well)
+
+    module _ (start len : ℕ) (begins : start ≡ textStart s i) (lasts : len ≡ textLength s i) where
+      pub part-is : (p : Part) → p ≡ record { start = 8 + 8 * n + start; len = len } → p ≡ partAt s i
+      part-is p e = e ∙ rw (count, begins, lasts)
+
+      pub part-inside : 8 + 8 * n + start + len ≤ length s
+      part-inside = omega (arith, well-length s well, well-text s well i h)
