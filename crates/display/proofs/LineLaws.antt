@@ -7,8 +7,6 @@ use mathlib.Core.Option.{none, some}
 use native.Mathlib.Omega.{arith}
 use lib.Dec.{leb, lit≤}
 use lib.ListN.{length, take, drop}
-use mir.Val.{Fits}
-use mir.Syntax.{w64}
 use borrow.Author.Tests.{leb-true, le-leb, lt-leb}
 use Rattle.model.specs.declared.Fault.the-variants.{PartOutside, OutputTooShort}
 use Rattle.model.specs.declared.Kind.{Kind}
@@ -20,7 +18,7 @@ use Rattle.model.specs.declared.Checksum.the-variants as C
 use Rattle.model.specs.declared.Record.{Record}
 use Rattle.model.specs.declared.Record.the-variants.{TestName, SourceFile, FunctionName, FunctionData, FunctionsFound, FunctionsHit, BranchData, BranchesFound, BranchesHit, LineData, LinesFound, LinesHit, EndOfRecord}
 use Rattle.model.specs.Bytes.{Bytes, ascii, joined}
-use Rattle.model.specs.Answer.{accepted, refuse, refuseLength}
+use Rattle.model.specs.Answer.{Answer, accepted, refused, _>>=_, refuse, refuseLength}
 use Rattle.model.specs.Number.{decimal}
 use Rattle.model.specs.Record as Model
 use Rattle.model.specs.Tags.{defaultTag}
@@ -30,7 +28,9 @@ use Rattle.model.specs.Output.{written, outputAfter}
 use Rattle.model.specs.Calls.{writeAnswer}
 use Rattle.model.specs.Parts.{partOf, takenIn, checksumIn, recordIn, printLine}
 use Rattle.text.specs.Put.{over}
+use Rattle.text.proofs.PutLaws.{written-fits}
 use Rattle.display.specs.Shape.{ShapeOf, separated, shown, lastLen, lastField, inside, sepAfter, headOf, shapeFields, shapeLine, neededAt, kindOf, numbersOf, lastOf}
+use Rattle.display.specs.Lines.{lineOf, lineIn}
 use Rattle.display.specs.declared.shape.Last.{Last}
 use Rattle.display.specs.declared.shape.Last.the-variants as L
 use Rattle.display.specs.declared.shape.Shape.{Shape}
@@ -58,13 +58,8 @@ line-fields : (kind : Kind) (f : Bytes) (fs : List Bytes) → printFields defaul
 unfolding printFields separated
 line-fields kind f fs = ap (λ (l : Bytes). defaultTag kind ++ (58 ∷ l) ++ (10 ∷ [])) (sym (commas f fs))
 
-module _ (t : Bytes) (room : ℕ) where
-  -- it is the line of the record that the lent record is
-  line-of : (a : Record) (made : Model.Record) → recordIn t a ≡ accepted made → printRecord defaultTag made ++ (10 ∷ []) ≡ printed t a → printLine defaultTag t a room ≡ written room (printed t a)
-  unfolding printLine
-  line-of a made e q = rw (e, q)
-
-  part-there : (p : Part) → leb (p .start + p .len) (length t) ≡ true → partOf t p ≡ accepted (take (p .len) (drop (p .start) t))
+module _ (t : Bytes) where
+  pub part-there : (p : Part) → leb (p .start + p .len) (length t) ≡ true → partOf t p ≡ accepted (take (p .len) (drop (p .start) t))
   unfolding partOf
   part-there p e = rw e
 
@@ -72,23 +67,32 @@ module _ (t : Bytes) (room : ℕ) where
   unfolding partOf
   part-not p e = rw e
 
-  line-inside : (a : Record) → inside (length t) (lastOf a) ≡ true → printLine defaultTag t a room ≡ written room (printed t a)
+  record-inside : (a : Record) → inside (length t) (lastOf a) ≡ true → (made : Model.Record) × (recordIn t a ≡ accepted made) × (printRecord defaultTag made ++ (10 ∷ []) ≡ printed t a)
   unfolding inside recordIn takenIn checksumIn printRecord printFields printTaken printChecksum joined printed separated lastField
-  line-inside (TestName p) e = line-of (TestName p) (Model.testName (take (p .len) (drop (p .start) t))) (rw (part-there p e)) (line-fields Kd.TestName (take (p .len) (drop (p .start) t)) [])
-  line-inside (SourceFile p) e = line-of (SourceFile p) (Model.sourceFile (take (p .len) (drop (p .start) t))) (rw (part-there p e)) (line-fields Kd.SourceFile (take (p .len) (drop (p .start) t)) [])
-  line-inside (FunctionName n p) e = line-of (FunctionName n p) (Model.functionName n (take (p .len) (drop (p .start) t))) (rw (part-there p e)) (line-fields Kd.FunctionName (decimal n) (take (p .len) (drop (p .start) t) ∷ []))
-  line-inside (FunctionData n p) e = line-of (FunctionData n p) (Model.functionData n (take (p .len) (drop (p .start) t))) (rw (part-there p e)) (line-fields Kd.FunctionData (decimal n) (take (p .len) (drop (p .start) t) ∷ []))
-  line-inside (FunctionsFound n) e = line-of (FunctionsFound n) (Model.functionsFound n) refl (line-fields Kd.FunctionsFound (decimal n) [])
-  line-inside (FunctionsHit n) e = line-of (FunctionsHit n) (Model.functionsHit n) refl (line-fields Kd.FunctionsHit (decimal n) [])
-  line-inside (BranchData l b c (T.Given n)) e = line-of (BranchData l b c (T.Given n)) (Model.branchData l b c (some n)) refl (line-fields Kd.BranchData (decimal l) (decimal b ∷ decimal c ∷ decimal n ∷ []))
-  line-inside (BranchData l b c T.Absent) e = line-of (BranchData l b c T.Absent) (Model.branchData l b c none) refl (line-fields Kd.BranchData (decimal l) (decimal b ∷ decimal c ∷ ascii "-" ∷ []))
-  line-inside (BranchesFound n) e = line-of (BranchesFound n) (Model.branchesFound n) refl (line-fields Kd.BranchesFound (decimal n) [])
-  line-inside (BranchesHit n) e = line-of (BranchesHit n) (Model.branchesHit n) refl (line-fields Kd.BranchesHit (decimal n) [])
-  line-inside (LineData l n (C.Given p)) e = line-of (LineData l n (C.Given p)) (Model.lineData l n (some (take (p .len) (drop (p .start) t)))) (rw (part-there p e)) (line-fields Kd.LineData (decimal l) (decimal n ∷ take (p .len) (drop (p .start) t) ∷ []))
-  line-inside (LineData l n C.Absent) e = line-of (LineData l n C.Absent) (Model.lineData l n none) refl (line-fields Kd.LineData (decimal l) (decimal n ∷ []))
-  line-inside (LinesFound n) e = line-of (LinesFound n) (Model.linesFound n) refl (line-fields Kd.LinesFound (decimal n) [])
-  line-inside (LinesHit n) e = line-of (LinesHit n) (Model.linesHit n) refl (line-fields Kd.LinesHit (decimal n) [])
-  line-inside EndOfRecord e = line-of EndOfRecord Model.endOfRecord refl (ap (λ (l : Bytes). l ++ (10 ∷ [])) (sym (append-nil (defaultTag Kd.EndOfRecord))))
+  record-inside (TestName p) e = (Model.testName (take (p .len) (drop (p .start) t)), rw (part-there p e), line-fields Kd.TestName (take (p .len) (drop (p .start) t)) [])
+  record-inside (SourceFile p) e = (Model.sourceFile (take (p .len) (drop (p .start) t)), rw (part-there p e), line-fields Kd.SourceFile (take (p .len) (drop (p .start) t)) [])
+  record-inside (FunctionName n p) e = (Model.functionName n (take (p .len) (drop (p .start) t)), rw (part-there p e), line-fields Kd.FunctionName (decimal n) (take (p .len) (drop (p .start) t) ∷ []))
+  record-inside (FunctionData n p) e = (Model.functionData n (take (p .len) (drop (p .start) t)), rw (part-there p e), line-fields Kd.FunctionData (decimal n) (take (p .len) (drop (p .start) t) ∷ []))
+  record-inside (FunctionsFound n) e = (Model.functionsFound n, refl, line-fields Kd.FunctionsFound (decimal n) [])
+  record-inside (FunctionsHit n) e = (Model.functionsHit n, refl, line-fields Kd.FunctionsHit (decimal n) [])
+  record-inside (BranchData l b c (T.Given n)) e = (Model.branchData l b c (some n), refl, line-fields Kd.BranchData (decimal l) (decimal b ∷ decimal c ∷ decimal n ∷ []))
+  record-inside (BranchData l b c T.Absent) e = (Model.branchData l b c none, refl, line-fields Kd.BranchData (decimal l) (decimal b ∷ decimal c ∷ ascii "-" ∷ []))
+  record-inside (BranchesFound n) e = (Model.branchesFound n, refl, line-fields Kd.BranchesFound (decimal n) [])
+  record-inside (BranchesHit n) e = (Model.branchesHit n, refl, line-fields Kd.BranchesHit (decimal n) [])
+  record-inside (LineData l n (C.Given p)) e = (Model.lineData l n (some (take (p .len) (drop (p .start) t))), rw (part-there p e), line-fields Kd.LineData (decimal l) (decimal n ∷ take (p .len) (drop (p .start) t) ∷ []))
+  record-inside (LineData l n C.Absent) e = (Model.lineData l n none, refl, line-fields Kd.LineData (decimal l) (decimal n ∷ []))
+  record-inside (LinesFound n) e = (Model.linesFound n, refl, line-fields Kd.LinesFound (decimal n) [])
+  record-inside (LinesHit n) e = (Model.linesHit n, refl, line-fields Kd.LinesHit (decimal n) [])
+  record-inside EndOfRecord e = (Model.endOfRecord, refl, ap (λ (l : Bytes). l ++ (10 ∷ [])) (sym (append-nil (defaultTag Kd.EndOfRecord))))
+
+  -- its line is the line of the record that the lent record is
+  line-printed : (a : Record) → inside (length t) (lastOf a) ≡ true → lineIn t a ≡ printed t a
+  unfolding lineIn
+  line-printed a e = let (made, is, q) = record-inside a e in rw is q
+
+  line-inside : (a : Record) (room : ℕ) → inside (length t) (lastOf a) ≡ true → printLine defaultTag t a room ≡ written room (printed t a)
+  unfolding printLine
+  line-inside a room e = let (made, is, q) = record-inside a e in rw (is, q)
 
   no-way : {A : Type 0} → true ≡ false → A
   no-way e = let z : _≡_ {A = ℕ} 0 1 = cc in absurd (omega arith)
@@ -111,14 +115,15 @@ module _ (t : Bytes) (room : ℕ) where
   record-outside (LinesHit n) e = no-way e
   record-outside EndOfRecord e = no-way e
 
-  line-outside : (a : Record) → inside (length t) (lastOf a) ≡ false → printLine defaultTag t a room ≡ refuse PartOutside
+  none-outside : (a : Record) → inside (length t) (lastOf a) ≡ false → lineIn t a ≡ []
+  unfolding lineIn
+  none-outside a e = rw (record-outside a e)
+
+  line-outside : (a : Record) (room : ℕ) → inside (length t) (lastOf a) ≡ false → printLine defaultTag t a room ≡ refuse PartOutside
   unfolding printLine
-  line-outside a e = rw (record-outside a e)
+  line-outside a room e = rw (record-outside a e)
 
 module _ (t : Bytes) (a : Record) (s : Shape) (w : ShapeOf a s) where
-  pub shape-few : s .count ≤ 4
-  shape-few = w .few
-
   form : Kind → List ℕ → Last → Bytes
   form kind ns last = defaultTag kind ++ separated 58 (map decimal ns ++ lastField t last) ++ (10 ∷ [])
 
@@ -143,11 +148,14 @@ module _ (t : Bytes) (a : Record) (s : Shape) (w : ShapeOf a s) where
 
     pub print-outside : (room : ℕ) (q : Refusal) → r ≡ false → q ≡ neededAt PartOutside 0 → Refused q ≡ writeAnswer (printLine defaultTag t a room)
     unfolding writeAnswer
-    print-outside room q e f = rw (line-outside t room a (tested-of false e), f)
+    print-outside room q e f = rw (line-outside t a room (tested-of false e), f)
+
+    pub none-measured : r ≡ false → 0 ≡ length (lineIn t a)
+    none-measured e = rw (none-outside t a (tested-of false e))
 
     pub print-left : (out : Bytes) → r ≡ false → out ≡ outputAfter (printLine defaultTag t a (length out)) out
     unfolding outputAfter
-    print-left out e = rw (line-outside t (length out) a (tested-of false e))
+    print-left out e = rw (line-outside t a (length out) (tested-of false e))
 
     module _ (yes : r ≡ true) where
       pub print-within : inside (length t) (s .last) ≡ true
@@ -156,43 +164,80 @@ module _ (t : Bytes) (a : Record) (s : Shape) (w : ShapeOf a s) where
       pub last-most : length t * 1 < 2 ^ 63 → lastLen (s .last) ≤ 9223372036854775808
       last-most h = inside-most t (s .last) print-within h
 
-      module _ (h l : ℕ) (head : h ≡ length (headOf (s .kind) (s .numbers) (s .count))) (rest : l ≡ lastLen (s .last)) where
-        needed : h + l + 1 ≡ length (printed t a)
+      module _ (n : ℕ) (is : n ≡ length (headOf (s .kind) (s .numbers) (s .count)) + lastLen (s .last) + 1) where
+        needed : n ≡ length (printed t a)
         needed =
-            line-len t (s .kind) (s .count) (s .numbers) (s .last) (h + l) (fields-len t (s .kind) (s .count) (s .numbers) (s .last) h l print-within head rest)
+            is
+            ∙ line-len t (s .kind) (s .count) (s .numbers) (s .last) _ (fields-len t (s .kind) (s .count) (s .numbers) (s .last) _ _ print-within refl refl)
             ∙ ap length shape-printed
 
-        short : (room : ℕ) → room < h + l + 1 → printLine defaultTag t a room ≡ refuseLength (h + l + 1)
+        pub line-measured : n ≡ length (lineIn t a)
+        line-measured = needed ∙ ap length (sym (line-printed t a (tested-of true yes)))
+
+        short : (room : ℕ) → room < n → printLine defaultTag t a room ≡ refuseLength n
         unfolding written
-        short room k = line-inside t room a (tested-of true yes) ∙ rw (← needed, lt-leb (h + l + 1) room k)
+        short room k = line-inside t a room (tested-of true yes) ∙ rw (← needed, lt-leb n room k)
 
-        fits-in : (room : ℕ) → h + l + 1 ≤ room → printLine defaultTag t a room ≡ accepted (printed t a)
+        fits-in : (room : ℕ) → n ≤ room → printLine defaultTag t a room ≡ accepted (printed t a)
         unfolding written
-        fits-in room k = line-inside t room a (tested-of true yes) ∙ rw (← needed, le-leb (h + l + 1) room k)
+        fits-in room k = line-inside t a room (tested-of true yes) ∙ rw (← needed, le-leb n room k)
 
-        pub needed-fits : h ≤ 97 → length t * 1 < 2 ^ 63 → Fits w64 (h + l)
-        needed-fits k b = record { fits = omega (arith, last-most b) }
-
-        pub needed-fits-more : h ≤ 97 → length t * 1 < 2 ^ 63 → Fits w64 (h + l + 1)
-        needed-fits-more k b = record { fits = omega (arith, last-most b) }
-
-        pub print-short : (room : ℕ) (q : Refusal) → h ≤ 97 → length t * 1 < 2 ^ 63 → room < h + l + 1 → q ≡ neededAt OutputTooShort (h + l + 1) → Refused q ≡ writeAnswer (printLine defaultTag t a room)
+        pub print-short : (room : ℕ) (q : Refusal) → n ≤ 98 + lastLen (s .last) → length t * 1 < 2 ^ 63 → room < n → q ≡ neededAt OutputTooShort n → Refused q ≡ writeAnswer (printLine defaultTag t a room)
         unfolding writeAnswer
         print-short room q few b k f =
-            let m : min (h + l + 1) u64-max ≡ h + l + 1 = omega (arith, last-most b) in
+            let m : min n u64-max ≡ n = omega (arith, last-most b) in
             rw (short room k, f, m)
 
-        pub print-kept : (out : Bytes) → length out < h + l + 1 → out ≡ outputAfter (printLine defaultTag t a (length out)) out
+        pub print-kept : (out : Bytes) → length out < n → out ≡ outputAfter (printLine defaultTag t a (length out)) out
         unfolding outputAfter
         print-kept out k = rw (short (length out) k)
 
-        pub print-room : (room : ℕ) → h + l + 1 ≤ room → length (shapeLine t (s .kind) (s .numbers) (s .count) (s .last)) ≤ room
+        pub print-room : (room : ℕ) → n ≤ room → length (shapeLine t (s .kind) (s .numbers) (s .count) (s .last)) ≤ room
         print-room room k = rw (shape-printed, ← needed) k
 
-        pub print-written : (n room : ℕ) → h + l + 1 ≤ room → n ≡ length (shapeLine t (s .kind) (s .numbers) (s .count) (s .last)) → Written n ≡ writeAnswer (printLine defaultTag t a room)
+        pub print-written : (w room : ℕ) → n ≤ room → w ≡ length (shapeLine t (s .kind) (s .numbers) (s .count) (s .last)) → Written w ≡ writeAnswer (printLine defaultTag t a room)
         unfolding writeAnswer
-        print-written n room k e = rw (fits-in room k, e, shape-printed)
+        print-written w room k e = rw (fits-in room k, e, shape-printed)
 
-        pub print-out : (old out : Bytes) → h + l + 1 ≤ length old → out ≡ over (shapeLine t (s .kind) (s .numbers) (s .count) (s .last)) old → out ≡ outputAfter (printLine defaultTag t a (length old)) old
+        pub print-out : (old out : Bytes) → n ≤ length old → out ≡ over (shapeLine t (s .kind) (s .numbers) (s .count) (s .last)) old → out ≡ outputAfter (printLine defaultTag t a (length old)) old
         unfolding outputAfter
         print-out old out k e = rw (fits-in (length old) k) (rw shape-printed at e)
+
+-- ---- what the printer leaves, for callers with room
+
+pub line-made : (t : Bytes) (a : Record) (made : Model.Record) → recordIn t a ≡ accepted made → lineIn t a ≡ printRecord defaultTag made ++ (10 ∷ [])
+unfolding lineIn
+line-made t a made e = rw e
+
+-- what the printer answers, and leaves in an output with room for the line
+module _ (old : Bytes) where
+  abbrev answer : Answer Model.Record → Answer Bytes
+  answer made = made >>= λ m. written (length old) (lineOf (accepted m))
+
+  answer-out : (made : Answer Model.Record) → length (lineOf made) ≤ length old → outputAfter (answer made) old ≡ over (lineOf made) old
+  unfolding outputAfter
+  answer-out (accepted m) h = rw (written-fits (printRecord defaultTag m ++ (10 ∷ [])) (length old) h)
+  answer-out (refused r) h = refl
+
+  answer-written : (made : Answer Model.Record) (n : ℕ) → length (lineOf made) ≤ length old → Written n ≡ writeAnswer (answer made) → n ≡ length (lineOf made)
+  unfolding writeAnswer
+  answer-written (accepted m) n h e = let q = rw (written-fits (printRecord defaultTag m ++ (10 ∷ [])) (length old) h) at e in cc
+  answer-written (refused r) n h e = cc
+
+  answer-refused : (made : Answer Model.Record) (q : Refusal) → length (lineOf made) ≤ length old → Refused q ≡ writeAnswer (answer made) → lineOf made ≡ []
+  unfolding writeAnswer
+  answer-refused (accepted m) q h e = let q = rw (written-fits (printRecord defaultTag m ++ (10 ∷ [])) (length old) h) at e in cc
+  answer-refused (refused r) q h e = refl
+
+  module _ (t : Bytes) (a : Record) (room : length (lineIn t a) ≤ length old) where
+    pub lent-out : outputAfter (printLine defaultTag t a (length old)) old ≡ over (lineIn t a) old
+    unfolding printLine lineIn
+    lent-out = answer-out (recordIn t a) room
+
+    pub lent-written : (n : ℕ) → Written n ≡ writeAnswer (printLine defaultTag t a (length old)) → n ≡ length (lineIn t a)
+    unfolding printLine lineIn
+    lent-written n e = answer-written (recordIn t a) n room e
+
+    pub lent-refused : (q : Refusal) → Refused q ≡ writeAnswer (printLine defaultTag t a (length old)) → lineIn t a ≡ []
+    unfolding printLine lineIn
+    lent-refused q e = answer-refused (recordIn t a) q room e

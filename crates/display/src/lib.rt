@@ -1,12 +1,12 @@
 // A record printed as a line: `Display for Record`, document 01's "The line printer tries 17, then 14".
 ghost use mathlib.Core.Path.{_≡_};
-ghost use Prim.Native.Nat.{_+_, _<_};
 ghost use lib.ListN.{length};
 ghost use Rattle.model.specs.Calls.{writeAnswer};
 ghost use Rattle.model.specs.Output.{outputAfter};
 ghost use Rattle.model.specs.Parts.{printLine};
 ghost use Rattle.model.specs.Tags.{defaultTag};
 ghost use Rattle.display.specs.Shape.{neededAt};
+ghost use Rattle.display.specs.Lines.{lineIn};
 
 mod put;
 mod shape;
@@ -29,22 +29,31 @@ fn refusal(fault: Fault, needed: u64) -> Refusal
     }
 }
 
+// The length of a record's line, with byte 10 after it. A record with a part outside text has no line, and 0 is its length.
+pub fn line_len(text: &[u8], record: Record) -> usize
+    ensures { λ r. ⌜ r ≡ length (lineIn (now (text .entry)) «record») ⌝ }
+{
+    let shape = shape::shape_of(record);
+    let last = shape.last;
+    if shape::is_inside(last, text.len()) {
+        return put::line_len(shape);
+    }
+    0
+}
+
 // Prints a record, whose text parts lie in text, with byte 10 after it.
 pub fn print_line(text: &[u8], record: Record, out: &mut [u8]) -> WriteAnswer
     ensures { λ r. ⌜ r ≡ writeAnswer (printLine defaultTag (now (text .entry)) «record» (length (now (out .entry)))) ⌝ }
     ensures { λ _. ⌜ now (out .exit) ≡ outputAfter (printLine defaultTag (now (text .entry)) «record» (length (now (out .entry)))) (now (out .entry)) ⌝ }
 {
     let shape = shape::shape_of(record);
-    let kind = shape.kind;
-    let numbers = shape.numbers;
-    let count = shape.count;
     let last = shape.last;
     if shape::is_inside(last, text.len()) {
-        let needed = put::head_len(kind, numbers, count) + shape::last_len(last) + 1;
+        let needed = put::line_len(shape);
         if out.len() < needed {
             return WriteAnswer::Refused(refusal(Fault::OutputTooShort, needed as u64));
         }
-        let n = put::put_line(kind, numbers, count, last, text, out);
+        let n = put::put_line(shape, text, out);
         return WriteAnswer::Written(n);
     }
     WriteAnswer::Refused(refusal(Fault::PartOutside, 0))

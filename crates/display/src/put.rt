@@ -7,7 +7,9 @@ ghost use lib.ListN.{length};
 ghost use Rattle.model.specs.Number.{decimal};
 ghost use Rattle.text.specs.Put.{over};
 ghost use Rattle.display.specs.Shape.{separated, shown, lastLen, lastField, inside, sepAfter, headOf, shapeFields, shapeLine};
+use crate::shape;
 use crate::shape::Last;
+use crate::shape::Shape;
 use crate::tag;
 use model::Kind;
 
@@ -88,11 +90,22 @@ fn sep_after(count: usize) -> u8
 }
 
 // The length of the tag and the numbers.
-pub fn head_len(kind: Kind, numbers: [u64; 4], count: usize) -> usize
+fn head_len(kind: Kind, numbers: [u64; 4], count: usize) -> usize
     requires { ⌜ count ≤ 4 ⌝ }
     ensures { λ r. ⌜ (r ≡ length (headOf kind numbers count)) × (r ≤ 97) ⌝ }
 {
     tag::tag_len(kind) + numbers_len(numbers, count)
+}
+
+// The length of a shape's line.
+pub fn line_len(shape: Shape) -> usize
+    requires { ⌜ (shape .count ≤ 4) × (lastLen (shape .last) ≤ 9223372036854775808) ⌝ }
+    ensures { λ r. ⌜ (r ≡ length (headOf (shape .kind) (shape .numbers) (shape .count)) + lastLen (shape .last) + 1) × (r ≤ 98 + lastLen (shape .last)) ⌝ }
+{
+    let kind = shape.kind;
+    let numbers = shape.numbers;
+    let last = shape.last;
+    head_len(kind, numbers, shape.count) + shape::last_len(last) + 1
 }
 
 // Writes the tag and the numbers at the front of out.
@@ -126,20 +139,16 @@ fn put_fields(
 }
 
 // Writes the line of a shape at the front of out.
-pub fn put_line(
-    kind: Kind,
-    numbers: [u64; 4],
-    count: usize,
-    last: Last,
-    text: &[u8],
-    out: &mut [u8],
-) -> usize
-    requires { ⌜ (count ≤ 4) × (inside (length (now text)) last ≡ true) ⌝ }
-    requires { ⌜ length (shapeLine (now text) kind numbers count last) ≤ length (now out) ⌝ }
-    ensures { λ r. ⌜ r ≡ length (shapeLine (now (text .entry)) kind numbers count last) ⌝ }
-    ensures { λ _. ⌜ now (out .exit) ≡ over (shapeLine (now (text .entry)) kind numbers count last) (now (out .entry)) ⌝ }
+pub fn put_line(shape: Shape, text: &[u8], out: &mut [u8]) -> usize
+    requires { ⌜ (shape .count ≤ 4) × (inside (length (now text)) (shape .last) ≡ true) ⌝ }
+    requires { ⌜ length (shapeLine (now text) (shape .kind) (shape .numbers) (shape .count) (shape .last)) ≤ length (now out) ⌝ }
+    ensures { λ r. ⌜ r ≡ length (shapeLine (now (text .entry)) (shape .kind) (shape .numbers) (shape .count) (shape .last)) ⌝ }
+    ensures { λ _. ⌜ now (out .exit) ≡ over (shapeLine (now (text .entry)) (shape .kind) (shape .numbers) (shape .count) (shape .last)) (now (out .entry)) ⌝ }
 {
-    let end = put_fields(kind, numbers, count, last, text, out);
+    let kind = shape.kind;
+    let numbers = shape.numbers;
+    let last = shape.last;
+    let end = put_fields(kind, numbers, shape.count, last, text, out);
     out[end] = 10;
     end + 1
 }

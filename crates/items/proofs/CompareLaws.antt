@@ -41,7 +41,7 @@ key-by (suc (suc zero)) p n s m l b h t x y z i = refl
 key-by (suc (suc (suc zero))) p n s m l b h t x y z i = refl
 key-by (suc (suc (suc (suc kind)))) p n s m l b h t x y z i = absurd (omega arith)
 
-key-of : (text : Bytes) (r : Row) → kindOf r ≤ line-kind → itemKey (itemOf text r) ≡ kindOf r ∷ restOf (kindOf r) text r
+pub key-of : (text : Bytes) (r : Row) → kindOf r ≤ line-kind → itemKey (itemOf text r) ≡ kindOf r ∷ restOf (kindOf r) text r
 unfolding itemOf
 key-of text r h = key-by (kindOf r) _ _ _ _ _ _ _ _ _ _ _ h
 

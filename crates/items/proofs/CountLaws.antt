@@ -31,7 +31,7 @@ withCount r n = record {
 pub inner-count : {text : Bytes} {r : Row} (n : ℕ) → Inner text r → Inner text (withCount r n)
 inner-count n ι = record { good = record { kind = ι .good .kind; name = ι .good .name; checksum = ι .good .checksum }; inner = ι .inner }
 
-function-item : (text : Bytes) (r : Row) → kindOf r ≡ function-kind
+pub function-item : (text : Bytes) (r : Row) → kindOf r ≡ function-kind
     → itemOf text r ≡ functionItem (part text (r .k1) (r .k2)) (ifGiven (r .tag % 2) (r .k3)) (r .count)
 unfolding itemOf
 function-item text r e = rw e

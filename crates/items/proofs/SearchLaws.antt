@@ -29,7 +29,7 @@ module _ {E K : Type 0} (key : E → K) (cmp : K → K → Ordering) where
   above-at k f (suc n) a zero h = a .0
   above-at k f (suc n) a (suc j) h = above-at k (λ i. f (suc i)) n (a .1) j (omega arith)
 
-  sorted-at : (f : ℕ → E) (n : ℕ) → Sorted key cmp (listed f n) → (i j : ℕ) → i < j → j < n → cmp (key (f i)) (key (f j)) ≡ Ordering·lt
+  pub sorted-at : (f : ℕ → E) (n : ℕ) → Sorted key cmp (listed f n) → (i j : ℕ) → i < j → j < n → cmp (key (f i)) (key (f j)) ≡ Ordering·lt
   unfolding listed
   sorted-at f zero s i j h l = absurd (omega arith)
   sorted-at f (suc n) s i zero h l = absurd (omega arith)
@@ -59,7 +59,7 @@ open-fewer {text} {ws} {index} {used} {at} {n} m h ο = record {
 -- ---- which items come before a key
 
 -- what a test of a comparison says
-is-lt : (o : Ordering) → isLess o ≡ true → o ≡ Ordering·lt
+pub is-lt : (o : Ordering) → isLess o ≡ true → o ≡ Ordering·lt
 is-lt Ordering·lt h = refl
 is-lt Ordering·eq h = cc
 is-lt Ordering·gt h = cc

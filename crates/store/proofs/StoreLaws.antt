@@ -138,30 +138,3 @@ module _ {ws ws₁ ws₂ ws₃ : List ℕ} (index used to from : ℕ) {n spare :
     up = λ k m p q e. μ₃ .kept .above (index + k) (omega arith) ∙ μ₂ .shifted (index + k) (index + m) (omega arith) (omega arith) (omega arith) ∙ μ₁ .kept .below (index + m) (omega arith);
     above = λ k p q. μ₃ .kept .above (index + k) (omega arith) ∙ μ₂ .kept .above (index + k) (omega arith) ∙ μ₁ .kept .below (index + k) (omega arith);
   }
-
--- ---- rows laid out in order
-
--- the first i rows are laid out
-pub record Laid (ws₀ ws : List ℕ) (index used to i : ℕ) : Type 0 where
-  pub store : Store ws index used
-  pub table : Shifted (row ws₀ index) (rowAt ws) 0 to i
-  pub rows : Same (row ws₀ index) (row ws index) 0 used
-
-pub laid-none : {ws : List ℕ} {index used : ℕ} (to : ℕ) → Store ws index used → Laid ws ws index used to 0
-laid-none to σ = record { store = σ; table = λ k m l h e. absurd (omega arith); rows = λ k l h. refl }
-
-pub laid-one : {ws₀ ws ws′ : List ℕ} {index used to i : ℕ} {r : Row} → Laid ws₀ ws index used to i → i < used → used ≤ to → (to + i) * row-words + row-words ≤ index
-    → length ws′ ≡ length ws → r ≡ row ws index i → Written ws ws′ (to + i) r → Laid ws₀ ws′ index used to (i + 1)
-unfolding row
-laid-one {ws₀} {ws} {ws′} {index} {used} {to} {i} ξ l h room len e w =
-    let same = written-numbers w room in
-    record {
-      store = same-numbers (ξ .store) len same;
-      table = λ k m p q x. by-eq k (to + i)
-          (λ y. let z : m ≡ i = omega arith in rw (y, z) (w .there ∙ e ∙ ξ .rows i (omega arith) l))
-          (λ y. other-row w k y ∙ ξ .table k m p (omega arith) x);
-      rows = λ k p q. ap (rowAt ws′) (same k) ∙ other-row w (number ws index k) (omega (arith, ξ .store .numbers .below k q)) ∙ ξ .rows k p q;
-    }
-
-pub laid-done : {ws₀ ws : List ℕ} {index used to i n : ℕ} → Laid ws₀ ws index used to i → i ≡ n → Laid ws₀ ws index used to n
-laid-done ξ e = rw e at ξ

@@ -5,7 +5,7 @@ ghost use mathlib.Core.Path.{_≡_};
 ghost use mathlib.Core.Logic.{_⊎_};
 ghost use Prim.Native.Nat.{_+_, _*_, _≤_, _<_};
 ghost use lib.ListN.{length};
-ghost use Rattle.store.specs.Places.{Same, Shifted, Put, Brought, Turned};
+ghost use Rattle.store.specs.Places.{Same, Put, Brought, Turned};
 ghost use Rattle.store.specs.Rows.{row-words, rowAt, Moved, Written};
 ghost use Rattle.store.specs.Store.{Store, row};
 
@@ -162,20 +162,5 @@ pub fn turn(
     bring_block(words, index, used, lo, mid, third, spare);
     if lo < hi {
         bring_block(words, index, used, lo + third, hi + third, mid - hi, spare);
-    }
-}
-
-// The first n rows are copied in the index's order to the rows from number `to` on, past those in use.
-pub fn lay_out(words: &mut [u64], index: usize, used: usize, n: usize, to: usize)
-    requires { ⌜ Store (now words) index used × (n ≤ used) × (used ≤ to) × ((to + n) * row-words ≤ index) ⌝ }
-    ensures store { λ _. ⌜ Store (now (words .exit)) index used ⌝ }
-    ensures table { λ _. ⌜ Shifted (row (now (words .entry)) index) (rowAt (now (words .exit))) 0 to n ⌝ }
-    ensures rows { λ _. ⌜ Same (row (now (words .entry)) index) (row (now (words .exit)) index) 0 used ⌝ }
-{
-    let mut i = 0;
-    while i < n {
-        let row = get(words, index, used, i);
-        write_row(words, to + i, row);
-        i += 1;
     }
 }

@@ -1,5 +1,5 @@
 use borrow.Author.Needs.{needs}
-use Rattle.display.proofs.LineLaws.{shape-few, last-most, needed-fits, needed-fits-more, print-short, print-kept, print-within, print-room, print-written, print-out, print-outside, print-left}
+use Rattle.display.proofs.LineLaws.{last-most, print-short, print-kept, print-within, print-room, print-written, print-out, print-outside, print-left}
 use Rattle.display.proofs.print_line.Statement.{statement}
 use Rattle.display.proofs.print_line.Tie as tie
 
@@ -9,13 +9,10 @@ print-line-spec =
     (tie.spec
     (λ c κs. search needs)
     (λ c κs. search needs)
-    (λ c κs. search (shape-few, needs))
     (λ c κs. search (last-most, needs))
-    (λ c. search (needed-fits, needs))
-    (λ c. search (needed-fits-more, needs))
     (λ c κs. search needs)
     (λ c. search (print-short, print-kept, needs))
-    (λ c κs. search (shape-few, print-within, print-room, needs))
+    (λ c κs. search (print-within, print-room, needs))
     (λ c. search needs)
     (λ c. search (print-written, print-out, needs))
     (λ c κs. search needs)

@@ -1,0 +1,187 @@
+-- Rows printed one after the other, and a group with its numbers of items found and hit. Assumes nothing.
+use Prim.Native.Nat.{ℕ, zero, suc, _+_, _-_, _*_, _^_, _≤_, _<_}
+use mathlib.Core.Path.{_≡_, refl, sym, ap, _∙_}
+use mathlib.Core.Bool.{Bool, true, false}
+use mathlib.Core.List.{List, [], _∷_, _++_, append-nil}
+use native.Mathlib.Omega.{arith}
+use native.Mathlib.Nat.{zero-add}
+use lib.Dec.{ltb}
+use lib.ListN.{length}
+use mir.Val as Val
+use mir.Syntax.{w32}
+use Rattle.store.specs.declared.Row.{Row}
+use Rattle.store.specs.Places.{listed}
+use Rattle.store.specs.Rows.{word, rowAt}
+use Rattle.store.proofs.ListedLaws.{length-listed, listed-split}
+use Rattle.model.specs.Bytes.{Bytes, newline}
+use Rattle.model.specs.Limits.{u32-max}
+use Rattle.model.specs.Lists.{select, each}
+use Rattle.model.specs.Record.{Record}
+use Rattle.model.specs.Report.{Item, countOf}
+use Rattle.model.specs.Line.{printRecord}
+use Rattle.model.specs.Tags.{defaultTag}
+use Rattle.model.specs.Valid.{Fits}
+use Rattle.model.specs.Printing.{dataRecord, hits, group, printRecords}
+use Rattle.model.proofs.ListLaws.{each-append, select-length}
+use Rattle.items.specs.Items.{itemOf, Good}
+use Rattle.emit.specs.Emit.{RoomFor, Emitted, Printable, numberedItem, hitOne}
+use Rattle.emit.proofs.EmitLaws.{room-first, room-then, emitted-size, emitted-both}
+
+abbrev pub lines : List Record → Bytes
+lines = printRecords defaultTag
+
+pub lines-append : (xs ys : List Record) → lines (xs ++ ys) ≡ lines xs ++ lines ys
+unfolding printRecords
+lines-append xs ys = each-append (λ r. printRecord defaultTag r ++ (newline ∷ [])) xs ys
+
+-- ---- two records, one after the other
+
+module _ (write : Bool) (out : Bytes) (at : ℕ) (x y : Record) (room : RoomFor write out at (lines (x ∷ y ∷ []))) where
+  split : RoomFor write out at (lines (x ∷ []) ++ lines (y ∷ []))
+  split = rw (lines-append (x ∷ []) (y ∷ [])) at room
+
+  pub two-first : RoomFor write out at (lines (x ∷ []))
+  two-first = room-first write out at (lines (x ∷ [])) (lines (y ∷ [])) split
+
+  module _ (few : length out * 1 < 2 ^ 63) {out₁ : Bytes} {r₁ : ℕ} (first : Emitted write out out₁ at (lines (x ∷ [])) r₁) where
+    pub two-then : RoomFor write out₁ r₁ (lines (y ∷ []))
+    two-then = room-then write out at (lines (x ∷ [])) (lines (y ∷ [])) split few first
+
+    pub two-emitted : {out₂ : Bytes} {r₂ : ℕ} → Emitted write out₁ out₂ r₁ (lines (y ∷ [])) r₂ → Emitted write out out₂ at (lines (x ∷ y ∷ [])) r₂
+    two-emitted second = rw (lines-append (x ∷ []) (y ∷ [])) (emitted-both write out at (lines (x ∷ [])) (lines (y ∷ [])) split few first second)
+
+-- ---- each row's records, for the first i of n rows
+
+module _ (records : Item → List Record) (f : ℕ → Item) where
+  abbrev pub printed : ℕ → Bytes
+  printed n = lines (each records (listed f n))
+
+  -- those from row i on
+  abbrev rest : ℕ → ℕ → Bytes
+  rest i n = lines (each records (listed (λ k. f (i + k)) n))
+
+  printed-split : (i n : ℕ) → printed (i + n) ≡ printed i ++ rest i n
+  printed-split i n =
+      ap (λ (l : List Item). lines (each records l)) (listed-split f i n)
+      ∙ ap lines (each-append records (listed f i) (listed (λ k. f (i + k)) n))
+      ∙ lines-append (each records (listed f i)) (each records (listed (λ k. f (i + k)) n))
+
+  printed-next : (i : ℕ) → printed (i + 1) ≡ printed i ++ lines (records (f i))
+  unfolding each listed
+  printed-next i =
+      printed-split i 1
+      ∙ ap (λ (l : List Record). printed i ++ lines l) (append-nil (records (f (i + 0))))
+      ∙ ap (λ (k : ℕ). printed i ++ lines (records (f k))) (let z : i + 0 ≡ i = omega arith in z)
+
+  -- the first i rows are emitted
+  module _ (write : Bool) (old : Bytes) (at n : ℕ) (all more : Bytes) (is : all ≡ printed n ++ more) (room : RoomFor write old at all) where
+    pub room-so-far : (i : ℕ) → i ≤ n → RoomFor write old at (printed i)
+    room-so-far i h =
+        let e : i + (n - i) ≡ n = omega arith in
+        let whole : printed n ≡ printed i ++ rest i (n - i) = ap printed (sym e) ∙ printed-split i (n - i) in
+        room-first write old at (printed i) (rest i (n - i)) (rw whole at (room-first write old at (printed n) more (rw is at room)))
+
+    room-next : (i : ℕ) → i < n → RoomFor write old at (printed i ++ lines (records (f i)))
+    room-next i h = rw (printed-next i) at (room-so-far (i + 1) (omega arith))
+
+    module _ (few : length old * 1 < 2 ^ 63) (out : Bytes) (end i : ℕ) (within : i < n) (so-far : Emitted write old out at (printed i) end) where
+      pub next-room : RoomFor write out end (lines (records (f i)))
+      next-room = room-then write old at (printed i) (lines (records (f i))) (room-next i within) few so-far
+
+      pub next-emitted : {out′ : Bytes} {r : ℕ} → Emitted write out out′ end (lines (records (f i))) r → Emitted write old out′ at (printed (i + 1)) r
+      next-emitted e = rw (printed-next i) (emitted-both write old at (printed i) (lines (records (f i))) (room-next i within) few so-far e)
+
+  pub printed-done : (i n : ℕ) → i ≤ n → n ≤ i → printed i ≡ printed n
+  printed-done i n h k = ap printed (let z : i ≡ n = omega arith in z)
+
+  pub printed-start : printed 0 ≡ []
+  unfolding printRecords each listed
+  printed-start = refl
+
+-- the n rows whose numbers stand from word `numbers` on are to be printed, and then more
+pub record Rows (records : Item → List Record) (text ws : List ℕ) (numbers n : ℕ) (write : Bool) (old : Bytes) (at : ℕ) (all more : Bytes) : Type 0 where
+  pub rows : Printable text ws numbers n
+  pub is : all ≡ printed records (numberedItem text ws numbers) n ++ more
+  pub room : RoomFor write old at all
+  pub few : length old * 1 < 2 ^ 63
+
+module _ {records : Item → List Record} {text ws : List ℕ} {numbers n : ℕ} {write : Bool} {old : Bytes} {at : ℕ} {all more : Bytes} (p : Rows records text ws numbers n write old at all more)
+    (out : Bytes) (end i : ℕ) (so-far : Emitted write old out at (printed records (numberedItem text ws numbers) i) end) where
+  pub rows-size : i ≤ n → length out ≡ length old
+  rows-size h = emitted-size (room-so-far records (numberedItem text ws numbers) write old at n all more (p .is) (p .room) i h) so-far
+
+  pub rows-more : i ≤ n → n ≤ i → RoomFor write out end more
+  rows-more h k =
+      room-then write old at (printed records (numberedItem text ws numbers) n) more (rw (p .is) at (p .room)) (p .few)
+      (rw (printed-done records (numberedItem text ws numbers) i n h k) at so-far)
+
+  pub rows-emitted : i ≤ n → n ≤ i → {out′ : Bytes} {r : ℕ} → Emitted write out out′ end more r → Emitted write old out′ at all r
+  rows-emitted h k e =
+      rw (p .is)
+      (emitted-both write old at (printed records (numberedItem text ws numbers) n) more (rw (p .is) at (p .room)) (p .few)
+      (rw (printed-done records (numberedItem text ws numbers) i n h k) at so-far) e)
+
+  module _ (within : i < n) (row : Row) (here : row ≡ rowAt ws (word ws (numbers + i))) where
+    pub row-ready : (Good text row × Fits (itemOf text row)) × RoomFor write out end (lines (records (itemOf text row)))
+    row-ready =
+        rw here (
+          (p .rows .good i within, p .rows .fits i within),
+          next-room records (numberedItem text ws numbers) write old at n all more (p .is) (p .room) (p .few) out end i within so-far,
+        )
+
+    pub row-emitted : {out′ : Bytes} {r : ℕ} → Emitted write out out′ end (lines (records (itemOf text row))) r → Emitted write old out′ at (printed records (numberedItem text ws numbers) (i + 1)) r
+    row-emitted e = next-emitted records (numberedItem text ws numbers) write old at n all more (p .is) (p .room) (p .few) out end i within so-far (rw here at e)
+
+-- ---- how many are hit
+
+hits-append : (xs ys : List Item) → hits (xs ++ ys) ≡ hits xs + hits ys
+unfolding hits select
+hits-append [] ys = sym (zero-add (hits ys))
+hits-append (x ∷ xs) ys = go (ltb 0 (countOf x)) refl (hits-append xs ys)
+  where
+    go : (b : Bool) → ltb 0 (countOf x) ≡ b → hits (xs ++ ys) ≡ hits xs + hits ys → hits ((x ∷ xs) ++ ys) ≡ hits (x ∷ xs) + hits ys
+    go true e h = rw (e, select) (omega (arith, h))
+    go false e h = rw (e, select) h
+
+hits-one : (x : Item) → hits (x ∷ []) ≡ hitOne x
+unfolding hits select
+hits-one x = go (ltb 0 (countOf x)) refl
+  where
+    go : (b : Bool) → ltb 0 (countOf x) ≡ b → hits (x ∷ []) ≡ hitOne x
+    go true e = rw (e, select)
+    go false e = rw (e, select)
+
+module _ (f : ℕ → Item) where
+  pub hits-start : 0 ≡ hits (listed f 0)
+  unfolding hits select listed
+  hits-start = refl
+
+  pub hits-next : (i h d : ℕ) → h ≡ hits (listed f i) → d ≡ hitOne (f i) → h + d ≡ hits (listed f (i + 1))
+  unfolding listed
+  hits-next i h d e q =
+      let z : i + 0 ≡ i = omega arith in
+      rw (e, q) (sym (ap hits (listed-split f i 1) ∙ hits-append (listed f i) (f (i + 0) ∷ []) ∙ rw (z, hits-one)))
+
+  pub hits-done : (i n h : ℕ) → i ≤ n → n ≤ i → h ≡ hits (listed f i) → h ≡ hits (listed f n)
+  hits-done i n h a b e = e ∙ ap (λ (k : ℕ). hits (listed f k)) (let z : i ≡ n = omega arith in z)
+
+  hits-most : (i : ℕ) → hits (listed f i) ≤ i
+  unfolding hits
+  hits-most i = rw (length-listed f i) at (select-length (λ x. ltb 0 (countOf x)) (listed f i))
+
+  pub hits-fit : (i n h d : ℕ) → h ≡ hits (listed f i) → d ≤ 1 → i < n → n ≤ u32-max → Val.Fits w32 (h + d)
+  hits-fit i n h d e q k m = record { fits = omega (arith, hits-most i) }
+
+-- ---- a group
+
+module _ (found hit : ℕ → Record) (f : ℕ → Item) where
+  pub group-none : (n : ℕ) → n ≡ 0 → lines (group found hit (listed f n)) ≡ []
+  unfolding printRecords each group listed
+  group-none n e = rw e
+
+  pub group-is : (n : ℕ) → 0 < n → lines (group found hit (listed f n)) ≡ printed dataRecord f n ++ lines (found n ∷ hit (hits (listed f n)) ∷ [])
+  unfolding group listed
+  group-is zero h = absurd (omega arith)
+  group-is (suc n) h =
+      lines-append (each dataRecord (listed f (suc n))) (found (length (listed f (suc n))) ∷ hit (hits (listed f (suc n))) ∷ [])
+      ∙ ap (λ (k : ℕ). printed dataRecord f (suc n) ++ lines (found k ∷ hit (hits (listed f (suc n))) ∷ [])) (length-listed f (suc n))

@@ -1,0 +1,243 @@
+// Rows printed as lines (document 01, "Printing"), in one code for two passes: one that only measures, where the place runs on, held at
+// 2^64 − 1, and one that writes: "Each line is written into the rest of the output".
+use model::Checksum;
+use model::Part;
+use model::Record;
+use model::Taken;
+use model::WriteAnswer;
+use store::Row;
+ghost use mathlib.Core.Path.{_≡_};
+ghost use mathlib.Core.List.{List, [], _∷_};
+ghost use Prim.Native.Nat.{ℕ, _+_, _%_, _≤_};
+ghost use lib.ListN.{length};
+ghost use Rattle.store.specs.Places.{listed};
+ghost use Rattle.model.specs.Lists.{each};
+ghost use Rattle.model.specs.Answer.{accepted};
+ghost use Rattle.model.specs.Limits.{u32-max};
+ghost use Rattle.model.specs.Record.{testName, sourceFile, endOfRecord};
+ghost use Rattle.model.specs.Tags.{defaultTag};
+ghost use Rattle.model.specs.Parts.{recordIn};
+ghost use Rattle.model.specs.Printing.{startRecord, dataRecord, group, printRecords};
+ghost use Rattle.model.specs.Valid.{Fits};
+ghost use Rattle.items.specs.Items.{part, itemOf, Good};
+ghost use Rattle.display.specs.Lines.{lineIn};
+ghost use Rattle.emit.specs.Emit.{RoomFor, Emitted, Printable, numberedItem, foundOf, hitOf, lentPart, lentTaken, lentChecksum, hitOne};
+
+// One record's line. A record with a part outside text has none.
+pub fn emit_record(text: &[u8], record: Record, out: &mut [u8], at: usize, write: bool) -> usize
+    requires { ⌜ RoomFor write (now out) at (lineIn (now text) «record») ⌝ }
+    ensures { λ r. ⌜ Emitted write (now (out .entry)) (now (out .exit)) at (lineIn (now (text .entry)) «record») r ⌝ }
+{
+    if write {
+        let wrote = display::print_line(text, record, &mut out[at..]);
+        let WriteAnswer::Written(n) = wrote else {
+            return at;
+        };
+        return at + n;
+    }
+    let n = display::line_len(text, record);
+    if 0xffff_ffff_ffff_ffff - at < n {
+        return 0xffff_ffff_ffff_ffff;
+    }
+    at + n
+}
+
+// FN, where a function has a start.
+pub fn emit_start(text: &[u8], row: Row, out: &mut [u8], at: usize, write: bool) -> usize
+    requires { ⌜ Good (now text) row × Fits (itemOf (now text) row) ⌝ }
+    requires { ⌜ RoomFor write (now out) at (printRecords defaultTag (startRecord (itemOf (now text) row))) ⌝ }
+    ensures { λ r. ⌜ Emitted write (now (out .entry)) (now (out .exit)) at (printRecords defaultTag (startRecord (itemOf (now (text .entry)) row))) r ⌝ }
+{
+    if row.tag != items::FUNCTION * 2 + 1 {
+        return at;
+    }
+    let record = Record::FunctionName {
+        start: row.k3 as u32,
+        name: part_of(row.k1, row.k2),
+    };
+    emit_record(text, record, out, at, write)
+}
+
+fn part_of(start: u64, len: u64) -> Part
+    ensures { λ r. ⌜ r ≡ lentPart start len ⌝ }
+{
+    Part {
+        start: start as usize,
+        len: len as usize,
+    }
+}
+
+fn taken_of(row: Row) -> Taken
+    ensures { λ r. ⌜ r ≡ lentTaken (row .tag % 2) (row .count) ⌝ }
+{
+    if row.tag % 2 == 0 {
+        return Taken::Absent;
+    }
+    Taken::Given(row.count)
+}
+
+fn checksum_of(row: Row) -> Checksum
+    ensures { λ r. ⌜ r ≡ lentChecksum (row .tag % 2) (row .k2) (row .k3) ⌝ }
+{
+    if row.tag % 2 == 0 {
+        return Checksum::Absent;
+    }
+    Checksum::Given(part_of(row.k2, row.k3))
+}
+
+// FNDA, BRDA or DA.
+pub fn emit_data(text: &[u8], row: Row, out: &mut [u8], at: usize, write: bool) -> usize
+    requires { ⌜ Good (now text) row × Fits (itemOf (now text) row) ⌝ }
+    requires { ⌜ RoomFor write (now out) at (printRecords defaultTag (dataRecord (itemOf (now text) row))) ⌝ }
+    ensures { λ r. ⌜ Emitted write (now (out .entry)) (now (out .exit)) at (printRecords defaultTag (dataRecord (itemOf (now (text .entry)) row))) r ⌝ }
+{
+    let kind = row.tag / 2;
+    if kind == items::FUNCTION {
+        let record = Record::FunctionData {
+            count: row.count,
+            name: part_of(row.k1, row.k2),
+        };
+        return emit_record(text, record, out, at, write);
+    }
+    if kind == items::BRANCH {
+        let record = Record::BranchData {
+            line: row.k1 as u32,
+            block: row.k2 as u32,
+            branch: row.k3 as u32,
+            taken: taken_of(row),
+        };
+        return emit_record(text, record, out, at, write);
+    }
+    if kind == items::LINE {
+        let record = Record::LineData {
+            line: row.k1 as u32,
+            count: row.count,
+            checksum: checksum_of(row),
+        };
+        return emit_record(text, record, out, at, write);
+    }
+    at
+}
+
+// Every FN of the n rows whose numbers stand from word `numbers` on.
+pub fn emit_starts(
+    text: &[u8],
+    words: &[u64],
+    numbers: usize,
+    n: usize,
+    out: &mut [u8],
+    at: usize,
+    write: bool,
+) -> usize
+    requires { ⌜ Printable (now text) (now words) numbers n ⌝ }
+    requires { ⌜ RoomFor write (now out) at (printRecords defaultTag (each startRecord (listed (numberedItem (now text) (now words) numbers) n))) ⌝ }
+    ensures { λ r. ⌜ Emitted write (now (out .entry)) (now (out .exit)) at (printRecords defaultTag (each startRecord (listed (numberedItem (now (text .entry)) (now (words .entry)) numbers) n))) r ⌝ }
+{
+    let mut end = at;
+    let mut i = 0;
+    while i < n {
+        let j = words[numbers + i] as usize;
+        let row = store::read_row(words, j);
+        end = emit_start(text, row, out, end, write);
+        i += 1;
+    }
+    end
+}
+
+// 1 for a row that is hit: its count is above 0. A branch with no taken count, and a section's own row, count 0.
+fn hit_of(row: Row) -> u32
+    ensures { λ r. ⌜ ((text : List ℕ) → r ≡ hitOne (itemOf text row)) × (r ≤ 1) ⌝ }
+{
+    if row.count == 0 {
+        return 0;
+    }
+    if row.tag < items::FUNCTION * 2 {
+        return 0;
+    }
+    if row.tag == items::BRANCH * 2 {
+        return 0;
+    }
+    1
+}
+
+// FNF, BRF or LF.
+fn found_record(kind: u64, n: u32) -> Record
+    requires { ⌜ 1 ≤ kind ⌝ }
+    ensures { λ r. ⌜ ((text : List ℕ) → recordIn text r ≡ accepted (foundOf kind n)) ⌝ }
+{
+    if kind == items::FUNCTION {
+        return Record::FunctionsFound(n);
+    }
+    if kind == items::BRANCH {
+        return Record::BranchesFound(n);
+    }
+    Record::LinesFound(n)
+}
+
+// FNH, BRH or LH.
+fn hit_record(kind: u64, n: u32) -> Record
+    requires { ⌜ 1 ≤ kind ⌝ }
+    ensures { λ r. ⌜ ((text : List ℕ) → recordIn text r ≡ accepted (hitOf kind n)) ⌝ }
+{
+    if kind == items::FUNCTION {
+        return Record::FunctionsHit(n);
+    }
+    if kind == items::BRANCH {
+        return Record::BranchesHit(n);
+    }
+    Record::LinesHit(n)
+}
+
+// The data of the n rows whose numbers stand from word `numbers` on, how many were found and how many hit: "a loop that carries the hit
+// number". An empty group prints nothing.
+pub fn emit_group(
+    text: &[u8],
+    words: &[u64],
+    kind: u64,
+    numbers: usize,
+    n: usize,
+    out: &mut [u8],
+    at: usize,
+    write: bool,
+) -> usize
+    requires { ⌜ Printable (now text) (now words) numbers n ⌝ }
+    requires { ⌜ (1 ≤ kind) × (kind ≤ 3) × (n ≤ u32-max) ⌝ }
+    requires { ⌜ RoomFor write (now out) at (printRecords defaultTag (group (foundOf kind) (hitOf kind) (listed (numberedItem (now text) (now words) numbers) n))) ⌝ }
+    ensures { λ r. ⌜ Emitted write (now (out .entry)) (now (out .exit)) at (printRecords defaultTag (group (foundOf kind) (hitOf kind) (listed (numberedItem (now (text .entry)) (now (words .entry)) numbers) n))) r ⌝ }
+{
+    if n == 0 {
+        return at;
+    }
+    let mut end = at;
+    let mut hit = 0;
+    let mut i = 0;
+    while i < n {
+        let j = words[numbers + i] as usize;
+        let row = store::read_row(words, j);
+        end = emit_data(text, row, out, end, write);
+        hit = hit + hit_of(row);
+        i += 1;
+    }
+    let found = emit_record(text, found_record(kind, n as u32), out, end, write);
+    emit_record(text, hit_record(kind, hit), out, found, write)
+}
+
+// TN and SF of a section's own row.
+pub fn emit_head(text: &[u8], row: Row, out: &mut [u8], at: usize, write: bool) -> usize
+    requires { ⌜ (row .test + row .«test_len» ≤ length (now text)) × (row .path + row .«path_len» ≤ length (now text)) ⌝ }
+    requires { ⌜ RoomFor write (now out) at (printRecords defaultTag (testName (part (now text) (row .test) (row .«test_len»)) ∷ sourceFile (part (now text) (row .path) (row .«path_len»)) ∷ [])) ⌝ }
+    ensures { λ r. ⌜ Emitted write (now (out .entry)) (now (out .exit)) at (printRecords defaultTag (testName (part (now (text .entry)) (row .test) (row .«test_len»)) ∷ sourceFile (part (now (text .entry)) (row .path) (row .«path_len»)) ∷ [])) r ⌝ }
+{
+    let test = part_of(row.test, row.test_len);
+    let end = emit_record(text, Record::TestName(test), out, at, write);
+    let path = part_of(row.path, row.path_len);
+    emit_record(text, Record::SourceFile(path), out, end, write)
+}
+
+// end_of_record.
+pub fn emit_end(text: &[u8], out: &mut [u8], at: usize, write: bool) -> usize
+    requires { ⌜ RoomFor write (now out) at (printRecords defaultTag (endOfRecord ∷ [])) ⌝ }
+    ensures { λ r. ⌜ Emitted write (now (out .entry)) (now (out .exit)) at (printRecords defaultTag (endOfRecord ∷ [])) r ⌝ }
+{
+    emit_record(text, Record::EndOfRecord, out, at, write)
+}

@@ -1,0 +1,123 @@
+-- A text of a bundle read behind the joined table. Assumes nothing.
+use Prim.Native.Nat.{ℕ, _+_, _*_, _-_, _≤_, _<_}
+use native.Mathlib.Omega.{arith}
+use mathlib.Core.Path.{_≡_, refl, sym, ap, subst, _∙_}
+use mathlib.Core.List.{List, [], _++_, append-nil}
+use lib.ListN.{length, take, drop, length-drop, take-append-drop, drop-of-length-le}
+use lib.Seq.{length-take-le, take-add, take-at, drop-at}
+use Rattle.model.specs.declared.Part.{Part}
+use Rattle.model.specs.declared.Refusal.{Refusal}
+use Rattle.model.specs.Bytes.{Bytes}
+use Rattle.model.specs.Answer.{Answer, accepted}
+use Rattle.model.specs.Tags.{defaultTag}
+use Rattle.model.specs.Report.{Report}
+use Rattle.model.specs.Reading.{readText}
+use Rattle.model.specs.Bundle.{textAt}
+use Rattle.model.proofs.Read.{readText-valid}
+use Rattle.section.specs.Sections.{entriesAt}
+use Rattle.section.specs.Table.{Table}
+use Rattle.section.specs.Reading.{Room}
+use Rattle.reader.specs.declared.TextAnswer.{TextAnswer}
+use Rattle.reader.specs.declared.TextAnswer.the-variants as T
+use Rattle.reader.specs.Reader.{seenText, TextRead}
+use Rattle.bundle.specs.Places.{partAt}
+use Rattle.lcov.specs.Layout.{index-at, base-at, Space}
+use Rattle.lcov.specs.Gathering.{HeldRead, ReadBehind}
+use Rattle.lcov.proofs.TableLaws.{entries-longer, table-longer}
+
+-- what was read is a table
+pub read-table : (text ws : List ℕ) (index limit from kept used : ℕ) → TextRead text ws index limit from (T.Read kept used) → Table text ws index used kept
+read-table text ws index limit from kept used t =
+    let s = t .held .0 in
+    record { store = s .store; room = s .room; whole = s .whole; valid = readText-valid defaultTag limit (drop from text) (sym (t .is)) .0 }
+
+-- the front of a bundle up to a text's end, from its start on
+text-bytes : (bundle : Bytes) (start len : ℕ) → start + len ≤ length bundle → drop start (take (start + len) bundle) ≡ take len (drop start bundle)
+text-bytes bundle start len h =
+    ap (drop start) (take-add start len bundle) ∙ drop-at (take start bundle) (take len (drop start bundle)) start (length-take-le start bundle (omega arith))
+
+-- ---- lent words
+
+-- a front has its own length
+pub front-long : (s : List ℕ) (n : ℕ) → n ≤ length s → n ≡ length (take n s)
+front-long s n h = sym (length-take-le n s h)
+
+-- the words ws after those from base on were lent and came back as ys
+abbrev pub lent : List ℕ → List ℕ → ℕ → List ℕ
+lent ws ys base = take base ws ++ (ys ++ drop (length ws - base) (drop base ws))
+
+module _ (ws ys : List ℕ) (base : ℕ) (inside : base ≤ length ws) where
+  none-left : drop (length ws - base) (drop base ws) ≡ []
+  none-left = drop-of-length-le (drop base ws) {i = length ws - base} (rw (length-drop base ws) (omega arith))
+
+  pub lent-behind : drop base (lent ws ys base) ≡ ys
+  lent-behind =
+      drop-at (take base ws) (ys ++ drop (length ws - base) (drop base ws)) base (length-take-le base ws inside)
+      ∙ ap (λ (l : List ℕ). ys ++ l) none-left ∙ append-nil ys
+
+  pub lent-before : take base (lent ws ys base) ≡ take base ws
+  lent-before = take-at (take base ws) (ys ++ drop (length ws - base) (drop base ws)) base (length-take-le base ws inside)
+
+module _ (ws : List ℕ) (limit : ℕ) (space : Space ws limit) (base : ℕ) (at-base : base ≡ base-at limit) where
+  pub base-inside : base ≤ length ws
+  base-inside = omega (arith, space .words)
+
+  -- the words behind have room for a reading
+  pub behind-room : (index : ℕ) → index ≡ index-at limit → Room (take (length ws - base) (drop base ws)) index limit
+  behind-room index e = record { rows = omega arith; words = omega (arith, space .words, long) }
+    where
+      long : length (take (length ws - base) (drop base ws)) ≡ length ws - base
+      long = length-take-le (length ws - base) (drop base ws) (rw (length-drop base ws) (omega arith))
+
+-- a text starts within the front that ends with it
+pub starts-inside : (bundle : List ℕ) (start len : ℕ) → start + len ≤ length bundle → start ≤ length (take (start + len) bundle)
+starts-inside bundle start len h = omega (arith, length-take-le (start + len) bundle h)
+
+-- ---- the reading
+
+module _ (bundle ws ys : List ℕ) (limit i : ℕ) (space : Space ws limit) (p : Part) (place : p ≡ partAt bundle i) (inside : p .start + p .len ≤ length bundle) where
+  abbrev end : ℕ
+  end = p .start + p .len
+
+  text-is : drop (p .start) (take end bundle) ≡ textAt bundle i .bytes
+  unfolding textAt
+  text-is = text-bytes bundle (p .start) (p .len) inside ∙ ap (λ (q : Part). take (q .len) (drop (q .start) bundle)) place
+
+  whole-is : take end bundle ++ drop end bundle ≡ bundle
+  whole-is = take-append-drop end bundle
+
+  module _ (r : TextAnswer) (t : TextRead (take end bundle) ys (index-at limit) limit (p .start) r) where
+    seen-is : seenText (take end bundle) ys (index-at limit) r ≡ readText defaultTag limit (textAt bundle i .bytes)
+    seen-is = t .is ∙ ap (readText defaultTag limit) text-is
+
+    seen-whole : (r : TextAnswer) → TextRead (take end bundle) ys (index-at limit) limit (p .start) r
+        → seenText bundle ys (index-at limit) r ≡ seenText (take end bundle) ys (index-at limit) r
+    seen-whole (T.Refused q) t = refl
+    seen-whole (T.Read kept used) t =
+        let table = read-table (take end bundle) ys (index-at limit) limit (p .start) kept used t in
+        ap (λ (l : Report). accepted l)
+        (subst (λ (b : Bytes). entriesAt b ys (index-at limit) kept ≡ entriesAt (take end bundle) ys (index-at limit) kept) whole-is
+        (entries-longer (take end bundle) (drop end bundle) ys (index-at limit) used kept table))
+
+    held-whole : (r : TextAnswer) → TextRead (take end bundle) ys (index-at limit) limit (p .start) r → (us : List ℕ) → drop (base-at limit) us ≡ ys
+        → HeldRead bundle us limit r
+    held-whole (T.Refused q) t us e = tt
+    held-whole (T.Read kept used) t us e =
+        let table = read-table (take end bundle) ys (index-at limit) limit (p .start) kept used t in
+        rw e
+        (subst (λ (b : Bytes). Table b ys (index-at limit) used kept) whole-is
+        (table-longer (take end bundle) (drop end bundle) ys (index-at limit) used kept table))
+
+    behind-as : ReadBehind bundle ws (lent ws ys (base-at limit)) limit i r
+    behind-as =
+        let behind = lent-behind ws ys (base-at limit) (base-inside ws limit space (base-at limit) refl) in
+        record {
+          is = ap (λ (us : List ℕ). seenText bundle us (index-at limit) r) behind ∙ seen-whole r t ∙ seen-is;
+          held = held-whole r t (lent ws ys (base-at limit)) behind;
+          stays = lent-before ws ys (base-at limit) (base-inside ws limit space (base-at limit) refl);
+        }
+
+  -- as the code has the places in its locals
+  pub read-behind : (base index : ℕ) → base ≡ base-at limit → index ≡ index-at limit → (r : TextAnswer)
+      → TextRead (take end bundle) ys index limit (p .start) r → ReadBehind bundle ws (lent ws ys base) limit i r
+  read-behind base index e f r t = rw e (behind-as r (rw f at t))

@@ -1,0 +1,165 @@
+-- The calls: what is refused, and what is printed. Assumes nothing.
+use Prim.Native.Nat.{ℕ, _+_, _*_, _/_, _≤_, _<_, min}
+use native.Mathlib.Omega.{arith}
+use mathlib.Core.Path.{_≡_, refl, sym, ap, subst, _∙_}
+use mathlib.Core.Bool.{Bool, true, false}
+use mathlib.Core.List.{List, [], _++_}
+use lib.ListN.{length, take, drop, take-append-drop}
+use Rattle.model.specs.declared.Fault.the-variants.{MalformedBundle}
+use Rattle.model.specs.declared.Mode.{Mode}
+use Rattle.model.specs.declared.Refusal.{Refusal}
+use Rattle.model.specs.declared.WriteAnswer.{WriteAnswer}
+use Rattle.model.specs.declared.WriteAnswer.the-variants as W
+use Rattle.model.specs.Bytes.{Bytes}
+use Rattle.model.specs.Limits.{words-per-entry, most-entries}
+use Rattle.model.specs.Answer.{Answer, accepted, refused, unplaced}
+use Rattle.model.specs.Tags.{defaultTag}
+use Rattle.model.specs.Report.{Report}
+use Rattle.model.specs.Reading.{readText}
+use Rattle.model.specs.Printing.{printReport}
+use Rattle.model.specs.Output.{written, outputAfter}
+use Rattle.model.specs.Calls.{writeAnswer}
+use Rattle.model.specs.Bundle.{wellFormed, texts}
+use Rattle.model.specs.Gather.{entryLimit, readAndPrint, gatherTexts, gather}
+use Rattle.section.specs.Sections.{entriesAt}
+use Rattle.section.specs.Table.{Table}
+use Rattle.section.specs.Reading.{Room}
+use Rattle.reader.specs.declared.TextAnswer.{TextAnswer}
+use Rattle.reader.specs.declared.TextAnswer.the-variants as T
+use Rattle.reader.specs.Reader.{TextRead}
+use Rattle.lcov.specs.declared.Gathered.{Gathered}
+use Rattle.lcov.specs.declared.Gathered.the-variants as G
+use Rattle.lcov.specs.Layout.{index-at, spare-at, base-at, Space}
+use Rattle.lcov.specs.Gathering.{Joining, GatheredAs}
+use Rattle.lcov.proofs.TableLaws.{entries-wider, table-wider}
+use Rattle.lcov.proofs.BehindLaws.{read-table}
+
+-- ---- the limit
+
+pub limit-least : (words limit : ℕ) → limit ≡ words / words-per-entry → limit < most-entries → limit ≡ entryLimit words
+limit-least words limit e h = omega arith
+
+pub limit-most : (words limit : ℕ) → limit ≡ words / words-per-entry → most-entries ≤ limit → most-entries ≡ entryLimit words
+limit-most words limit e h = omega arith
+
+pub limit-few : (words limit : ℕ) → limit ≡ entryLimit words → limit ≤ most-entries
+limit-few words limit is = omega arith
+
+module _ (ws : List ℕ) (limit : ℕ) (is : limit ≡ entryLimit (length ws)) where
+  pub limit-space : Space ws limit
+  limit-space = record { most = omega arith; words = omega arith }
+
+  -- a reading has room
+  pub limit-room : (index : ℕ) → index ≡ index-at limit → Room ws index limit
+  limit-room index e = record { rows = omega arith; words = omega arith }
+
+-- ---- answers
+
+-- what a call hands back and leaves in the output, as its answer says
+abbrev Told : Answer Bytes → Bytes → Bytes → WriteAnswer → Type 0
+Told answer out out′ r = (r ≡ writeAnswer answer) × (out′ ≡ outputAfter answer out)
+
+told-refused : (answer : Answer Bytes) (r : Refusal) (out : Bytes) → refused r ≡ answer → Told answer out out (W.Refused r)
+unfolding writeAnswer outputAfter
+told-refused answer r out is = rw (← is) (refl, refl)
+
+told-as : (a b : Answer Bytes) (out out′ : Bytes) (r : WriteAnswer) → a ≡ b → Told a out out′ r → Told b out out′ r
+told-as a b out out′ r e t = rw e at t
+
+-- a table can be printed: it is in place, and behind its index there is room to sort functions
+abbrev Ready : Bytes → List ℕ → ℕ → ℕ → ℕ → ℕ → Type 0
+Ready text ws index spare used n =
+    (Table text ws index used n × (n ≤ most-entries)) × ((index + used ≤ spare) × (spare + n + n ≤ length ws))
+
+module _ (text ws : List ℕ) (words index spare limit used n : ℕ) (is : limit ≡ entryLimit words) (long : length ws ≡ words) (at-index : index ≡ index-at limit)
+    (at-spare : spare ≡ spare-at limit) where
+  ready : Table text ws index used n → used ≤ limit → Ready text ws index spare used n
+  ready t h = ((t, omega (arith, t .room)), (omega arith, omega (arith, t .room)))
+
+-- ---- gather
+
+-- the test for a well-formed bundle
+pub well-formed : (bundle : Bytes) (b : Bool) → b ≡ wellFormed bundle → b ≡ true → wellFormed bundle ≡ true
+well-formed bundle b is h = sym is ∙ h
+
+pub not-well-formed : (bundle : Bytes) (b : Bool) → b ≡ wellFormed bundle → b ≡ false → wellFormed bundle ≡ false
+not-well-formed bundle b is h = sym is ∙ h
+
+module _ (bundle : Bytes) (mode : Mode) (words : ℕ) where
+  abbrev gathered : Bytes → Answer Bytes
+  gathered out = gather defaultTag mode bundle words (length out)
+
+  pub gather-bad : (out : Bytes) (r : Refusal) → wellFormed bundle ≡ false → r ≡ unplaced MalformedBundle → Told (gathered out) out out (W.Refused r)
+  unfolding gather
+  gather-bad out r bad e = told-refused (gathered out) r out (rw (bad, e))
+
+  module _ (well : wellFormed bundle ≡ true) (limit : ℕ) (is : limit ≡ entryLimit words) (ws : List ℕ) (got : Gathered)
+      (g : GatheredAs (gatherTexts defaultTag mode limit (texts bundle) []) bundle ws limit got) where
+    pub gather-refused : (out : Bytes) (r : Refusal) → got ≡ G.Refused r → Told (gathered out) out out (W.Refused r)
+    unfolding gather
+    gather-refused out r e =
+        let all-texts : refused r ≡ gatherTexts defaultTag mode limit (texts bundle) [] = rw e at (g .is) in
+        told-refused (gathered out) r out (rw (well, ← is, ← all-texts))
+
+    module _ (n : ℕ) (e : got ≡ G.Entries n) (index : ℕ) (at-index : index ≡ index-at limit) where
+      joining : Joining bundle ws limit n
+      joining = rw e at (g .held)
+
+      parts : take (base-at limit) ws ++ drop (base-at limit) ws ≡ ws
+      parts = take-append-drop (base-at limit) ws
+
+      table : Table bundle ws index n n
+      table =
+          rw at-index
+          (subst (λ (us : List ℕ). Table bundle us (index-at limit) n n) parts
+          (table-wider bundle (take (base-at limit) ws) (drop (base-at limit) ws) (index-at limit) n n (joining .table)))
+
+      pub gather-ready : length ws ≡ words → (spare : ℕ) → spare ≡ spare-at limit → Ready bundle ws index spare n n
+      gather-ready long spare at-spare = ready bundle ws words index spare limit n n is long at-index at-spare table (joining .most)
+
+      entries-are : entriesAt bundle ws index n ≡ entriesAt bundle (take (base-at limit) ws) (index-at limit) n
+      entries-are =
+          rw at-index
+          (subst (λ (us : List ℕ). entriesAt bundle us (index-at limit) n ≡ entriesAt bundle (take (base-at limit) ws) (index-at limit) n) parts
+          (entries-wider bundle (take (base-at limit) ws) (drop (base-at limit) ws) (index-at limit) n n (joining .table)))
+
+      printed : (out : Bytes) → written (length out) (printReport defaultTag (entriesAt bundle ws index n)) ≡ gathered out
+      unfolding gather
+      printed out =
+          let all-texts : accepted (entriesAt bundle (take (base-at limit) ws) (index-at limit) n) ≡ gatherTexts defaultTag mode limit (texts bundle) [] = rw e at (g .is) in
+          rw (well, ← is, ← all-texts, entries-are)
+
+      pub gather-printed : (out out′ : Bytes) (r : WriteAnswer) → Told (written (length out) (printReport defaultTag (entriesAt bundle ws index n))) out out′ r
+          → Told (gathered out) out out′ r
+      gather-printed out out′ r t = told-as (written (length out) (printReport defaultTag (entriesAt bundle ws index n))) (gathered out) out out′ r (printed out) t
+
+-- ---- one text
+
+module _ (text : Bytes) (words limit : ℕ) (is : limit ≡ entryLimit words) (ws : List ℕ) (index : ℕ) (got : TextAnswer)
+    (t : TextRead text ws index limit 0 got) where
+  abbrev reading : Bytes → Answer Bytes
+  reading out = readAndPrint defaultTag text words (length out)
+
+  pub reading-refused : (out : Bytes) (r : Refusal) → got ≡ T.Refused r → Told (reading out) out out (W.Refused r)
+  unfolding readAndPrint
+  reading-refused out r e =
+      let read : refused r ≡ readText defaultTag limit text = rw e at (t .is) in
+      told-refused (reading out) r out (rw (← is, ← read))
+
+  module _ (kept used : ℕ) (e : got ≡ T.Read kept used) where
+    used-few : used ≤ limit
+    used-few = let held = rw e at (t .held) in held .1
+
+    pub reading-ready : length ws ≡ words → index ≡ index-at limit → (spare : ℕ) → spare ≡ spare-at limit → Ready text ws index spare used kept
+    reading-ready long at-index spare at-spare =
+        ready text ws words index spare limit used kept is long at-index at-spare (read-table text ws index limit 0 kept used (rw e at t)) used-few
+
+    printed-text : (out : Bytes) → written (length out) (printReport defaultTag (entriesAt text ws index kept)) ≡ reading out
+    unfolding readAndPrint
+    printed-text out =
+        let read : accepted (entriesAt text ws index kept) ≡ readText defaultTag limit text = rw e at (t .is) in
+        rw (← is, ← read)
+
+    pub reading-printed : (out out′ : Bytes) (r : WriteAnswer) → Told (written (length out) (printReport defaultTag (entriesAt text ws index kept))) out out′ r
+        → Told (reading out) out out′ r
+    reading-printed out out′ r h = told-as (written (length out) (printReport defaultTag (entriesAt text ws index kept))) (reading out) out out′ r (printed-text out) h

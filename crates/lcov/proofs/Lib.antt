@@ -1,0 +1,4 @@
+pub mod TableLaws
+pub mod BehindLaws
+pub mod GatherLaws
+pub mod CallLaws

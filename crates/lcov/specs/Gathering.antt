@@ -1,0 +1,63 @@
+-- Texts of a bundle read one after the other and joined: what the words hold, and answers read back from them. Assumes nothing.
+use Prim.Native.Nat.{ℕ, _≤_}
+use mathlib.Core.Path.{_≡_}
+use mathlib.Core.List.{List}
+use lib.ListN.{take, drop}
+use Rattle.model.specs.declared.Fault.{Fault}
+use Rattle.model.specs.declared.Refusal.{Refusal}
+use Rattle.model.specs.Bytes.{Bytes}
+use Rattle.model.specs.Answer.{Answer, accepted, refused, unplaced}
+use Rattle.model.specs.Tags.{defaultTag}
+use Rattle.model.specs.Report.{Report}
+use Rattle.model.specs.Reading.{readText}
+use Rattle.model.specs.Bundle.{textAt}
+use Rattle.section.specs.Sections.{entriesAt}
+use Rattle.section.specs.Table.{Table}
+use Rattle.reader.specs.declared.TextAnswer.{TextAnswer}
+use Rattle.reader.specs.declared.TextAnswer.the-variants as T
+use Rattle.reader.specs.Reader.{seenText}
+use Rattle.lcov.specs.declared.Gathered.{Gathered}
+use Rattle.lcov.specs.declared.Gathered.the-variants as G
+use Rattle.lcov.specs.Layout.{index-at, base-at}
+
+-- ---- refusals
+
+-- a refusal, in a text
+abbrev pub inTextOf : ℕ → Refusal → Refusal
+inTextOf text r = record { fault = r .fault; text = text; line = r .line; field = r .field; needed = r .needed }
+
+-- ---- the joined table
+
+abbrev pub joinedAt : Bytes → List ℕ → ℕ → ℕ → Report
+joinedAt text ws limit n = entriesAt text (take (base-at limit) ws) (index-at limit) n
+
+pub record Joining (text ws : List ℕ) (limit n : ℕ) : Type 0 where
+  pub table : Table text (take (base-at limit) ws) (index-at limit) n n
+  pub most : n ≤ limit
+
+-- ---- a text read behind it
+
+abbrev pub HeldRead : Bytes → List ℕ → ℕ → TextAnswer → Type 0
+HeldRead text ws limit (T.Read kept used) = Table text (drop (base-at limit) ws) (index-at limit) used kept
+HeldRead text ws limit (T.Refused r) = Unit {0}
+
+-- the answer is the model's for the i-th text, and the joined table stays
+pub record ReadBehind (bundle ws ws′ : List ℕ) (limit i : ℕ) (r : TextAnswer) : Type 0 where
+  pub is : seenText bundle (drop (base-at limit) ws′) (index-at limit) r ≡ readText defaultTag limit (textAt bundle i .bytes)
+  pub held : HeldRead bundle ws′ limit r
+  pub stays : take (base-at limit) ws′ ≡ take (base-at limit) ws
+
+-- ---- texts gathered
+
+abbrev pub seenGathered : Bytes → List ℕ → ℕ → Gathered → Answer Report
+seenGathered text ws limit (G.Entries n) = accepted (joinedAt text ws limit n)
+seenGathered text ws limit (G.Refused r) = refused r
+
+abbrev pub HeldGathered : Bytes → List ℕ → ℕ → Gathered → Type 0
+HeldGathered text ws limit (G.Entries n) = Joining text ws limit n
+HeldGathered text ws limit (G.Refused r) = Unit {0}
+
+-- the words hold what the answer says
+pub record GatheredAs (answer : Answer Report) (text ws : List ℕ) (limit : ℕ) (r : Gathered) : Type 0 where
+  pub is : seenGathered text ws limit r ≡ answer
+  pub held : HeldGathered text ws limit r

@@ -1,0 +1,24 @@
+-- The scratch of the calls that read texts, counted in entries: `limit` rows that are joined, their index and as many spare words; then
+-- the same for the text that is read. Assumes nothing.
+use Prim.Native.Nat.{ℕ, _+_, _*_, _≤_}
+use mathlib.Core.List.{List}
+use lib.ListN.{length}
+use Rattle.store.specs.Rows.{row-words}
+use Rattle.model.specs.Limits.{words-per-entry, most-entries}
+
+-- where an index starts, behind its rows
+abbrev pub index-at : ℕ → ℕ
+index-at limit = limit * row-words
+
+-- where the spare words start, behind the index
+abbrev pub spare-at : ℕ → ℕ
+spare-at limit = index-at limit + limit
+
+-- where the words for the text that is read start
+abbrev pub base-at : ℕ → ℕ
+base-at limit = spare-at limit + limit
+
+-- the words are enough for the limit
+pub record Space (ws : List ℕ) (limit : ℕ) : Type 0 where
+  pub most : limit ≤ most-entries
+  pub words : limit * words-per-entry ≤ length ws

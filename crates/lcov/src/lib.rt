@@ -1,0 +1,210 @@
+// The calls that read texts (document 01): a bundle gathered, checked or lossy, and one text read, each printed to the output. The scratch
+// is lent; "After a call the scratch is free to hold anything, and no call reads what it held."
+use merge::Joined;
+use model::Fault;
+use model::Mode;
+use model::Refusal;
+use model::WriteAnswer;
+use reader::TextAnswer;
+ghost use mathlib.Core.Path.{_≡_};
+ghost use mathlib.Core.List.{[]};
+ghost use mathlib.Core.Bool.{true};
+ghost use Prim.Native.Nat.{_+_, _*_, _≤_, _<_};
+ghost use lib.ListN.{length};
+ghost use Rattle.model.specs.declared.Mode.the-variants.{Checked, Lossy};
+ghost use Rattle.model.specs.Limits.{most-texts, most-entries};
+ghost use Rattle.model.specs.Answer.{inText, unplaced};
+ghost use Rattle.model.specs.Tags.{defaultTag};
+ghost use Rattle.model.specs.Bundle.{wellFormed, textCount, textAt, texts};
+ghost use Rattle.model.specs.Calls.{writeAnswer};
+ghost use Rattle.model.specs.Output.{outputAfter};
+ghost use Rattle.model.specs.Gather.{entryLimit, readAndPrint, gatherText, gatherTexts};
+ghost use Rattle.model.specs.Gather.{gather as gatherOf};
+ghost use Rattle.lcov.specs.Layout.{index-at, spare-at, base-at, Space};
+ghost use Rattle.lcov.specs.Gathering.{inTextOf, joinedAt, Joining, ReadBehind, GatheredAs};
+
+// `words-per-entry` and `most-entries` in model/specs/Limits.antt.
+const WORDS_PER_ENTRY: usize = 32;
+
+const MOST_ENTRIES: usize = 65_535;
+
+// "The entry limit E is the smaller of W/32 rounded down and 65,535."
+fn entry_limit(words: usize) -> usize
+    ensures { λ r. ⌜ r ≡ entryLimit words ⌝ }
+{
+    let limit = words / WORDS_PER_ENTRY;
+    if limit < MOST_ENTRIES {
+        return limit;
+    }
+    MOST_ENTRIES
+}
+
+// Where an index starts: `index-at` in specs/Layout.antt.
+fn index_at(limit: usize) -> usize
+    requires { ⌜ limit ≤ most-entries ⌝ }
+    ensures { λ r. ⌜ r ≡ index-at limit ⌝ }
+{
+    limit * store::ROW_WORDS
+}
+
+// Where spare words start, behind the index: `spare-at`.
+fn spare_at(limit: usize) -> usize
+    requires { ⌜ limit ≤ most-entries ⌝ }
+    ensures { λ r. ⌜ r ≡ spare-at limit ⌝ }
+{
+    index_at(limit) + limit
+}
+
+// Where the words for the text that is read start: `base-at`.
+fn base_at(limit: usize) -> usize
+    requires { ⌜ limit ≤ most-entries ⌝ }
+    ensures { λ r. ⌜ r ≡ base-at limit ⌝ }
+{
+    spare_at(limit) + limit
+}
+
+fn unplaced(fault: Fault) -> Refusal
+    ensures { λ r. ⌜ r ≡ unplaced fault ⌝ }
+{
+    Refusal {
+        fault,
+        text: 0,
+        line: 0,
+        field: 0,
+        needed: 0,
+    }
+}
+
+// A refusal, in the i-th text.
+fn in_text(i: usize, refusal: Refusal) -> Refusal
+    requires { ⌜ i < most-texts ⌝ }
+    ensures { λ r. ⌜ r ≡ inTextOf i refusal ⌝ }
+{
+    let fault = refusal.fault;
+    Refusal {
+        fault,
+        text: i as u32,
+        line: refusal.line,
+        field: refusal.field,
+        needed: refusal.needed,
+    }
+}
+
+// How many entries are joined, or why there are none.
+enum Gathered {
+    Entries(usize),
+    Refused(Refusal),
+}
+
+// The i-th text, read where it lies in the bundle, into the words behind the joined table.
+fn read_behind(bundle: &[u8], scratch: &mut [u64], limit: usize, i: usize) -> TextAnswer
+    requires { ⌜ (wellFormed (now bundle) ≡ true) × (i < textCount (now bundle)) × Space (now scratch) limit ⌝ }
+    ensures { λ r. ⌜ ReadBehind (now (bundle .entry)) (now (scratch .entry)) (now (scratch .exit)) limit i r ⌝ }
+{
+    let part = bundle::text_part(bundle, i);
+    let start = part.start;
+    let end = start + part.len;
+    let base = base_at(limit);
+    let index = index_at(limit);
+    reader::read_lines(&bundle[..end], start, &mut scratch[base..], index, limit)
+}
+
+// "for each text in turn, reads it and merges it [..] Then E is tested on what is joined so far"
+fn gather_text(
+    bundle: &[u8],
+    scratch: &mut [u64],
+    limit: usize,
+    n: usize,
+    i: usize,
+    mode: Mode,
+) -> Gathered
+    requires { ⌜ (wellFormed (now bundle) ≡ true) × (i < textCount (now bundle)) × Space (now scratch) limit × Joining (now bundle) (now scratch) limit n ⌝ }
+    ensures { λ r. ⌜ GatheredAs (inText i (gatherText defaultTag mode limit (textAt (now (bundle .entry)) i .bytes) (joinedAt (now (bundle .entry)) (now (scratch .entry)) limit n))) (now (bundle .entry)) (now (scratch .exit)) limit r ⌝ }
+{
+    match read_behind(bundle, scratch, limit, i) {
+        TextAnswer::Refused(refusal) => Gathered::Refused(in_text(i, refusal)),
+        TextAnswer::Read { kept, used } => {
+            let base = base_at(limit);
+            let index = index_at(limit);
+            match merge::merge(bundle, scratch, base, index, limit, n, used, kept, mode) {
+                Joined::Entries(joined) => Gathered::Entries(joined),
+                Joined::Refused(fault) => Gathered::Refused(in_text(i, unplaced(fault))),
+            }
+        }
+    }
+}
+
+// "Gather begins with an empty report"
+fn gather_texts(bundle: &[u8], scratch: &mut [u64], limit: usize, mode: Mode) -> Gathered
+    requires { ⌜ (wellFormed (now bundle) ≡ true) × Space (now scratch) limit ⌝ }
+    ensures { λ r. ⌜ GatheredAs (gatherTexts defaultTag mode limit (texts (now (bundle .entry))) []) (now (bundle .entry)) (now (scratch .exit)) limit r ⌝ }
+{
+    let count = bundle::text_count(bundle);
+    let mut n = 0;
+    let mut i = 0;
+    while i < count {
+        match gather_text(bundle, scratch, limit, n, i, mode) {
+            Gathered::Refused(refusal) => {
+                return Gathered::Refused(refusal);
+            }
+            Gathered::Entries(joined) => {
+                n = joined;
+            }
+        }
+        i += 1;
+    }
+    Gathered::Entries(n)
+}
+
+// A bundle's texts gathered in one of the two modes.
+fn gather(bundle: &[u8], scratch: &mut [u64], out: &mut [u8], mode: Mode) -> WriteAnswer
+    ensures { λ r. ⌜ r ≡ writeAnswer (gatherOf defaultTag mode (now (bundle .entry)) (length (now (scratch .entry))) (length (now (out .entry)))) ⌝ }
+    ensures { λ _. ⌜ now (out .exit) ≡ outputAfter (gatherOf defaultTag mode (now (bundle .entry)) (length (now (scratch .entry))) (length (now (out .entry)))) (now (out .entry)) ⌝ }
+{
+    if bundle::is_well_formed(bundle) {
+        let limit = entry_limit(scratch.len());
+        match gather_texts(bundle, scratch, limit, mode) {
+            Gathered::Refused(refusal) => {
+                return WriteAnswer::Refused(refusal);
+            }
+            Gathered::Entries(n) => {
+                let index = index_at(limit);
+                let spare = spare_at(limit);
+                return printing::print_report(bundle, scratch, index, n, n, spare, out);
+            }
+        }
+    }
+    WriteAnswer::Refused(unplaced(Fault::MalformedBundle))
+}
+
+// The checked gather (`Report::merge`): given start lines and checksums must agree.
+pub fn gather_checked(bundle: &[u8], scratch: &mut [u64], out: &mut [u8]) -> WriteAnswer
+    ensures { λ r. ⌜ r ≡ writeAnswer (gatherOf defaultTag Checked (now (bundle .entry)) (length (now (scratch .entry))) (length (now (out .entry)))) ⌝ }
+    ensures { λ _. ⌜ now (out .exit) ≡ outputAfter (gatherOf defaultTag Checked (now (bundle .entry)) (length (now (scratch .entry))) (length (now (out .entry)))) (now (out .entry)) ⌝ }
+{
+    gather(bundle, scratch, out, Mode::Checked)
+}
+
+// The lossy gather (`merge_lossy`): "the later given start line or checksum wins".
+pub fn gather_lossy(bundle: &[u8], scratch: &mut [u64], out: &mut [u8]) -> WriteAnswer
+    ensures { λ r. ⌜ r ≡ writeAnswer (gatherOf defaultTag Lossy (now (bundle .entry)) (length (now (scratch .entry))) (length (now (out .entry)))) ⌝ }
+    ensures { λ _. ⌜ now (out .exit) ≡ outputAfter (gatherOf defaultTag Lossy (now (bundle .entry)) (length (now (scratch .entry))) (length (now (out .entry)))) (now (out .entry)) ⌝ }
+{
+    gather(bundle, scratch, out, Mode::Lossy)
+}
+
+// One text read, its report printed.
+pub fn read_text(text: &[u8], scratch: &mut [u64], out: &mut [u8]) -> WriteAnswer
+    ensures { λ r. ⌜ r ≡ writeAnswer (readAndPrint defaultTag (now (text .entry)) (length (now (scratch .entry))) (length (now (out .entry)))) ⌝ }
+    ensures { λ _. ⌜ now (out .exit) ≡ outputAfter (readAndPrint defaultTag (now (text .entry)) (length (now (scratch .entry))) (length (now (out .entry)))) (now (out .entry)) ⌝ }
+{
+    let limit = entry_limit(scratch.len());
+    let index = index_at(limit);
+    match reader::read_lines(text, 0, scratch, index, limit) {
+        TextAnswer::Refused(refusal) => WriteAnswer::Refused(refusal),
+        TextAnswer::Read { kept, used } => {
+            let spare = spare_at(limit);
+            printing::print_report(text, scratch, index, used, kept, spare, out)
+        }
+    }
+}

@@ -1,0 +1,5 @@
+pub mod JoinLaws
+pub mod PlaceLaws
+pub mod AddLaws
+pub mod StandLaws
+pub mod WalkLaws

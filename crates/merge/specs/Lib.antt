@@ -1,0 +1,4 @@
+pub mod Joining
+pub mod Placing
+pub mod Walking
+pub mod Merging

@@ -1,0 +1,43 @@
+-- Entries in ascending order, and the place of a key among them. Assumes nothing.
+use Prim.Native.Nat.{ℕ, _≤_, _<_, Ordering, Ordering·lt, Ordering·eq}
+use mathlib.Core.Path.{_≡_}
+use mathlib.Core.Bool.{Bool, true, false}
+use mathlib.Core.List.{List}
+use Rattle.store.specs.declared.Row.{Row}
+use Rattle.store.specs.Store.{row, Store}
+use Rattle.map.specs.Keyed.{Sorted}
+use Rattle.model.specs.Order.{isLess}
+use Rattle.model.specs.Bytes.{Bytes}
+use Rattle.model.specs.Report.{Entry, entryKey, compareKeys}
+use Rattle.items.specs.declared.Found.{Found}
+use Rattle.items.specs.declared.Found.the-variants.{At, Insert}
+use Rattle.section.specs.Sections.{entryOf, entryAt, entriesAt, Whole}
+
+-- the n rows are entries, in ascending order of their keys
+pub record Ranked (text ws : List ℕ) (index n : ℕ) : Type 0 where
+  pub store : Store ws index n
+  pub whole : (k : ℕ) → k < n → Whole text (row ws index k)
+  pub sorted : Sorted entryKey compareKeys (entriesAt text ws index n)
+
+abbrev pub compareEntries : Entry → Entry → Ordering
+compareEntries a b = compareKeys (entryKey a) (entryKey b)
+
+-- the entry at a place comes before the row's
+abbrev pub Before : Bytes → List ℕ → ℕ → Row → ℕ → Bool
+Before text ws index key k = isLess (compareEntries (entryAt text ws index k) (entryOf text key))
+
+-- the entries before a place come before the row's
+abbrev pub Passed : Bytes → List ℕ → ℕ → Row → ℕ → Type 0
+Passed text ws index key from = (k : ℕ) → k < from → compareEntries (entryAt text ws index k) (entryOf text key) ≡ Ordering·lt
+
+-- of the n places, a test holds before lo, and not at hi
+pub record Spanned (test : ℕ → Bool) (n lo hi : ℕ) : Type 0 where
+  pub ends : lo ≤ hi
+  pub most : hi ≤ n
+  pub past : (k : ℕ) → k < lo → test k ≡ true
+  pub stop : hi < n → test hi ≡ false
+
+-- the row's key stands at a place, or is to go there
+abbrev pub Seated : Bytes → List ℕ → ℕ → ℕ → Row → Found → Type 0
+Seated text ws index n key (At i) = (i < n) × Passed text ws index key i × (compareEntries (entryOf text key) (entryAt text ws index i) ≡ Ordering·eq)
+Seated text ws index n key (Insert i) = (i ≤ n) × Passed text ws index key i × (i < n → compareEntries (entryOf text key) (entryAt text ws index i) ≡ Ordering·lt)

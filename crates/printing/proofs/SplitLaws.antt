@@ -1,0 +1,247 @@
+-- What a section's rows print, and what the rows behind it do. Assumes nothing.
+use Prim.Native.Nat.{ℕ, zero, suc, _+_, _-_, _≤_, _<_}
+use native.Mathlib.Omega.{arith}
+use native.Mathlib.Nat.{add-zero}
+use mathlib.Core.Path.{_≡_, refl, sym, ap, ap₂, _∙_}
+use mathlib.Core.Logic.{_≢_}
+use mathlib.Core.Bool.{Bool, true, false}
+use mathlib.Core.List.{List, [], _∷_, _++_, append-assoc, append-nil}
+use lib.Dec.{eqb}
+use borrow.Author.Tests.{ne-eqb}
+use Rattle.store.specs.declared.Row.{Row}
+use Rattle.store.specs.Places.{listed}
+use Rattle.store.specs.Store.{row}
+use Rattle.store.proofs.PlaceLaws.{by-lt}
+use Rattle.store.proofs.ListedLaws.{listed-cong, listed-split}
+use Rattle.model.specs.Bytes.{Bytes}
+use Rattle.model.specs.Lists.{select, sort, each}
+use Rattle.model.specs.Record.{Record, testName, sourceFile, functionsFound, functionsHit, branchesFound, branchesHit, linesFound, linesHit, endOfRecord}
+use Rattle.model.specs.Report.{Item, sectionItem, functionItem, branchItem, lineItem, Entry, Report, SectionKey, sectionKey, inSection}
+use Rattle.model.specs.Tags.{defaultTag}
+use Rattle.model.specs.Printing.{
+  Section,
+  isSection,
+  isFunction,
+  isBranch,
+  isLine,
+  itemsHere,
+  sectionHere,
+  sections,
+  comparePrinted,
+  functionsOf,
+  startRecord,
+  group,
+  sectionRecords,
+  printRecords,
+  printSections,
+  printReport,
+}
+use Rattle.model.proofs.ListLaws.{All, select-all, select-none}
+use Rattle.items.specs.Items.{kindOf, function-kind, branch-kind, line-kind, itemOf}
+use Rattle.items.specs.Open.{itemAt, itemFrom, itemsAt}
+use Rattle.section.specs.Sections.{testOf, pathOf, entryAt}
+use Rattle.section.specs.Table.{Table}
+use Rattle.section.proofs.ReplaceLaws.{all-listed}
+use Rattle.emit.proofs.PassLaws.{lines-append}
+use Rattle.printing.specs.Printing.{entriesFrom, printedFrom, RunOf, functionLines}
+use Rattle.printing.proofs.OrderLaws.{select-append}
+use Rattle.printing.proofs.KindLaws.{kindIn, kind-at, next-own}
+
+-- ---- entries
+
+-- items up to the next section
+items-run : (f : ℕ → Entry) (n : ℕ) (rest : Report) → ((k : ℕ) → k < n → isSection (f k .item) ≡ false) → itemsHere rest ≡ []
+    → itemsHere (listed f n ++ rest) ≡ listed (λ k. f k .item) n
+unfolding listed itemsHere
+items-run f zero rest h e = e
+items-run f (suc n) rest h e = rw (h 0 (omega arith), itemsHere) (ap (λ (t : List Item). f 0 .item ∷ t) (items-run (λ k. f (suc k)) n rest (λ k l. h (suc k) (omega arith)) e))
+
+not-own : (key : SectionKey) (i : Item) (items : List Item) → isSection i ≡ false → sectionHere (inSection key i) items ≡ []
+unfolding sectionHere isSection
+not-own key (sectionItem spelling) items h = cc
+not-own key (functionItem name start count) items h = refl
+not-own key (branchItem line block branch taken) items h = refl
+not-own key (lineItem line count checksum) items h = refl
+
+sections-run : (f : ℕ → Entry) (n : ℕ) (rest : Report) → ((k : ℕ) → k < n → isSection (f k .item) ≡ false) → sections (listed f n ++ rest) ≡ sections rest
+unfolding listed sections
+sections-run f zero rest h = refl
+sections-run f (suc n) rest h =
+    rw (not-own (sectionKey (f 0)) (f 0 .item) (itemsHere (listed (λ k. f (suc k)) n ++ rest)) (h 0 (omega arith)))
+    (sections-run (λ k. f (suc k)) n rest (λ k l. h (suc k) (omega arith)))
+
+-- the section of an own entry, and those behind its items
+sections-cons : (e : Entry) (f : ℕ → Entry) (n : ℕ) (rest : Report) (spelling : Bytes) → e .item ≡ sectionItem spelling
+    → ((k : ℕ) → k < n → isSection (f k .item) ≡ false) → itemsHere rest ≡ []
+    → sections (e ∷ (listed f n ++ rest)) ≡ record { test = e .test; spelling = spelling; items = listed (λ k. f k .item) n } ∷ sections rest
+unfolding sections sectionHere
+sections-cons e f n rest spelling own inner ends =
+    rw (own, sectionHere)
+    (ap₂ (λ (items : List Item) (t : List Section). record { test = e .test; spelling = spelling; items = items } ∷ t)
+    (items-run f n rest inner ends) (sections-run f n rest inner))
+
+-- ---- parts of what is said place by place
+
+module _ {A : Type 0} (f : ℕ → A) where
+  pub part-split : (from mid end : ℕ) → from ≤ mid → mid ≤ end
+      → listed (λ k. f (from + k)) (end - from) ≡ listed (λ k. f (from + k)) (mid - from) ++ listed (λ k. f (mid + k)) (end - mid)
+  part-split from mid end h l =
+      ap (listed (λ k. f (from + k))) (let e : end - from ≡ (mid - from) + (end - mid) = omega arith in e)
+      ∙ listed-split (λ k. f (from + k)) (mid - from) (end - mid)
+      ∙ ap (λ (t : List A). listed (λ k. f (from + k)) (mid - from) ++ t)
+      (listed-cong (λ k. f (from + ((mid - from) + k))) (λ k. f (mid + k)) (end - mid)
+      (λ k i. ap f (let e : from + ((mid - from) + k) ≡ mid + k = omega arith in e)))
+
+  part-cons : (lo end : ℕ) → lo < end → listed (λ k. f (lo + k)) (end - lo) ≡ f lo ∷ listed (λ k. f (lo + 1 + k)) (end - (lo + 1))
+  unfolding listed
+  part-cons lo end h =
+      ap (listed (λ k. f (lo + k))) (let e : end - lo ≡ suc (end - (lo + 1)) = omega arith in e)
+      ∙ ap₂ (λ (x : A) (t : List A). x ∷ t) (ap f (add-zero lo))
+      (listed-cong (λ k. f (lo + suc k)) (λ k. f (lo + 1 + k)) (end - (lo + 1)) (λ k i. ap f (let e : lo + suc k ≡ lo + 1 + k = omega arith in e)))
+
+  part-none : (lo end : ℕ) → end ≤ lo → listed (λ k. f (lo + k)) (end - lo) ≡ []
+  unfolding listed
+  part-none lo end h = ap (listed (λ k. f (lo + k))) (let e : end - lo ≡ 0 = omega arith in e)
+
+-- ---- items by kind
+
+-- each test is one of the kind
+tests : (i : Item) → (isSection i ≡ eqb (kindIn i) 0) × (isFunction i ≡ eqb (kindIn i) 1) × (isBranch i ≡ eqb (kindIn i) 2) × (isLine i ≡ eqb (kindIn i) 3)
+unfolding isSection isFunction isBranch isLine
+tests (sectionItem spelling) = (refl, refl, refl, refl)
+tests (functionItem name start count) = (refl, refl, refl, refl)
+tests (branchItem line block branch taken) = (refl, refl, refl, refl)
+tests (lineItem line count checksum) = (refl, refl, refl, refl)
+
+-- the n items from a place on are of the kind
+abbrev Kinds : (ℕ → Item) → ℕ → ℕ → Type 0
+Kinds f n kind = (k : ℕ) → k < n → kindIn (f k) ≡ kind
+
+module _ (test : Item → Bool) (of : ℕ) (is : (i : Item) → test i ≡ eqb (kindIn i) of) (f : ℕ → Item) (n kind : ℕ) (h : Kinds f n kind) where
+  all-tested : All (λ i. test i ≡ eqb kind of) (listed f n)
+  all-tested = all-listed (λ i. test i ≡ eqb kind of) f n (λ k l. is (f k) ∙ ap (λ (j : ℕ). eqb j of) (h k l))
+
+  select-in : eqb kind of ≡ true → select test (listed f n) ≡ listed f n
+  select-in e = select-all test (listed f n) (rw e at all-tested)
+
+  select-out : eqb kind of ≡ false → select test (listed f n) ≡ []
+  select-out e = select-none test (listed f n) (rw e at all-tested)
+
+module _ (f g h : ℕ → Item) (a b c : ℕ) (F : Kinds f a 1) (G : Kinds g b 2) (H : Kinds h c 3) where
+  abbrev three : List Item
+  three = listed f a ++ (listed g b ++ listed h c)
+
+  select-three : (test : Item → Bool) → select test three ≡ select test (listed f a) ++ (select test (listed g b) ++ select test (listed h c))
+  select-three test =
+      select-append test (listed f a) (listed g b ++ listed h c)
+      ∙ ap (λ (t : List Item). select test (listed f a) ++ t) (select-append test (listed g b) (listed h c))
+
+  functions-in : select isFunction three ≡ listed f a
+  functions-in =
+      let is : (i : Item) → isFunction i ≡ eqb (kindIn i) 1 = λ i. tests i .1 in
+      select-three isFunction
+      ∙ rw (select-in isFunction 1 is f a 1 F refl, select-out isFunction 1 is g b 2 G refl, select-out isFunction 1 is h c 3 H refl) (append-nil (listed f a))
+
+  branches-in : select isBranch three ≡ listed g b
+  branches-in =
+      let is : (i : Item) → isBranch i ≡ eqb (kindIn i) 2 = λ i. tests i .2 in
+      select-three isBranch
+      ∙ rw (select-out isBranch 2 is f a 1 F refl, select-in isBranch 2 is g b 2 G refl, select-out isBranch 2 is h c 3 H refl) (append-nil (listed g b))
+
+  lines-in : select isLine three ≡ listed h c
+  lines-in =
+      let is : (i : Item) → isLine i ≡ eqb (kindIn i) 3 = λ i. tests i .3 in
+      select-three isLine
+      ∙ rw (select-out isLine 3 is f a 1 F refl, select-out isLine 3 is g b 2 G refl, select-in isLine 3 is h c 3 H refl)
+
+-- ---- a section's lines
+
+-- the lines of a section, by its parts, and what follows
+abbrev pub sectionLines : Bytes → Bytes → List Item → List Item → List Item → Bytes → Bytes
+sectionLines test spelling fs bs ls rest =
+    printRecords defaultTag (testName test ∷ sourceFile spelling ∷ [])
+    ++ (functionLines (sort comparePrinted fs)
+    ++ (printRecords defaultTag (group branchesFound branchesHit bs)
+    ++ (printRecords defaultTag (group linesFound linesHit ls) ++ (printRecords defaultTag (endOfRecord ∷ []) ++ rest))))
+
+print-six : (a b c d e f g : List Record)
+    → printRecords defaultTag (a ++ b ++ c ++ d ++ e ++ f ++ g)
+    ≡ printRecords defaultTag a
+    ++ (printRecords defaultTag b ++ printRecords defaultTag c
+    ++ (printRecords defaultTag d ++ (printRecords defaultTag e ++ (printRecords defaultTag f ++ printRecords defaultTag g))))
+print-six a b c d e f g = simp (lines-append, append-assoc)
+
+lines-of : (s : Section) (fs bs ls : List Item) (rest : List Section) → select isFunction (s .items) ≡ fs → select isBranch (s .items) ≡ bs
+    → select isLine (s .items) ≡ ls
+    → printSections defaultTag (s ∷ rest) ≡ sectionLines (s .test) (s .spelling) fs bs ls (printSections defaultTag rest)
+unfolding printSections sectionRecords functionsOf each
+lines-of s fs bs ls rest F B L =
+    rw (F, B, L)
+    (print-six (testName (s .test) ∷ sourceFile (s .spelling) ∷ []) (each startRecord (sort comparePrinted fs))
+    (group functionsFound functionsHit (sort comparePrinted fs)) (group branchesFound branchesHit bs) (group linesFound linesHit ls)
+    (endOfRecord ∷ []) (each sectionRecords rest))
+
+-- ---- the rows of a section
+
+own-item : (text : Bytes) (r : Row) → kindOf r ≡ 0 → itemOf text r ≡ sectionItem (pathOf text r)
+unfolding itemOf
+own-item text r e = rw e
+
+module _ {text ws : List ℕ} {index used n lo f b l : ℕ} (τ : Table text ws index used n) (own : kindOf (row ws index lo) ≡ 0) (here : lo < n)
+    (φ : RunOf ws index n (lo + 1) function-kind f) (β : RunOf ws index n f branch-kind b) (λs : RunOf ws index n b line-kind l) where
+  -- the rows of a run are items of its kind
+  kinds : {from end kind : ℕ} → RunOf ws index n from kind end → Kinds (itemFrom text ws index from) (end - from) kind
+  kinds {from} {end} ρ k h =
+      kind-at τ (from + k) (omega (arith, ρ .most)) ∙ ρ .each (from + k) (omega arith) (omega arith)
+
+  inner : (k : ℕ) → lo < k → k < l → kindOf (row ws index k) ≢ 0
+  inner k h i z =
+      by-lt k f
+      (λ q. omega (arith, φ .each k (omega arith) q))
+      (λ q. by-lt k b (λ q′. omega (arith, β .each k q q′)) (λ q′. omega (arith, λs .each k q′ i)))
+
+  not-section : (k : ℕ) → k < l - (lo + 1) → isSection (entryAt text ws index (lo + 1 + k) .item) ≡ false
+  not-section k h =
+      tests (entryAt text ws index (lo + 1 + k) .item) .0
+      ∙ ne-eqb (kindIn (entryAt text ws index (lo + 1 + k) .item)) 0
+      (λ z. inner (lo + 1 + k) (omega arith) (omega arith) (sym (kind-at τ (lo + 1 + k) (omega (arith, λs .most))) ∙ z))
+
+  -- behind the section's rows no item follows
+  ends : itemsHere (entriesFrom text ws index n l) ≡ []
+  unfolding itemsHere
+  ends =
+      by-lt l n
+      (λ h. ap itemsHere (part-cons (entryAt text ws index) l n h) ∙ rw (own-here h, itemsHere))
+      (λ h. ap itemsHere (part-none (entryAt text ws index) l n h))
+    where
+      own-here : l < n → isSection (entryAt text ws index l .item) ≡ true
+      own-here h = tests (entryAt text ws index l .item) .0 ∙ ap (λ (k : ℕ). eqb k 0) (kind-at τ l h ∙ next-own τ (omega arith) φ β λs h)
+
+  abbrev items : List Item
+  items = itemsAt text ws index (lo + 1) (l - (lo + 1))
+
+  items-three : items
+      ≡ itemsAt text ws index (lo + 1) (f - (lo + 1)) ++ (itemsAt text ws index f (b - f) ++ itemsAt text ws index b (l - b))
+  items-three =
+      part-split (itemAt text ws index) (lo + 1) f l (φ .least) (omega (arith, β .least, λs .least))
+      ∙ ap (λ (t : List Item). itemsAt text ws index (lo + 1) (f - (lo + 1)) ++ t) (part-split (itemAt text ws index) f b l (β .least) (λs .least))
+
+  -- THE SECTION AT A PLACE: its lines, and then what the rows behind it print
+  pub section-printed : printedFrom text ws index n lo
+      ≡ sectionLines (testOf text (row ws index lo)) (pathOf text (row ws index lo)) (itemsAt text ws index (lo + 1) (f - (lo + 1)))
+      (itemsAt text ws index f (b - f)) (itemsAt text ws index b (l - b)) (printedFrom text ws index n l)
+  unfolding printReport
+  section-printed =
+      ap (λ (r : Report). printSections defaultTag (sections r))
+      (part-cons (entryAt text ws index) lo n here
+      ∙ ap (λ (t : Report). entryAt text ws index lo ∷ t)
+      (part-split (entryAt text ws index) (lo + 1) l n (omega (arith, φ .least, β .least, λs .least)) (λs .most)))
+      ∙ ap (printSections defaultTag)
+      (sections-cons (entryAt text ws index lo) (λ k. entryAt text ws index (lo + 1 + k)) (l - (lo + 1)) (entriesFrom text ws index n l)
+      (pathOf text (row ws index lo)) (own-item text (row ws index lo) own) not-section ends)
+      ∙ lines-of (record { test = testOf text (row ws index lo); spelling = pathOf text (row ws index lo); items = items })
+      (itemsAt text ws index (lo + 1) (f - (lo + 1))) (itemsAt text ws index f (b - f)) (itemsAt text ws index b (l - b))
+      (sections (entriesFrom text ws index n l))
+      (ap (select isFunction) items-three ∙ functions-in _ _ _ _ _ _ (kinds φ) (kinds β) (kinds λs))
+      (ap (select isBranch) items-three ∙ branches-in _ _ _ _ _ _ (kinds φ) (kinds β) (kinds λs))
+      (ap (select isLine) items-three ∙ lines-in _ _ _ _ _ _ (kinds φ) (kinds β) (kinds λs))

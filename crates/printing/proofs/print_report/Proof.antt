@@ -1,0 +1,46 @@
+-- `printing::print_report` meets its contract: what was measured is refused or written. Assumes nothing.
+use native.Mathlib.Omega.{arith}
+use borrow.Author.Needs.{needs}
+use denote.Ref.{now}
+use Rattle.printing.specs.Printing.{Spacious}
+use Rattle.printing.proofs.TableLaws.{spacious-kept}
+use Rattle.printing.proofs.LoopLaws.{Measured, short-answer, short-out, second-room, written-answer, written-out}
+use Rattle.printing.proofs.print_report.Statement.{statement}
+use Rattle.printing.proofs.print_report.Tie as tie
+
+abbrev spacious : (s : tie.Start)
+    → Spacious (now (s .args .text)) (now (s .args .words)) (s .args .index) (s .args .used) (s .args .n) (s .args .spare)
+spacious s = record { table = s .pre .0 .0; few = s .pre .0 .1; behind = s .pre .1 .0; words = s .pre .1 .1 }
+
+abbrev start : tie.After-print-sections → tie.Start
+start m = m .before .before .before .before .before .before
+
+-- what the first pass promises
+abbrev measured : (m : tie.After-print-sections)
+    → Measured (now (start m .args .text)) (now (start m .args .words)) (m .print-sections .last .1 .0) (now (start m .args .out))
+    (m .print-sections .last .1 .1 .1 .1 .1 .1 .0) (start m .args .index) (start m .args .used) (start m .args .n) (start m .args .spare)
+    (m .print-sections .result)
+measured m = record {
+  spacious = spacious (start m);
+  spared = m .print-sections .ensures .1;
+  emitted = m .print-sections .ensures .0;
+  few = omega arith;
+}
+
+pub print-report-spec : {M : Type 1} → statement M
+print-report-spec =
+    tie.close
+    (tie.spec
+    (λ c κs. (spacious (c .before .before .before .before .before), tt))
+    (λ c κs. search needs)
+    (λ c. search needs)
+    (λ c. search needs)
+    (λ c. let μ = measured (c .before .before .before .before .before .before) in
+    (short-answer μ (omega arith) (c .too-short .ensures), short-out μ (omega arith)))
+    (λ c κs. let μ = measured (c .before .before .before .before .before .before .before) in
+    (spacious-kept (μ .spacious) (μ .spared), second-room μ (omega arith)))
+    (λ c. search needs)
+    (λ c. search needs)
+    (λ c. let w = c .before .before .before .before in
+    let μ = measured (w .before .before .before .before .before .before .before .before) in
+    (written-answer μ (omega arith) (w .print-sections2 .ensures .0), written-out μ (omega arith) (w .print-sections2 .ensures .0))))

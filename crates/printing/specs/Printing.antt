@@ -1,0 +1,106 @@
+-- A table printed: the entries from a place on, the runs of a section's rows, and the words that stay. Assumes nothing.
+use Prim.Native.Nat.{ℕ, _+_, _-_, _≤_, _<_}
+use mathlib.Core.Path.{_≡_}
+use mathlib.Core.Logic.{_≢_}
+use mathlib.Core.Bool.{Bool}
+use mathlib.Core.List.{List, _++_}
+use lib.ListN.{length}
+use Rattle.store.specs.Places.{listed}
+use Rattle.store.specs.Rows.{word}
+use Rattle.store.specs.Store.{row}
+use Rattle.model.specs.Bytes.{Bytes}
+use Rattle.model.specs.Limits.{most-entries}
+use Rattle.model.specs.Lists.{each}
+use Rattle.model.specs.Record.{functionsFound, functionsHit}
+use Rattle.model.specs.Tags.{defaultTag}
+use Rattle.model.specs.Report.{Item, Report}
+use Rattle.model.specs.Printing.{startRecord, group, printRecords, printReport}
+use Rattle.items.specs.Items.{kindOf, function-kind, branch-kind, line-kind}
+use Rattle.section.specs.Sections.{entryAt}
+use Rattle.section.specs.Table.{Table}
+use Rattle.sorting.specs.Sorting.{itemsBy, Functions}
+use Rattle.emit.specs.Emit.{foundOf, hitOf, Emitted, Printable}
+use Rattle.printing.specs.declared.Runs.{Runs}
+use Rattle.printing.specs.declared.Printed.{Printed}
+
+-- ---- the table
+
+-- the entries from place lo up to n
+abbrev pub entriesFrom : Bytes → List ℕ → ℕ → ℕ → ℕ → Report
+entriesFrom text ws index n lo = listed (λ k. entryAt text ws index (lo + k)) (n - lo)
+
+-- what they print
+abbrev pub printedFrom : Bytes → List ℕ → ℕ → ℕ → ℕ → Bytes
+printedFrom text ws index n lo = printReport defaultTag (entriesFrom text ws index n lo)
+
+-- a table of few entries, with twice as many spare words behind it
+pub record Spacious (text ws : List ℕ) (index used n spare : ℕ) : Type 0 where
+  pub table : Table text ws index used n
+  pub few : n ≤ most-entries
+  pub behind : index + used ≤ spare
+  pub words : spare + n + n ≤ length ws
+
+-- the words before the spare ones stay
+pub record Spared (ws ws′ : List ℕ) (spare : ℕ) : Type 0 where
+  pub words : length ws′ ≡ length ws
+  pub kept : (j : ℕ) → j < spare → word ws′ j ≡ word ws j
+
+-- ---- runs
+
+-- of the rows from place `from` up to n, those before r are of the kind, and the one at r is not
+pub record RunOf (ws : List ℕ) (index n from kind r : ℕ) : Type 0 where
+  pub least : from ≤ r
+  pub most : r ≤ n
+  pub each : (k : ℕ) → from ≤ k → k < r → kindOf (row ws index k) ≡ kind
+  pub ends : r < n → kindOf (row ws index r) ≢ kind
+
+-- the runs of a section's functions, branches and lines, from place `from` on
+pub record RunsOf (ws : List ℕ) (index n from : ℕ) (r : Runs) : Type 0 where
+  pub functions : RunOf ws index n from function-kind (r .functions)
+  pub branches : RunOf ws index n (r .functions) branch-kind (r .branches)
+  pub lines : RunOf ws index n (r .branches) line-kind (r .lines)
+
+-- ---- functions
+
+-- FN, then FNDA with FNF and FNH
+abbrev pub functionLines : List Item → Bytes
+functionLines items = printRecords defaultTag (each startRecord items) ++ printRecords defaultTag (group functionsFound functionsHit items)
+
+-- the n rows from place `from` on are functions that can be printed, and there are 2n spare words to sort them in
+pub record FunctionRows (text ws : List ℕ) (index used from n spare : ℕ) : Type 0 where
+  pub functions : Functions text ws index used from n
+  pub rows : Printable text ws (index + from) n
+  pub few : n ≤ most-entries
+  pub behind : index + used ≤ spare
+  pub words : spare + n + n ≤ length ws
+
+-- ---- branches and lines
+
+-- BRDA or DA, with how many were found and hit
+abbrev pub groupLines : ℕ → List Item → Bytes
+groupLines kind items = printRecords defaultTag (group (foundOf kind) (hitOf kind) items)
+
+abbrev pub branchLines : Bytes → List ℕ → ℕ → Runs → Bytes
+branchLines text ws index r = groupLines branch-kind (itemsBy text ws (index + r .functions) (r .branches - r .functions))
+
+abbrev pub lineLines : Bytes → List ℕ → ℕ → Runs → Bytes
+lineLines text ws index r = groupLines line-kind (itemsBy text ws (index + r .branches) (r .lines - r .branches))
+
+-- the rows of both runs can be printed
+pub record GroupRows (text ws : List ℕ) (index : ℕ) (r : Runs) : Type 0 where
+  pub branches : Printable text ws (index + r .functions) (r .branches - r .functions)
+  pub lines : Printable text ws (index + r .branches) (r .lines - r .branches)
+  pub order : (r .functions ≤ r .branches) × (r .branches ≤ r .lines)
+  pub few : r .lines ≤ most-entries
+
+-- ---- sections
+
+-- the lines of the section at place lo come first of what the entries from there on print, and the next section is at `next`
+pub record SectionPrinted (write : Bool) (text ws ws′ out out′ : List ℕ) (index n lo spare at : ℕ) (r : Printed) : Type 0 where
+  pub lines : Bytes
+  pub first : printedFrom text ws index n lo ≡ lines ++ printedFrom text ws index n (r .next)
+  pub emitted : Emitted write out out′ at lines (r .at)
+  pub more : lo < r .next
+  pub most : r .next ≤ n
+  pub own : r .next < n → kindOf (row ws index (r .next)) ≡ 0
+  pub spared : Spared ws ws′ spare

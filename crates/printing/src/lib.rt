@@ -1,0 +1,225 @@
+// The report of a table printed: `into_records` (document 01, "Printing"). "Sections in key order: TN, SF, functions, branches, lines,
+// end_of_record." The same code runs twice: it measures, and where the output is long enough it writes.
+use model::Fault;
+use model::Refusal;
+use model::WriteAnswer;
+ghost use mathlib.Core.Path.{_≡_};
+ghost use mathlib.Core.List.{_++_};
+ghost use Prim.Native.Nat.{_+_, _≤_, _<_};
+ghost use lib.ListN.{length};
+ghost use Rattle.store.specs.Store.{Store, row};
+ghost use Rattle.model.specs.Answer.{refuseLength};
+ghost use Rattle.model.specs.Calls.{writeAnswer};
+ghost use Rattle.model.specs.Limits.{most-entries};
+ghost use Rattle.model.specs.Lists.{sort};
+ghost use Rattle.model.specs.Output.{written, outputAfter};
+ghost use Rattle.model.specs.Printing.{comparePrinted, printReport};
+ghost use Rattle.model.specs.Tags.{defaultTag};
+ghost use Rattle.items.specs.Items.{kindOf};
+ghost use Rattle.items.specs.Open.{itemsAt};
+ghost use Rattle.section.specs.Sections.{entriesAt};
+ghost use Rattle.section.specs.Table.{Table};
+ghost use Rattle.sorting.specs.Sorting.{itemsBy};
+ghost use Rattle.emit.specs.Emit.{RoomFor, Emitted, Printable};
+ghost use Rattle.printing.specs.Printing.{printedFrom, Spacious, Spared, RunOf, RunsOf, functionLines, FunctionRows, branchLines, lineLines, GroupRows, SectionPrinted};
+
+// Where the run of rows of a kind that starts at place `from` ends.
+fn run_end(words: &[u64], index: usize, used: usize, n: usize, from: usize, kind: u64) -> usize
+    requires { ⌜ Store (now words) index used × (n ≤ used) × (from ≤ n) ⌝ }
+    ensures { λ r. ⌜ RunOf (now (words .entry)) index n from kind r ⌝ }
+{
+    let mut at = from;
+    while at < n {
+        let row = store::get(words, index, used, at);
+        if row.tag / 2 != kind {
+            return at;
+        }
+        at += 1;
+    }
+    at
+}
+
+// Where a section's functions, branches and lines end.
+struct Runs {
+    functions: usize,
+    branches: usize,
+    lines: usize,
+}
+
+// The runs from place `from` on, behind the section's own row.
+fn find_runs(words: &[u64], index: usize, used: usize, n: usize, from: usize) -> Runs
+    requires { ⌜ Store (now words) index used × (n ≤ used) × (from ≤ n) ⌝ }
+    ensures { λ r. ⌜ RunsOf (now (words .entry)) index n from r ⌝ }
+{
+    let functions = run_end(words, index, used, n, from, items::FUNCTION);
+    let branches = run_end(words, index, used, n, functions, items::BRANCH);
+    let lines = run_end(words, index, used, n, branches, items::LINE);
+    Runs {
+        functions,
+        branches,
+        lines,
+    }
+}
+
+// FN, FNDA, FNF and FNH of the n functions whose row numbers stand from word `numbers` on.
+fn print_numbered(
+    text: &[u8],
+    words: &[u64],
+    numbers: usize,
+    n: usize,
+    out: &mut [u8],
+    at: usize,
+    write: bool,
+) -> usize
+    requires { ⌜ Printable (now text) (now words) numbers n × (n ≤ most-entries) ⌝ }
+    requires { ⌜ RoomFor write (now out) at (functionLines (itemsBy (now text) (now words) numbers n)) ⌝ }
+    ensures { λ r. ⌜ Emitted write (now (out .entry)) (now (out .exit)) at (functionLines (itemsBy (now (text .entry)) (now (words .entry)) numbers n)) r ⌝ }
+{
+    let end = emit::emit_starts(text, words, numbers, n, out, at, write);
+    emit::emit_group(text, words, items::FUNCTION, numbers, n, out, end, write)
+}
+
+// The n functions from place `from` on, "ordered by start line (none first), then name". In any order their lines are as long, so they
+// are sorted only to be written.
+fn print_functions(
+    text: &[u8],
+    words: &mut [u64],
+    index: usize,
+    used: usize,
+    from: usize,
+    n: usize,
+    spare: usize,
+    out: &mut [u8],
+    at: usize,
+    write: bool,
+) -> usize
+    requires { ⌜ FunctionRows (now text) (now words) index used from n spare ⌝ }
+    requires { ⌜ RoomFor write (now out) at (functionLines (sort comparePrinted (itemsAt (now text) (now words) index from n))) ⌝ }
+    ensures { λ r. ⌜ Emitted write (now (out .entry)) (now (out .exit)) at (functionLines (sort comparePrinted (itemsAt (now (text .entry)) (now (words .entry)) index from n))) r ⌝ }
+    ensures { λ _. ⌜ Spared (now (words .entry)) (now (words .exit)) spare ⌝ }
+{
+    if write {
+        sorting::sort_functions(text, words, index, used, from, n, spare);
+        return print_numbered(text, words, spare, n, out, at, write);
+    }
+    print_numbered(text, words, index + from, n, out, at, write)
+}
+
+// "Then BRDA by key, BRF, BRH; DA by line, LF, LH."
+fn print_groups(
+    text: &[u8],
+    words: &[u64],
+    index: usize,
+    runs: Runs,
+    out: &mut [u8],
+    at: usize,
+    write: bool,
+) -> usize
+    requires { ⌜ GroupRows (now text) (now words) index runs ⌝ }
+    requires { ⌜ RoomFor write (now out) at (branchLines (now text) (now words) index runs ++ lineLines (now text) (now words) index runs) ⌝ }
+    ensures { λ r. ⌜ Emitted write (now (out .entry)) (now (out .exit)) at (branchLines (now (text .entry)) (now (words .entry)) index runs ++ lineLines (now (text .entry)) (now (words .entry)) index runs) r ⌝ }
+{
+    let first = runs.functions;
+    let then = runs.branches;
+    let n = then - first;
+    let end = emit::emit_group(text, words, items::BRANCH, index + first, n, out, at, write);
+    let m = runs.lines - then;
+    emit::emit_group(text, words, items::LINE, index + then, m, out, end, write)
+}
+
+// The place of the next section, and the place in the output.
+struct Printed {
+    next: usize,
+    at: usize,
+}
+
+// The section whose own row stands at place lo.
+fn print_section(
+    text: &[u8],
+    words: &mut [u64],
+    index: usize,
+    used: usize,
+    n: usize,
+    lo: usize,
+    spare: usize,
+    out: &mut [u8],
+    at: usize,
+    write: bool,
+) -> Printed
+    requires { ⌜ Spacious (now text) (now words) index used n spare × (lo < n) × (kindOf (row (now words) index lo) ≡ 0) ⌝ }
+    requires { ⌜ RoomFor write (now out) at (printedFrom (now text) (now words) index n lo) ⌝ }
+    ensures { λ r. ⌜ SectionPrinted write (now (text .entry)) (now (words .entry)) (now (words .exit)) (now (out .entry)) (now (out .exit)) index n lo spare at r ⌝ }
+{
+    let own = store::get(words, index, used, lo);
+    let runs = find_runs(words, index, used, n, lo + 1);
+    let next = runs.lines;
+    let m = runs.functions - (lo + 1);
+    let a = emit::emit_head(text, own, out, at, write);
+    let b = print_functions(text, words, index, used, lo + 1, m, spare, out, a, write);
+    let c = print_groups(text, words, index, runs, out, b, write);
+    let end = emit::emit_end(text, out, c, write);
+    Printed { next, at: end }
+}
+
+// All sections, from the output's start on.
+fn print_sections(
+    text: &[u8],
+    words: &mut [u64],
+    index: usize,
+    used: usize,
+    n: usize,
+    spare: usize,
+    out: &mut [u8],
+    write: bool,
+) -> usize
+    requires { ⌜ Spacious (now text) (now words) index used n spare ⌝ }
+    requires { ⌜ RoomFor write (now out) 0 (printedFrom (now text) (now words) index n 0) ⌝ }
+    ensures { λ r. ⌜ Emitted write (now (out .entry)) (now (out .exit)) 0 (printedFrom (now (text .entry)) (now (words .entry)) index n 0) r ⌝ }
+    ensures { λ _. ⌜ Spared (now (words .entry)) (now (words .exit)) spare ⌝ }
+{
+    let mut lo = 0;
+    let mut at = 0;
+    while lo < n {
+        let printed = print_section(text, words, index, used, n, lo, spare, out, at, write);
+        lo = printed.next;
+        at = printed.at;
+    }
+    at
+}
+
+// Refusal 14.
+fn too_short(needed: usize) -> WriteAnswer
+    ensures { λ r. ⌜ r ≡ writeAnswer (refuseLength needed) ⌝ }
+{
+    WriteAnswer::Refused(Refusal {
+        fault: Fault::OutputTooShort,
+        text: 0,
+        line: 0,
+        field: 0,
+        needed: needed as u64,
+    })
+}
+
+// Prints the report of the first n rows. An output "shorter than the bytes to be written, whose number is the needed length" stays. `spare`
+// is where the 2n free words start that functions are sorted in.
+pub fn print_report(
+    text: &[u8],
+    words: &mut [u64],
+    index: usize,
+    used: usize,
+    n: usize,
+    spare: usize,
+    out: &mut [u8],
+) -> WriteAnswer
+    requires { ⌜ Table (now text) (now words) index used n × (n ≤ most-entries) ⌝ }
+    requires { ⌜ (index + used ≤ spare) × (spare + n + n ≤ length (now words)) ⌝ }
+    ensures { λ r. ⌜ r ≡ writeAnswer (written (length (now (out .entry))) (printReport defaultTag (entriesAt (now (text .entry)) (now (words .entry)) index n))) ⌝ }
+    ensures { λ _. ⌜ now (out .exit) ≡ outputAfter (written (length (now (out .entry))) (printReport defaultTag (entriesAt (now (text .entry)) (now (words .entry)) index n))) (now (out .entry)) ⌝ }
+{
+    let needed = print_sections(text, words, index, used, n, spare, out, false);
+    if out.len() < needed {
+        return too_short(needed);
+    }
+    let len = print_sections(text, words, index, used, n, spare, out, true);
+    WriteAnswer::Written(len)
+}

@@ -1,0 +1,5 @@
+pub mod MergeLaws
+pub mod PrintedLaws
+pub mod RunLaws
+pub mod MergingLaws
+pub mod SortedLaws
