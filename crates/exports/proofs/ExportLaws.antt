@@ -18,7 +18,7 @@ use Rattle.model.specs.Calls.{lineRead, writeAnswer}
 use Rattle.order.specs.declared.Order.{Order}
 use Rattle.order.specs.Orders.{orderOf}
 use Rattle.exports.specs.Words.{lineWords, lineNumber, writeWords, writeNumber, holding}
-use Rattle.exports.specs.Exports.{ReadLine, printedLine, orderNumber}
+use Rattle.exports.specs.Exports.{ReadLine, printedLine, Told, orderNumber}
 
 pub line-read : (line : Bytes) (slice slice′ : List ℕ) (number : ℕ) (got : LineAnswer) (words : List ℕ) → lineRead line got ≡ readLine defaultTag line
     → number ≡ lineNumber got → words ≡ lineWords got → slice′ ≡ holding words slice → ReadLine line slice slice′ number
@@ -62,6 +62,16 @@ module _ (line : Bytes) (room : ℕ) (got : LineAnswer) (is : lineRead line got 
 
     pub read-out : (old out : Bytes) → out ≡ outputAfter (printLine defaultTag line lent room) old → out ≡ outputAfter (printedLine line room) old
     read-out old out h = rw read-line at h
+
+-- ---- texts read and gathered
+
+pub tell-words : (got : WriteAnswer) (words slice slice′ : List ℕ) → words ≡ writeWords got → slice′ ≡ holding words slice → slice′ ≡ holding (writeWords got) slice
+tell-words got words slice slice′ w e = rw w at e
+
+pub told : (answer : Answer Bytes) (got : WriteAnswer) (slice slice′ : List ℕ) (out out′ : Bytes) (number : ℕ) → got ≡ writeAnswer answer
+    → out′ ≡ outputAfter answer out → number ≡ writeNumber got → slice′ ≡ holding (writeWords got) slice → Told answer slice slice′ out out′ number
+told answer got slice slice′ out out′ number is output n w =
+    record { numbered = n ∙ ap writeNumber is; words = rw is at w; output = output }
 
 -- ---- two paths
 

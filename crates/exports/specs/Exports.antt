@@ -7,9 +7,9 @@ use Rattle.model.specs.Bytes.{Bytes, newline}
 use Rattle.model.specs.Answer.{Answer, _>>=_}
 use Rattle.model.specs.Tags.{defaultTag}
 use Rattle.model.specs.Line.{readLine, printRecord}
-use Rattle.model.specs.Output.{written}
-use Rattle.model.specs.Calls.{lineRead}
-use Rattle.exports.specs.Words.{lineWords, lineNumber, holding}
+use Rattle.model.specs.Output.{written, outputAfter}
+use Rattle.model.specs.Calls.{lineRead, writeAnswer}
+use Rattle.exports.specs.Words.{lineWords, lineNumber, writeWords, writeNumber, holding}
 
 -- a line read: the number and the words of an answer that is the model's. Parts are told by their place, which the answer chooses
 pub record ReadLine (line : Bytes) (slice slice′ : List ℕ) (number : ℕ) : Type 0 where
@@ -21,6 +21,12 @@ pub record ReadLine (line : Bytes) (slice slice′ : List ℕ) (number : ℕ) : 
 -- a line read, and its record printed with byte 10 after it
 unfoldable pub printedLine : Bytes → ℕ → Answer Bytes
 printedLine line room = readLine defaultTag line >>= λ made. written room (printRecord defaultTag made ++ newline ∷ [])
+
+-- what a call that writes hands back for an answer: its number, the words in the lent slice, and the output
+pub record Told (answer : Answer Bytes) (slice slice′ : List ℕ) (out out′ : Bytes) (number : ℕ) : Type 0 where
+  pub numbered : number ≡ writeNumber (writeAnswer answer)
+  pub words : slice′ ≡ holding (writeWords (writeAnswer answer)) slice
+  pub output : out′ ≡ outputAfter answer out
 
 -- 0 for less, 1 for equal, 2 for greater
 abbrev pub orderNumber : Ordering → ℕ

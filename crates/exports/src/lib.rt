@@ -1,16 +1,23 @@
 // The C calling form: numbers and slices, a slice as a pointer and a length. include/lcov.h declares these calls for C.
 ghost use mathlib.Core.Path.{_≡_};
 ghost use lib.ListN.{length};
+ghost use Rattle.model.specs.declared.Mode.the-variants.{Checked, Lossy};
+ghost use Rattle.model.specs.Limits.{program-words};
+ghost use Rattle.model.specs.Tags.{defaultTag};
+ghost use Rattle.model.specs.Gather.{readAndPrint, gather};
 ghost use Rattle.model.specs.Path.{components, comparePaths};
 ghost use Rattle.model.specs.Output.{outputAfter};
 ghost use Rattle.model.specs.Calls.{writeAnswer};
 ghost use Rattle.exports.specs.Words.{writeWords, writeNumber, holding};
-ghost use Rattle.exports.specs.Exports.{ReadLine, printedLine, orderNumber};
+ghost use Rattle.exports.specs.Exports.{ReadLine, printedLine, Told, orderNumber};
 
 mod words;
 
 use model::LineAnswer;
 use order::Order;
+
+// `program-words` in model/specs/Limits.antt.
+const SCRATCH_WORDS: usize = 8192;
 
 // Reads a line. Answers 0 and the record's words, or a refusal's number and its values.
 #[no_mangle]
@@ -38,6 +45,58 @@ pub extern "C" fn lcov_print_line(line: &[u8], out: &mut [u8], answer: &mut [u64
     let printed = display::print_line(line, made, out);
     words::put_words(words::write_words(printed), answer);
     words::write_number(printed)
+}
+
+// Gathers a bundle, checked, in lent scratch.
+#[no_mangle]
+pub extern "C" fn lcov_gather_with(
+    bundle: &[u8],
+    scratch: &mut [u64],
+    out: &mut [u8],
+    answer: &mut [u64],
+) -> u32
+    ensures { λ r. ⌜ Told (gather defaultTag Checked (now (bundle .entry)) (length (now (scratch .entry))) (length (now (out .entry)))) (now (answer .entry)) (now (answer .exit)) (now (out .entry)) (now (out .exit)) r ⌝ }
+{
+    let got = lcov::gather_checked(bundle, scratch, out);
+    words::tell(got, answer)
+}
+
+// The lossy gather.
+#[no_mangle]
+pub extern "C" fn lcov_gather_lossy(
+    bundle: &[u8],
+    scratch: &mut [u64],
+    out: &mut [u8],
+    answer: &mut [u64],
+) -> u32
+    ensures { λ r. ⌜ Told (gather defaultTag Lossy (now (bundle .entry)) (length (now (scratch .entry))) (length (now (out .entry)))) (now (answer .entry)) (now (answer .exit)) (now (out .entry)) (now (out .exit)) r ⌝ }
+{
+    let got = lcov::gather_lossy(bundle, scratch, out);
+    words::tell(got, answer)
+}
+
+// Reads one text and prints its report.
+#[no_mangle]
+pub extern "C" fn lcov_read_text(
+    text: &[u8],
+    scratch: &mut [u64],
+    out: &mut [u8],
+    answer: &mut [u64],
+) -> u32
+    ensures { λ r. ⌜ Told (readAndPrint defaultTag (now (text .entry)) (length (now (scratch .entry))) (length (now (out .entry)))) (now (answer .entry)) (now (answer .exit)) (now (out .entry)) (now (out .exit)) r ⌝ }
+{
+    let got = lcov::read_text(text, scratch, out);
+    words::tell(got, answer)
+}
+
+// Gathers a bundle, checked, with 8,192 words of scratch inside: 256 entries.
+#[no_mangle]
+pub extern "C" fn lcov_gather(bundle: &[u8], out: &mut [u8], answer: &mut [u64]) -> u32
+    ensures { λ r. ⌜ Told (gather defaultTag Checked (now (bundle .entry)) program-words (length (now (out .entry)))) (now (answer .entry)) (now (answer .exit)) (now (out .entry)) (now (out .exit)) r ⌝ }
+{
+    let mut scratch = [0u64; SCRATCH_WORDS];
+    let got = lcov::gather_checked(bundle, &mut scratch, out);
+    words::tell(got, answer)
 }
 
 // Compares two paths by components: 0 less, 1 equal, 2 greater.

@@ -155,3 +155,12 @@ pub fn put_words(words: [u64; 8], slice: &mut [u64])
         i += 1;
     }
 }
+
+// Hands a writing call's answer back: its words into the slice, where that holds them, and its number.
+pub fn tell(answer: WriteAnswer, slice: &mut [u64]) -> u32
+    ensures number { λ r. ⌜ r ≡ writeNumber answer ⌝ }
+    ensures words { λ _. ⌜ now (slice .exit) ≡ holding (writeWords answer) (now (slice .entry)) ⌝ }
+{
+    put_words(write_words(answer), slice);
+    write_number(answer)
+}

@@ -21,6 +21,7 @@ ghost use Rattle.model.specs.Output.{outputAfter};
 ghost use Rattle.model.specs.Gather.{entryLimit, readAndPrint, gatherText, gatherTexts};
 ghost use Rattle.model.specs.Gather.{gather as gatherOf};
 ghost use Rattle.lcov.specs.Layout.{index-at, spare-at, base-at, Space};
+ghost use Rattle.lcov.specs.Demand.{AcceptsAndWrites};
 ghost use Rattle.lcov.specs.Gathering.{inTextOf, joinedAt, Joining, ReadBehind, GatheredAs};
 
 // `words-per-entry` and `most-entries` in model/specs/Limits.antt.
@@ -177,10 +178,12 @@ fn gather(bundle: &[u8], scratch: &mut [u64], out: &mut [u8], mode: Mode) -> Wri
     WriteAnswer::Refused(unplaced(Fault::MalformedBundle))
 }
 
-// The checked gather (`Report::merge`): given start lines and checksums must agree.
+// The checked gather (`Report::merge`): given start lines and checksums must agree. The last promise is demand 3's for this call; the whole
+// of it, for this call and `read_text`, is `Demand3Calls` in specs/Demand.antt.
 pub fn gather_checked(bundle: &[u8], scratch: &mut [u64], out: &mut [u8]) -> WriteAnswer
     ensures { λ r. ⌜ r ≡ writeAnswer (gatherOf defaultTag Checked (now (bundle .entry)) (length (now (scratch .entry))) (length (now (out .entry)))) ⌝ }
     ensures { λ _. ⌜ now (out .exit) ≡ outputAfter (gatherOf defaultTag Checked (now (bundle .entry)) (length (now (scratch .entry))) (length (now (out .entry)))) (now (out .entry)) ⌝ }
+    ensures demand { λ r. ⌜ AcceptsAndWrites (now (bundle .entry)) (length (now (scratch .entry))) (now (out .entry)) (now (out .exit)) r ⌝ }
 {
     gather(bundle, scratch, out, Mode::Checked)
 }

@@ -1,0 +1,16 @@
+-- `exports::lcov_gather` meets its contract. Assumes nothing.
+use borrow.Author.Needs.{needs}
+use Rattle.exports.proofs.ExportLaws.{told}
+use Rattle.exports.proofs.lcov_gather.Statement.{statement}
+use Rattle.exports.proofs.lcov_gather.Tie as tie
+
+pub lcov-gather-spec : {M : Type 1} → statement M
+lcov-gather-spec =
+    tie.close
+    (tie.spec
+    (λ c. search needs)
+    (λ c κs. search needs)
+    (λ c κs. search needs)
+    (λ c. search needs)
+    (λ c. search needs)
+    (λ c. search (told, needs)))

@@ -1,0 +1,16 @@
+-- `exports::lcov_gather_lossy` meets its contract. Assumes nothing.
+use borrow.Author.Needs.{needs}
+use Rattle.exports.proofs.ExportLaws.{told}
+use Rattle.exports.proofs.lcov_gather_lossy.Statement.{statement}
+use Rattle.exports.proofs.lcov_gather_lossy.Tie as tie
+
+pub lcov-gather-lossy-spec : {M : Type 1} → statement M
+lcov-gather-lossy-spec =
+    tie.close
+    (tie.spec
+    (λ c κs. search needs)
+    (λ c κs. search needs)
+    (λ c. search needs)
+    (λ c. search needs)
+    (λ c. search needs)
+    (λ c. search (told, needs)))

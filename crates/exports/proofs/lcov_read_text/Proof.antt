@@ -1,0 +1,16 @@
+-- `exports::lcov_read_text` meets its contract. Assumes nothing.
+use borrow.Author.Needs.{needs}
+use Rattle.exports.proofs.ExportLaws.{told}
+use Rattle.exports.proofs.lcov_read_text.Statement.{statement}
+use Rattle.exports.proofs.lcov_read_text.Tie as tie
+
+pub lcov-read-text-spec : {M : Type 1} → statement M
+lcov-read-text-spec =
+    tie.close
+    (tie.spec
+    (λ c κs. search needs)
+    (λ c κs. search needs)
+    (λ c. search needs)
+    (λ c. search needs)
+    (λ c. search needs)
+    (λ c. search (told, needs)))
