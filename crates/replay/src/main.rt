@@ -1,31 +1,12 @@
 // Replays recorded lines: standard input holds cases, each a little-endian u16 length and a line of that many bytes. For each it writes
-// the record printed, or `refused`, number, line and field. tests/README.md tells how the lines and the answers of the Rust were recorded.
+// the record printed, or `refused`, number, text (always 0), line and field. tests/README.md tells how the lines and the answers of the Rust were recorded.
 ghost use Prim.Native.Nat.{_+_, _≤_};
 ghost use lib.ListN.{length};
 use model::LineAnswer;
 use model::Record;
-use model::Refusal;
 use model::WriteAnswer;
 
 const MOST: usize = 131072;
-
-fn show_refusal(refusal: Refusal) {
-    let fault = refusal.fault;
-    io::write_all(1, b"refused ");
-    io::print_decimal(1, refusal::number_of(fault) as u64);
-    io::write_all(1, b" ");
-    io::print_decimal(1, refusal.line);
-    io::write_all(1, b" ");
-    io::print_decimal(1, refusal.field as u64);
-    io::write_all(1, b"\n");
-}
-
-// Writes the first n bytes.
-fn write_first(bytes: &[u8], n: usize) {
-    if n <= bytes.len() {
-        io::write_all(1, &bytes[..n]);
-    }
-}
 
 // A line has at most 65,535 bytes, so its record always finds room; if not, that is told and the comparison fails.
 fn show_record(line: &[u8], record: Record) {
@@ -35,14 +16,14 @@ fn show_record(line: &[u8], record: Record) {
         io::write_all(1, b"no room\n");
         return;
     };
-    write_first(&out, n);
+    show::first(&out, n);
 }
 
 fn show(line: &[u8]) {
     let got = record::read_line(line);
     match got {
         LineAnswer::Read(record) => show_record(line, record),
-        LineAnswer::Refused(refusal) => show_refusal(refusal),
+        LineAnswer::Refused(refusal) => show::refusal(refusal),
     }
 }
 

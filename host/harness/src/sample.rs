@@ -23,7 +23,7 @@ const SYSTEMATIC_ONE_IN: usize = 23;
 pub struct Sample {
     /// Cases: a little-endian u16 length, then so many bytes, the line.
     pub lines: Vec<u8>,
-    /// For each case the record printed, or `refused NUMBER LINE FIELD`, with byte 10 after it.
+    /// For each case the record printed, or `refused NUMBER TEXT LINE FIELD`, with byte 10 after it.
     pub answers: Vec<u8>,
 }
 
@@ -135,7 +135,7 @@ fn answer(line: &[u8]) -> Vec<u8> {
     );
     printed.unwrap_or_else(|| {
         let (line, field) = (read.words[LINE], read.words[FIELD]);
-        format!("refused {} {line} {field}\n", read.number).into_bytes()
+        format!("refused {} 0 {line} {field}\n", read.number).into_bytes()
     })
 }
 
@@ -178,6 +178,6 @@ mod tests {
             b"FN:5".to_vec(),
             b"LF:1,2".to_vec(),
         ];
-        assert_eq!(answers(&lines), b"DA:1,2\nrefused 2 1 2\nrefused 3 1 0\n");
+        assert_eq!(answers(&lines), b"DA:1,2\nrefused 2 0 1 2\nrefused 3 0 1 0\n");
     }
 }

@@ -1,10 +1,10 @@
 use borrow.Author.Needs.{needs}
 use lib.Seq.{length-take-le}
-use Rattle.replay.proofs.write_first.Statement.{statement}
-use Rattle.replay.proofs.write_first.Tie as tie
+use Rattle.show.proofs.first.Statement.{statement}
+use Rattle.show.proofs.first.Tie as tie
 
-pub write-first-spec : {M : Type 1} → statement M
-write-first-spec =
+pub first-spec : {M : Type 1} → statement M
+first-spec =
     tie.close
     (tie.spec
     (λ c. search (length-take-le, needs))

@@ -1,0 +1,38 @@
+// The program `gather` (document 01): a bundle on standard input, checked mode, 8,192 words of scratch and 65,536 bytes of output. It prints
+// the joined tracefile, or `refused` with the refusal's number, text, line and field.
+use model::Fault;
+use model::Refusal;
+use model::WriteAnswer;
+
+// `program-input`, `program-words` and `program-output` in model/specs/Limits.antt.
+const MOST_INPUT: usize = 65_536;
+
+const SCRATCH_WORDS: usize = 8192;
+
+const MOST_OUTPUT: usize = 65_536;
+
+fn gather(bundle: &[u8]) {
+    let mut scratch = [0u64; SCRATCH_WORDS];
+    let mut out = [0u8; MOST_OUTPUT];
+    match lcov::gather_checked(bundle, &mut scratch, &mut out) {
+        WriteAnswer::Written(n) => show::first(&out, n),
+        WriteAnswer::Refused(refusal) => show::refusal(refusal),
+    }
+}
+
+fn main() {
+    // one byte more than is allowed, so that a longer input is seen
+    let mut input = [0u8; MOST_INPUT + 1];
+    let n = io::read_full(0, &mut input);
+    if MOST_INPUT < n {
+        show::refusal(Refusal {
+            fault: Fault::MalformedBundle,
+            text: 0,
+            line: 0,
+            field: 0,
+            needed: 0,
+        });
+        return;
+    }
+    gather(&input[..n]);
+}
