@@ -13,4 +13,6 @@ lcov-gather-lossy-spec =
     (λ c. search needs)
     (λ c. search needs)
     (λ c. search needs)
-    (λ c. search (told, needs)))
+    (λ c. let t = c .before .before in
+    let e = t .before .before .before .before .before .before .gather-lossy .ensures in
+    told _ _ _ _ _ _ _ (e .0) (e .1) (t .tell .ensures .0) (t .tell .ensures .1)))
