@@ -12,6 +12,7 @@ use mir.Val.{Fits}
 use mir.Syntax.{w64}
 use borrow.Author.Tests.{leb-true, leb-false, le-leb, lt-leb, eq-eqb, ne-eqb}
 use Rattle.model.specs.declared.Kind.{Kind}
+use Rattle.model.specs.declared.Kind.the-variants as Kd
 use Rattle.model.specs.declared.Part.{Part}
 use Rattle.model.specs.Bytes.{Bytes, ascii}
 use Rattle.model.specs.Number.{decimal}
@@ -177,15 +178,23 @@ module _ (kind : Kind) (r : Tag) (t : TagOf kind r) where
   pub tag-length : r .len ≡ length (defaultTag kind)
   tag-length = sym (length-take-le (r .len) (r .bytes) (t .long)) ∙ ap length (t .is)
 
-  module _ (old : Bytes) (room : length (defaultTag kind) ≤ length old) where
-    tag-room : length (take (r .len) (r .bytes)) ≤ length old
-    tag-room = rw (t .is) room
+pub tag-data : (kind : Kind) → kind ≡ Kd.LineData → ascii "DA" ≡ defaultTag kind
+unfolding defaultTag
+tag-data kind e = rw e
 
-    pub tag-written : (n : ℕ) → n ≡ putLen (written (length old) (take (r .len) (r .bytes))) → n ≡ length (defaultTag kind)
-    tag-written n e = put-len (take (r .len) (r .bytes)) old tag-room n e ∙ ap length (t .is)
+pub tag-branch : (kind : Kind) → kind ≡ Kd.BranchData → ascii "BRDA" ≡ defaultTag kind
+unfolding defaultTag
+tag-branch kind e = rw e
 
-    pub tag-out : (out : Bytes) → out ≡ outputAfter (written (length old) (take (r .len) (r .bytes))) old → out ≡ over (defaultTag kind) old
-    tag-out out e = put-over (take (r .len) (r .bytes)) old tag-room out e ∙ ap (λ (s : Bytes). over s old) (t .is)
+module _ (kind : Kind) (s old : Bytes) (is : s ≡ defaultTag kind) (room : length (defaultTag kind) ≤ length old) where
+  tag-room : length s ≤ length old
+  tag-room = rw is room
+
+  pub tag-written : (n : ℕ) → n ≡ putLen (written (length old) s) → n ≡ length (defaultTag kind)
+  tag-written n e = put-len s old tag-room n e ∙ ap length is
+
+  pub tag-out : (out : Bytes) → out ≡ outputAfter (written (length old) s) old → out ≡ over (defaultTag kind) old
+  tag-out out e = put-over s old tag-room out e ∙ ap (λ (s : Bytes). over s old) is
 
 pub head-is : (kind : Kind) (count : ℕ) (numbers : List ℕ) → headOf kind numbers count ≡ defaultTag kind ++ separated 58 (shown numbers count)
 unfolding headOf

@@ -7,7 +7,7 @@ use mathlib.Core.Option.{none, some}
 use native.Mathlib.Omega.{arith}
 use lib.Dec.{leb, lit≤}
 use lib.ListN.{length, take, drop}
-use borrow.Author.Tests.{leb-true, le-leb, lt-leb}
+use borrow.Author.Tests.{leb-true, leb-false, le-leb, lt-leb}
 use Rattle.model.specs.declared.Fault.the-variants.{PartOutside, OutputTooShort}
 use Rattle.model.specs.declared.Kind.{Kind}
 use Rattle.model.specs.declared.Kind.the-variants as Kd
@@ -29,7 +29,7 @@ use Rattle.model.specs.Calls.{writeAnswer}
 use Rattle.model.specs.Parts.{partOf, takenIn, checksumIn, recordIn, printLine}
 use Rattle.text.specs.Put.{over}
 use Rattle.text.proofs.PutLaws.{written-fits}
-use Rattle.display.specs.Shape.{ShapeOf, separated, shown, lastLen, lastField, inside, sepAfter, headOf, shapeFields, shapeLine, neededAt, kindOf, numbersOf, lastOf}
+use Rattle.display.specs.Shape.{ShapeOf, separated, shown, lastLen, lastField, inside, sepAfter, headOf, shapeFields, shapeLine, Fitting, neededAt, kindOf, numbersOf, lastOf}
 use Rattle.display.specs.Lines.{lineOf, lineIn}
 use Rattle.display.specs.declared.shape.Last.{Last}
 use Rattle.display.specs.declared.shape.Last.the-variants as L
@@ -174,34 +174,42 @@ module _ (t : Bytes) (a : Record) (s : Shape) (w : ShapeOf a s) where
         pub line-measured : n ≡ length (lineIn t a)
         line-measured = needed ∙ ap length (sym (line-printed t a (tested-of true yes)))
 
-        short : (room : ℕ) → room < n → printLine defaultTag t a room ≡ refuseLength n
-        unfolding written
-        short room k = line-inside t a room (tested-of true yes) ∙ rw (← needed, lt-leb n room k)
+        module _ {room : ℕ} {f : Bool} (fit : Fitting s room f) (bad : f ≡ false) where
+          too-long : room < n
+          too-long = rw is (leb-false _ _ (sym (fit .is) ∙ bad))
 
-        fits-in : (room : ℕ) → n ≤ room → printLine defaultTag t a room ≡ accepted (printed t a)
-        unfolding written
-        fits-in room k = line-inside t a room (tested-of true yes) ∙ rw (← needed, le-leb n room k)
+          short : printLine defaultTag t a room ≡ refuseLength n
+          unfolding written
+          short = line-inside t a room (tested-of true yes) ∙ rw (← needed, lt-leb n room too-long)
 
-        pub print-short : (room : ℕ) (q : Refusal) → n ≤ 98 + lastLen (s .last) → length t * 1 < 2 ^ 63 → room < n → q ≡ neededAt OutputTooShort n → Refused q ≡ writeAnswer (printLine defaultTag t a room)
-        unfolding writeAnswer
-        print-short room q few b k f =
-            let m : min n u64-max ≡ n = omega (arith, last-most b) in
-            rw (short room k, f, m)
+          pub print-short : (q : Refusal) → n ≤ 98 + lastLen (s .last) → length t * 1 < 2 ^ 63 → q ≡ neededAt OutputTooShort n → Refused q ≡ writeAnswer (printLine defaultTag t a room)
+          unfolding writeAnswer
+          print-short q few b e =
+              let m : min n u64-max ≡ n = omega (arith, last-most b) in
+              rw (short, e, m)
 
-        pub print-kept : (out : Bytes) → length out < n → out ≡ outputAfter (printLine defaultTag t a (length out)) out
+        pub print-kept : {f : Bool} (out : Bytes) → Fitting s (length out) f → f ≡ false → out ≡ outputAfter (printLine defaultTag t a (length out)) out
         unfolding outputAfter
-        print-kept out k = rw (short (length out) k)
+        print-kept out fit bad = rw (short fit bad)
 
-        pub print-room : (room : ℕ) → n ≤ room → length (shapeLine t (s .kind) (s .numbers) (s .count) (s .last)) ≤ room
-        print-room room k = rw (shape-printed, ← needed) k
+      module _ {room : ℕ} {f : Bool} (fit : Fitting s room f) (good : f ≡ true) where
+        room-enough : length (printed t a) ≤ room
+        room-enough = rw (← (needed _ refl)) (leb-true _ _ (sym (fit .is) ∙ good))
 
-        pub print-written : (w room : ℕ) → n ≤ room → w ≡ length (shapeLine t (s .kind) (s .numbers) (s .count) (s .last)) → Written w ≡ writeAnswer (printLine defaultTag t a room)
+        fits-in : printLine defaultTag t a room ≡ accepted (printed t a)
+        unfolding written
+        fits-in = line-inside t a room (tested-of true yes) ∙ rw (le-leb (length (printed t a)) room room-enough)
+
+        pub print-room : length (shapeLine t (s .kind) (s .numbers) (s .count) (s .last)) ≤ room
+        print-room = rw shape-printed room-enough
+
+        pub print-written : (n : ℕ) → n ≡ length (shapeLine t (s .kind) (s .numbers) (s .count) (s .last)) → Written n ≡ writeAnswer (printLine defaultTag t a room)
         unfolding writeAnswer
-        print-written w room k e = rw (fits-in room k, e, shape-printed)
+        print-written n e = rw (fits-in, e, shape-printed)
 
-        pub print-out : (old out : Bytes) → n ≤ length old → out ≡ over (shapeLine t (s .kind) (s .numbers) (s .count) (s .last)) old → out ≡ outputAfter (printLine defaultTag t a (length old)) old
-        unfolding outputAfter
-        print-out old out k e = rw (fits-in (length old) k) (rw shape-printed at e)
+      pub print-out : {f : Bool} (old out : Bytes) → Fitting s (length old) f → f ≡ true → out ≡ over (shapeLine t (s .kind) (s .numbers) (s .count) (s .last)) old → out ≡ outputAfter (printLine defaultTag t a (length old)) old
+      unfolding outputAfter
+      print-out old out fit good e = rw (fits-in fit good) (rw shape-printed at e)
 
 -- ---- what the printer leaves, for callers with room
 

@@ -1,17 +1,18 @@
 -- A record's shape, and the line that its fields make. Assumes nothing.
-use Prim.Native.Nat.{ℕ, zero, suc, _+_, _-_, _^_, _≤_, _<_}
+use Prim.Native.Nat.{ℕ, zero, suc, _+_, _-_, _*_, _^_, _≤_, _<_}
 use mathlib.Core.Path.{_≡_, refl, sym, ap, _∙_}
 use mathlib.Core.List.{List, [], _∷_, _++_, map, append-assoc, append-nil}
 use mathlib.Core.Bool.{true}
 use native.Mathlib.Omega.{arith}
 use native.Mathlib.Numerals.{one-add}
-use lib.Dec.{eqb·suc-zero}
-use lib.ListN.{length, take, drop, set, length-append, length-drop, length-set}
+use lib.Dec.{eqb·suc-zero, leb, lit≤}
+use lib.ListN.{length, take, drop, set, length-append, length-drop, length-set, length-take}
 use lib.Seq.{length-take-le, set-append-seam, append-snoc}
 use mir.Val.{Fits}
 use mir.Syntax.{w64}
-use borrow.Author.Tests.{leb-true}
+use borrow.Author.Tests.{leb-true, le-leb}
 use Rattle.model.specs.declared.Kind.{Kind}
+use Rattle.model.specs.declared.Kind.the-variants as Kd
 use Rattle.model.specs.declared.Taken.{Taken}
 use Rattle.model.specs.declared.Checksum.{Checksum}
 use Rattle.model.specs.declared.Record.{Record}
@@ -19,9 +20,11 @@ use Rattle.model.specs.declared.Record.the-variants.{BranchData, LineData}
 use Rattle.model.specs.Bytes.{Bytes}
 use Rattle.model.specs.Number.{decimal}
 use Rattle.model.specs.Output.{outputAfter}
+use Rattle.model.specs.Tags.{defaultTag}
 use Rattle.text.specs.Put.{over}
 use Rattle.text.proofs.ByteLaws.{drop-next}
-use Rattle.display.specs.Shape.{ShapeOf, separated, shown, lastLen, lastField, inside, sepAfter, headOf, shapeFields, shapeLine}
+use Rattle.text.proofs.DecimalLaws.{decimal-most}
+use Rattle.display.specs.Shape.{ShapeOf, separated, shown, lastLen, lastField, inside, sepAfter, headOf, shapeFields, shapeLine, Fitting}
 use Rattle.display.specs.declared.shape.Last.{Last}
 use Rattle.display.specs.declared.shape.Last.the-variants as L
 use Rattle.display.specs.declared.shape.Shape.{Shape}
@@ -114,3 +117,40 @@ after-numbers (x ∷ ns) (suc count) gs h =
     rw (eqb·suc-zero count)
     (ap (λ (l : Bytes). 58 ∷ decimal x ++ l) (all-commas (map decimal (take count ns)) gs)
     ∙ ap (λ (l : Bytes). 58 ∷ l) (sym (append-assoc (decimal x) (separated 44 (map decimal (take count ns))) (separated 44 gs))))
+
+-- ---- the longest head
+
+tag-most : (kind : Kind) → length (defaultTag kind) ≤ 13
+unfolding defaultTag
+tag-most Kd.TestName = lit≤ tt
+tag-most Kd.SourceFile = lit≤ tt
+tag-most Kd.FunctionName = lit≤ tt
+tag-most Kd.FunctionData = lit≤ tt
+tag-most Kd.FunctionsFound = lit≤ tt
+tag-most Kd.FunctionsHit = lit≤ tt
+tag-most Kd.BranchData = lit≤ tt
+tag-most Kd.BranchesFound = lit≤ tt
+tag-most Kd.BranchesHit = lit≤ tt
+tag-most Kd.LineData = lit≤ tt
+tag-most Kd.LinesFound = lit≤ tt
+tag-most Kd.LinesHit = lit≤ tt
+tag-most Kd.EndOfRecord = lit≤ tt
+
+numbers-most : (sep : ℕ) (ns : List ℕ) → length (separated sep (map decimal ns)) ≤ 21 * length ns
+unfolding separated
+numbers-most sep [] = omega arith
+numbers-most sep (n ∷ ns) = omega (arith, decimal-most n, numbers-most 44 ns, length-append (decimal n) (separated 44 (map decimal ns)))
+
+head-most : (kind : Kind) (count : ℕ) (numbers : List ℕ) → count ≤ 4 → length (headOf kind numbers count) ≤ 97
+unfolding headOf shown
+head-most kind count numbers h =
+    omega (arith, tag-most kind, numbers-most 58 (take count numbers), length-take count numbers, length-append (defaultTag kind) (separated 58 (map decimal (take count numbers))))
+
+-- whether a line fits
+module _ {s : Shape} {room : ℕ} where
+  pub fits-any : (n : ℕ) → s .count ≤ 4 → n ≡ lastLen (s .last) → 98 + n ≤ room → Fitting s room true
+  fits-any n few e h =
+      record { is = sym (le-leb (length (headOf (s .kind) (s .numbers) (s .count)) + lastLen (s .last) + 1) room (omega (arith, head-most (s .kind) (s .count) (s .numbers) few))) }
+
+  pub fits-measured : (n : ℕ) → n ≡ length (headOf (s .kind) (s .numbers) (s .count)) + lastLen (s .last) + 1 → Fitting s room (leb n room)
+  fits-measured n e = record { is = ap (λ (k : ℕ). leb k room) e }

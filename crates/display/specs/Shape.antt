@@ -138,6 +138,10 @@ shapeFields t kind numbers count last = headOf kind numbers count ++ separated (
 unfoldable pub shapeLine : Bytes → Kind → List ℕ → ℕ → Last → Bytes
 shapeLine t kind numbers count last = shapeFields t kind numbers count last ++ (10 ∷ [])
 
+-- r says whether a line of a shape is at most room bytes long
+pub record Fitting (s : Shape) (room : ℕ) (r : Bool) : Type 0 where
+  pub is : r ≡ leb (length (headOf (s .kind) (s .numbers) (s .count)) + lastLen (s .last) + 1) room
+
 -- a refusal, with the needed length
 abbrev pub neededAt : Fault → ℕ → Refusal
 neededAt fault needed = record { fault = fault; text = 0; line = 0; field = 0; needed = needed }

@@ -49,12 +49,12 @@ pub fn print_line(text: &[u8], record: Record, out: &mut [u8]) -> WriteAnswer
     let shape = shape::shape_of(record);
     let last = shape.last;
     if shape::is_inside(last, text.len()) {
-        let needed = put::line_len(shape);
-        if out.len() < needed {
-            return WriteAnswer::Refused(refusal(Fault::OutputTooShort, needed as u64));
+        if put::fits(shape, out.len()) {
+            let n = put::put_line(shape, text, out);
+            return WriteAnswer::Written(n);
         }
-        let n = put::put_line(shape, text, out);
-        return WriteAnswer::Written(n);
+        let needed = put::line_len(shape);
+        return WriteAnswer::Refused(refusal(Fault::OutputTooShort, needed as u64));
     }
     WriteAnswer::Refused(refusal(Fault::PartOutside, 0))
 }

@@ -6,7 +6,7 @@ ghost use mathlib.Core.Bool.{true};
 ghost use lib.ListN.{length};
 ghost use Rattle.model.specs.Number.{decimal};
 ghost use Rattle.text.specs.Put.{over};
-ghost use Rattle.display.specs.Shape.{separated, shown, lastLen, lastField, inside, sepAfter, headOf, shapeFields, shapeLine};
+ghost use Rattle.display.specs.Shape.{separated, shown, lastLen, lastField, inside, sepAfter, headOf, shapeFields, shapeLine, Fitting};
 use crate::shape;
 use crate::shape::Last;
 use crate::shape::Shape;
@@ -106,6 +106,18 @@ pub fn line_len(shape: Shape) -> usize
     let numbers = shape.numbers;
     let last = shape.last;
     head_len(kind, numbers, shape.count) + shape::last_len(last) + 1
+}
+
+// Whether a shape's line is at most room bytes long. Where any tag and numbers fit, they are not measured.
+pub fn fits(shape: Shape, room: usize) -> bool
+    requires { ⌜ (shape .count ≤ 4) × (lastLen (shape .last) ≤ 9223372036854775808) ⌝ }
+    ensures { λ r. ⌜ Fitting shape room r ⌝ }
+{
+    let last = shape.last;
+    if 98 + shape::last_len(last) <= room {
+        return true;
+    }
+    line_len(shape) <= room
 }
 
 // Writes the tag and the numbers at the front of out.

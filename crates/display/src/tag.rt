@@ -79,8 +79,8 @@ pub fn tag_len(kind: Kind) -> usize
     t.len
 }
 
-// Writes the tag of a kind at the front of out.
-pub fn put_tag(kind: Kind, out: &mut [u8]) -> usize
+// Writes the tag of any kind at the front of out.
+fn put_any(kind: Kind, out: &mut [u8]) -> usize
     requires { ⌜ length (defaultTag kind) ≤ length (now out) ⌝ }
     ensures { λ r. ⌜ (r ≡ length (defaultTag kind)) × (now (out .exit) ≡ over (defaultTag kind) (now (out .entry))) ⌝ }
 {
@@ -88,4 +88,16 @@ pub fn put_tag(kind: Kind, out: &mut [u8]) -> usize
     let bytes = t.bytes;
     let len = t.len;
     text::put_bytes(&bytes[..len], out)
+}
+
+// Writes the tag of a kind at the front of out. Most lines are DA and BRDA: their tags are known where they are written.
+pub fn put_tag(kind: Kind, out: &mut [u8]) -> usize
+    requires { ⌜ length (defaultTag kind) ≤ length (now out) ⌝ }
+    ensures { λ r. ⌜ (r ≡ length (defaultTag kind)) × (now (out .exit) ≡ over (defaultTag kind) (now (out .entry))) ⌝ }
+{
+    match kind {
+        Kind::LineData => text::put_bytes(b"DA", out),
+        Kind::BranchData => text::put_bytes(b"BRDA", out),
+        _ => put_any(kind, out),
+    }
 }

@@ -1,7 +1,6 @@
 // The program `gather` (document 01): a bundle on standard input, checked mode, 8,192 words of scratch and 65,536 bytes of output. It prints
 // the joined tracefile, or `refused` with the refusal's number, text, line and field.
 use model::Fault;
-use model::Refusal;
 use model::WriteAnswer;
 
 // `program-input`, `program-words` and `program-output` in model/specs/Limits.antt.
@@ -15,8 +14,8 @@ fn gather(bundle: &[u8]) {
     let mut scratch = [0u64; SCRATCH_WORDS];
     let mut out = [0u8; MOST_OUTPUT];
     match lcov::gather_checked(bundle, &mut scratch, &mut out) {
-        WriteAnswer::Written(n) => show::first(&out, n),
-        WriteAnswer::Refused(refusal) => show::refusal(refusal),
+        WriteAnswer::Written(n) => program::write_first(&out, n),
+        WriteAnswer::Refused(refusal) => program::show_refusal(refusal),
     }
 }
 
@@ -25,13 +24,7 @@ fn main() {
     let mut input = [0u8; MOST_INPUT + 1];
     let n = io::read_full(0, &mut input);
     if MOST_INPUT < n {
-        show::refusal(Refusal {
-            fault: Fault::MalformedBundle,
-            text: 0,
-            line: 0,
-            field: 0,
-            needed: 0,
-        });
+        program::show_refusal(refusal::unplaced(Fault::MalformedBundle));
         return;
     }
     gather(&input[..n]);

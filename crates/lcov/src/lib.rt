@@ -13,7 +13,7 @@ ghost use Prim.Native.Nat.{_+_, _*_, _≤_, _<_};
 ghost use lib.ListN.{length};
 ghost use Rattle.model.specs.declared.Mode.the-variants.{Checked, Lossy};
 ghost use Rattle.model.specs.Limits.{most-texts, most-entries};
-ghost use Rattle.model.specs.Answer.{inText, unplaced};
+ghost use Rattle.model.specs.Answer.{inText};
 ghost use Rattle.model.specs.Tags.{defaultTag};
 ghost use Rattle.model.specs.Bundle.{wellFormed, textCount, textAt, texts};
 ghost use Rattle.model.specs.Calls.{writeAnswer};
@@ -62,18 +62,6 @@ fn base_at(limit: usize) -> usize
     ensures { λ r. ⌜ r ≡ base-at limit ⌝ }
 {
     spare_at(limit) + limit
-}
-
-fn unplaced(fault: Fault) -> Refusal
-    ensures { λ r. ⌜ r ≡ unplaced fault ⌝ }
-{
-    Refusal {
-        fault,
-        text: 0,
-        line: 0,
-        field: 0,
-        needed: 0,
-    }
 }
 
 // A refusal, in the i-th text.
@@ -129,7 +117,7 @@ fn gather_text(
             let index = index_at(limit);
             match merge::merge(bundle, scratch, base, index, limit, n, used, kept, mode) {
                 Joined::Entries(joined) => Gathered::Entries(joined),
-                Joined::Refused(fault) => Gathered::Refused(in_text(i, unplaced(fault))),
+                Joined::Refused(fault) => Gathered::Refused(in_text(i, refusal::unplaced(fault))),
             }
         }
     }
@@ -175,7 +163,7 @@ fn gather(bundle: &[u8], scratch: &mut [u64], out: &mut [u8], mode: Mode) -> Wri
             }
         }
     }
-    WriteAnswer::Refused(unplaced(Fault::MalformedBundle))
+    WriteAnswer::Refused(refusal::unplaced(Fault::MalformedBundle))
 }
 
 // The checked gather (`Report::merge`): given start lines and checksums must agree. The last promise is demand 3's for this call; the whole

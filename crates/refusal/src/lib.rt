@@ -1,7 +1,8 @@
 // Document 01's number of a fault, by the table `numberOf` of the model.
 ghost use mathlib.Core.Path.{_≡_};
-ghost use Rattle.model.specs.Answer.{numberOf};
+ghost use Rattle.model.specs.Answer.{numberOf, unplaced};
 use model::Fault;
+use model::Refusal;
 
 pub fn number_of(fault: Fault) -> u32
     ensures { λ r. ⌜ r ≡ numberOf fault ⌝ }
@@ -25,5 +26,18 @@ pub fn number_of(fault: Fault) -> u32
         Fault::MalformedBundle => 16,
         Fault::PartOutside => 17,
         Fault::MalformedRanges => 18,
+    }
+}
+
+// A fault that has no place.
+pub fn unplaced(fault: Fault) -> Refusal
+    ensures { λ r. ⌜ r ≡ unplaced fault ⌝ }
+{
+    Refusal {
+        fault,
+        text: 0,
+        line: 0,
+        field: 0,
+        needed: 0,
     }
 }

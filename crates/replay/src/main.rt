@@ -16,40 +16,21 @@ fn show_record(line: &[u8], record: Record) {
         io::write_all(1, b"no room\n");
         return;
     };
-    show::first(&out, n);
+    program::write_first(&out, n);
 }
 
 fn show(line: &[u8]) {
     let got = record::read_line(line);
     match got {
         LineAnswer::Read(record) => show_record(line, record),
-        LineAnswer::Refused(refusal) => show::refusal(refusal),
+        LineAnswer::Refused(refusal) => program::show_refusal(refusal),
     }
-}
-
-fn wide(byte: u8) -> usize
-    ensures { λ r. ⌜ r ≤ 255 ⌝ }
-{
-    byte as usize
-}
-
-// Where the case that starts at `at` ends, or the end of the input where no whole case is left.
-fn case_end(input: &[u8], at: usize) -> usize
-    requires { ⌜ at + 2 ≤ length (now input) ⌝ }
-    ensures { λ r. ⌜ (at + 2 ≤ r) × (r ≤ length (now (input .entry))) ⌝ }
-{
-    let len = wide(input[at]) + wide(input[at + 1]) * 256;
-    let rest = input.len() - 2 - at;
-    if rest < len {
-        return input.len();
-    }
-    at + 2 + len
 }
 
 fn replay(input: &[u8]) {
     let mut at = 0;
     while 2 <= input.len() - at {
-        let end = case_end(input, at);
+        let end = program::case_end(input, at);
         show(&input[at + 2..end]);
         at = end;
     }

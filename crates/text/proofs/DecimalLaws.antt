@@ -46,6 +46,19 @@ decimal-is : (v : ℕ) → v < 2 ^ 64 → decimal v ≡ lastDigits (digitCount 1
 unfolding decimal
 decimal-is v h = all-digits 19 v (lt-of-lt-of-le h (lit≤ tt))
 
+digits-most : (n v : ℕ) → length (decimalDigits n v) ≤ n
+unfolding decimalDigits
+digits-most zero v = omega arith
+digits-most (suc n) v = go (ltb v 10) refl (digits-most n (v / 10))
+  where
+    go : (d : Bool) → ltb v 10 ≡ d → length (decimalDigits n (v / 10)) ≤ n → length (decimalDigits (suc n) v) ≤ suc n
+    go true e rest = rw (decimalDigits-small n v (ltb-true v 10 e)) (omega arith)
+    go false e rest = rw (decimalDigits-large n v (ltb-false v 10 e), length-append) (omega arith)
+
+pub decimal-most : (v : ℕ) → length (decimal v) ≤ 20
+unfolding decimal
+decimal-most v = digits-most 20 v
+
 -- n digits of v are counted, and rest is left, which has at most f + 1
 pub record Counting (v rest n : ℕ) : Type 0 where
   pub small : v < 2 ^ 64

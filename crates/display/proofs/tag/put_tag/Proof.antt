@@ -1,6 +1,5 @@
 use borrow.Author.Needs.{needs}
-use lib.Seq.{length-take-le}
-use Rattle.display.proofs.FieldLaws.{tag-written, tag-out}
+use Rattle.display.proofs.FieldLaws.{tag-data, tag-branch, tag-written, tag-out}
 use Rattle.display.proofs.tag.put_tag.Statement.{statement}
 use Rattle.display.proofs.tag.put_tag.Tie as tie
 
@@ -8,9 +7,16 @@ pub put-tag-spec : {M : Type 1} → statement M
 put-tag-spec =
     tie.close
     (tie.spec
+    (λ c. search needs)
+    (λ c. search needs)
     (λ c κs. search needs)
     (λ c. search needs)
-    (λ c. search (length-take-le, needs))
+    (λ c. search needs)
+    (λ c κs. search needs)
     (λ c κs. search needs)
     (λ c. search needs)
-    (λ c. search (tag-written, tag-out, needs)))
+    (λ c. search (tag-data, tag-written, tag-out, needs))
+    (λ c. search needs)
+    (λ c. search (tag-branch, tag-written, tag-out, needs))
+    (λ c. search needs)
+    (λ c. search needs))
