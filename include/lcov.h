@@ -37,6 +37,35 @@ uint32_t lcov_read_line(const uint8_t *line, size_t line_len, uint64_t *answer, 
  * out stays on a refusal. */
 uint32_t lcov_print_line(const uint8_t *line, size_t line_len, uint8_t *out, size_t out_len, uint64_t *answer, size_t answer_len);
 
+/* The calls below print a report to out, each record a line with byte 10 after it. The first word is the written length; the other seven
+ * are 0. Bytes past the written length stay, and all of out stays on a refusal. They refuse an output that is too short last, so that the
+ * needed length of refusal 14 is the length of the whole report.
+ *
+ * scratch is lent for the call: it may hold anything before, no call reads what it held, and it holds anything afterwards. It allows
+ * scratch_len / 32 entries, rounded down, and never more than 65,535; the entries are the sections and all functions, branches and lines
+ * in them.
+ *
+ * A bundle is n and T, then n starts, then n lengths, all little-endian u32, then T bytes of text. n is at most 64, the slice is exactly
+ * 8 + 8n + T long, and each start + length is at most T. Texts may overlap; a text named twice counts twice. With n = 0 nothing is
+ * written. */
+
+/* Reads one text and prints its report. Refuses with 1 to 10 and 14. */
+uint32_t lcov_read_text(const uint8_t *text, size_t text_len, uint64_t *scratch, size_t scratch_len, uint8_t *out, size_t out_len,
+                        uint64_t *answer, size_t answer_len);
+
+/* Reads each text of the bundle in turn, adds it to what is joined so far, and prints the joined report. Two start lines that are given for
+ * a function must agree (11), and so must two checksums of a line (12). Has 8,192 words of scratch inside, which allow 256 entries. Refuses
+ * with 1 to 14 and 16; a refusal 10 at line 0 is one of the joined report. */
+uint32_t lcov_gather(const uint8_t *bundle, size_t bundle_len, uint8_t *out, size_t out_len, uint64_t *answer, size_t answer_len);
+
+/* The same in lent scratch. */
+uint32_t lcov_gather_with(const uint8_t *bundle, size_t bundle_len, uint64_t *scratch, size_t scratch_len, uint8_t *out, size_t out_len,
+                          uint64_t *answer, size_t answer_len);
+
+/* The lossy gather: the later given start line or checksum wins. Refuses with 1 to 10, 13, 14 and 16. */
+uint32_t lcov_gather_lossy(const uint8_t *bundle, size_t bundle_len, uint64_t *scratch, size_t scratch_len, uint8_t *out, size_t out_len,
+                           uint64_t *answer, size_t answer_len);
+
 /* Compares two paths by their components, as sections are ordered: 0 less, 1 equal, 2 greater. */
 uint32_t lcov_compare_paths(const uint8_t *a, size_t a_len, const uint8_t *b, size_t b_len);
 

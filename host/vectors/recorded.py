@@ -1,12 +1,11 @@
 #!/usr/bin/env python3
-"""Records texts and bundles with the Rust's answers, which programs replay where there is no Rust.
+"""Records texts with the Rust's answers, which the program `texts` replays where there is no Rust.
 
-    recorded.py             writes crates/texts/stdin and stdout, and the bundles of tests/bundles
+    recorded.py             writes crates/texts/stdin and stdout
     recorded.py --check     writes nothing, and fails if a file is not what would be written
 
 The texts are those of questions.py and chosen ones for the entry limit, whose refusals no Rust gives: there line k brings the k-th entry,
-so a limit of E is passed at line E + 1. Bundles are chosen ones, one for each refusal that the program `gather` can give and for the
-edges of the format.
+so a limit of E is passed at line E + 1.
 """
 
 import argparse
@@ -17,7 +16,6 @@ import make
 import questions
 
 ROOT = make.HOST.parent
-PROGRAM_INPUT = 65_536
 
 
 def told(answer):
@@ -71,87 +69,10 @@ def recorded_texts():
     return stdin, b"".join(out for _, _, out in cases)
 
 
-# ---- bundles
-
-
-def bundle(places, text):
-    starts = b"".join(struct.pack("<I", start) for start, _ in places)
-    lengths = b"".join(struct.pack("<I", length) for _, length in places)
-    return struct.pack("<II", len(places), len(text)) + starts + lengths + text
-
-
-def one_after_another(texts):
-    places, at = [], 0
-    for text in texts:
-        places.append((at, len(text)))
-        at += len(text)
-    return bundle(places, b"".join(texts))
-
-
-def section(path, *lines):
-    return "".join(line + "\n" for line in (f"SF:{path}", *lines, "end_of_record")).encode()
-
-
-def gathered(texts):
-    hexed = ",".join(text.hex() or "-" for text in texts)
-    return told(make.ask([" ".join(["gather", "checked"] + [hexed] * bool(texts))])[0])
-
-
-def filled_to(size):
-    """A bundle of so many bytes, with one text whose path fills it."""
-    text = section("x" * (size - 16 - len(section("", "DA:1,1"))), "DA:1,1")
-    return one_after_another([text]), gathered([text])
-
-
-def bundles():
-    """Name, bundle, and what `gather` prints."""
-    one = section("m.c", "FN:3,f", "FNDA:2,f", "DA:3,2")
-    two = section("n.c", "BRDA:1,0,0,4", "BRDA:1,0,1,-", "DA:1,7,abc")
-    for name, texts in [
-        ("no_texts", []),
-        ("two_texts", [one, two]),
-        ("reversed", [two, one]),
-        ("sixty_four", [one] * 64),
-        ("unknown_tag", [one, b"XX:1\n"]),
-        ("field_missing", [b"SF:a\nFN:5\n"]),
-        ("too_many_fields", [b"SF:a\nLF:1,2\n"]),
-        ("empty_number", [b"SF:a\nDA:,1\n"]),
-        ("bad_digit", [b"SF:a\nDA:1x,1\n"]),
-        ("large_number", [b"SF:a\nDA:4294967296,1\n"]),
-        ("name_inside", [one, b"SF:a\nTN:b\n"]),
-        ("open_end", [one, one, b"SF:a\nDA:1,1\n"]),
-        ("starts_differ", [one, section("m.c", "FN:4,f")]),
-        ("checksums_differ", [two, section("n.c", "DA:1,1,abd")]),
-    ]:
-        yield name, one_after_another(texts), gathered(texts)
-    # what the Rust can't be asked: its sums overflow, and it has no limits
-    most = 2**64 - 1
-    yield "calls_overflow", one_after_another([section("a", f"FNDA:{most},f", "FNDA:1,f")]), b"refused 9 0 3 0\n"
-    yield "sum_overflow", one_after_another([section("a", f"DA:1,{most}"), section("a", "DA:1,1")]), b"refused 13 1 0 0\n"
-    lines = [f"DA:{k},1" for k in range(1, 256)]
-    full = section("a", *lines)
-    yield "exactly_full", one_after_another([full]), gathered([full])
-    yield "one_too_many", one_after_another([section("a", *lines, "DA:256,1")]), b"refused 10 0 257 0\n"
-    yield "too_many_joined", one_after_another([full, section("b", "DA:1,1")]), b"refused 10 1 0 0\n"
-    # overlapping texts, a text within another, and damaged sizes
-    whole = one + two
-    yield "overlapping", bundle([(0, len(whole)), (len(one), len(two))], whole), gathered([whole, two])
-    yield "past_the_end", bundle([(1, len(one))], one), b"refused 16 0 0 0\n"
-    yield "sixty_five", one_after_another([b""] * 65), b"refused 16 0 0 0\n"
-    yield "too_short", b"\0" * 7, b"refused 16 0 0 0\n"
-    yield ("largest_input", *filled_to(PROGRAM_INPUT))
-    yield "past_the_input", filled_to(PROGRAM_INPUT + 1)[0], b"refused 16 0 0 0\n"
-    # FN and FNDA print a name twice that FN alone gave once
-    yield "output_too_short", one_after_another([section("a", "FN:1," + "f" * 33_000)]), b"refused 14 0 0 0\n"
-
-
 def files():
     stdin, stdout = recorded_texts()
     yield ROOT / "crates/texts/stdin", stdin
     yield ROOT / "crates/texts/stdout", stdout
-    for name, given, printed in bundles():
-        yield ROOT / f"tests/bundles/{name}.in", given
-        yield ROOT / f"tests/bundles/{name}.out", printed
 
 
 def main():
@@ -161,7 +82,6 @@ def main():
     wrong = []
     for file, made in files():
         if not check:
-            file.parent.mkdir(exist_ok=True)
             file.write_bytes(made)
         elif not file.exists() or file.read_bytes() != made:
             wrong.append(str(file.relative_to(ROOT)))

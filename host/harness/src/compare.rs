@@ -24,6 +24,12 @@ pub struct Difference {
     port: String,
 }
 
+impl Difference {
+    pub fn new(asked: String, rust: String, port: String) -> Self {
+        Difference { asked, rust, port }
+    }
+}
+
 impl fmt::Display for Difference {
     fn fmt(&self, f: &mut fmt::Formatter) -> fmt::Result {
         writeln!(f, "{}", self.asked)?;
@@ -126,11 +132,7 @@ impl<P: Port> Comparison<P> {
     ) {
         self.differences += 1;
         if self.shown.len() < SHOWN {
-            self.shown.push(Difference {
-                asked: asked(),
-                rust: rust(),
-                port: port(),
-            });
+            self.shown.push(Difference::new(asked(), rust(), port()));
         }
     }
 }
@@ -144,7 +146,7 @@ fn printing_of(expected: &Expected, room: usize) -> (Answer, &[u8]) {
     }
 }
 
-fn shown(bytes: &[u8]) -> String {
+pub fn shown(bytes: &[u8]) -> String {
     let hex: String = bytes.iter().map(|byte| format!("{byte:02x}")).collect();
     format!("b\"{}\" (hex {hex})", bytes.escape_ascii())
 }

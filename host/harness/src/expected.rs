@@ -133,7 +133,7 @@ fn start_of_text(len: usize, line: &[u8]) -> usize {
     line.len() - dropped - len
 }
 
-fn refused(refusal: Refusal) -> Answer {
+pub fn refused(refusal: Refusal) -> Answer {
     let mut words = [0; WORDS];
     words[TEXT] = refusal.text as u64;
     words[LINE] = refusal.line as u64;

@@ -1,6 +1,6 @@
-//! The port's calls on lines and paths, and the meaning of the eight words that they answer with.
+//! The port's calls, and the meaning of the eight words that they answer with.
 
-/// The calls of the port, in safe form.
+/// The calls of the port on lines and paths, in safe form.
 ///
 /// A number is 0 for an answer and else document 01's refusal. The eight words are written where the slice holds them all; a shorter
 /// slice stays, and so do words past the eighth.
@@ -14,6 +14,41 @@ pub trait Port {
     fn compare_paths(&self, a: &[u8], b: &[u8]) -> u32;
 }
 
+/// The calls on texts and bundles. They print a report to `out`, and leave it alone where they refuse; the scratch is free afterwards.
+pub trait Gatherer {
+    fn read_text(
+        &self,
+        text: &[u8],
+        scratch: &mut [u64],
+        out: &mut [u8],
+        answer: &mut [u64],
+    ) -> u32;
+
+    /// Checked, with [`INNER_WORDS`] of scratch inside.
+    fn gather(&self, bundle: &[u8], out: &mut [u8], answer: &mut [u64]) -> u32;
+
+    /// Checked.
+    fn gather_with(
+        &self,
+        bundle: &[u8],
+        scratch: &mut [u64],
+        out: &mut [u8],
+        answer: &mut [u64],
+    ) -> u32;
+
+    fn gather_lossy(
+        &self,
+        bundle: &[u8],
+        scratch: &mut [u64],
+        out: &mut [u8],
+        answer: &mut [u64],
+    ) -> u32;
+}
+
+/// So many words of scratch allow one entry.
+pub const WORDS_PER_ENTRY: usize = 32;
+pub const INNER_WORDS: usize = 8192;
+
 pub const WORDS: usize = 8;
 pub type Words = [u64; WORDS];
 
@@ -25,7 +60,7 @@ pub const GIVEN: usize = 5;
 pub const START: usize = 6;
 pub const LEN: usize = 7;
 
-// The word of a line that is printed.
+// The word of what is printed: a line or a report.
 pub const WRITTEN: usize = 0;
 
 // The words of a refusal.

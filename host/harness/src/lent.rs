@@ -2,6 +2,7 @@
 
 use crate::expected::Answer;
 use crate::interface::{START, WORDS};
+use crate::Chance;
 
 const MARK: u64 = 0xa5a5_a5a5_a5a5_a5a5;
 const BYTE_MARK: u8 = 0xa5;
@@ -31,6 +32,10 @@ impl LentWords {
         number == answer.number
             && (0..told).all(|place| words[place] == answer.words[place] || is_free(place))
             && untouched.iter().all(|&word| word == MARK)
+    }
+
+    pub fn word(&self, place: usize) -> u64 {
+        self.0[place]
     }
 
     pub fn shown(&self, number: u32) -> String {
@@ -68,5 +73,30 @@ impl LentBytes {
     /// With what lies behind the slice.
     pub fn all(&self) -> &[u8] {
         &self.0
+    }
+}
+
+/// Scratch that is never cleaned: a call gets what earlier ones left, or noise.
+#[derive(Default)]
+pub struct LentScratch(Vec<u64>);
+
+/// Of how many calls one gets noise.
+const NOISE_ONE_IN: usize = 16;
+
+impl LentScratch {
+    pub fn lend(&mut self, lent: usize, chance: &mut Chance) -> &mut [u64] {
+        if self.0.len() < lent + GUARD {
+            self.0.resize(lent + GUARD, u64::MAX);
+        }
+        if chance.one_in(NOISE_ONE_IN) {
+            self.0[..lent].fill_with(|| chance.number());
+        }
+        self.0[lent..lent + GUARD].fill(MARK);
+        &mut self.0[..lent]
+    }
+
+    /// Whether the words behind the slice that was lent stayed.
+    pub fn kept_behind(&self, lent: usize) -> bool {
+        self.0[lent..lent + GUARD].iter().all(|&word| word == MARK)
     }
 }

@@ -178,6 +178,9 @@ mod tests {
             b"FN:5".to_vec(),
             b"LF:1,2".to_vec(),
         ];
-        assert_eq!(answers(&lines), b"DA:1,2\nrefused 2 0 1 2\nrefused 3 0 1 0\n");
+        assert_eq!(
+            answers(&lines),
+            b"DA:1,2\nrefused 2 0 1 2\nrefused 3 0 1 0\n"
+        );
     }
 }

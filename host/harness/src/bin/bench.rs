@@ -1,18 +1,21 @@
-//! Measures the port beside the Rust, on the lines of a tracefile as `geninfo` writes it and on their paths.
+//! Measures the port beside the Rust: on the lines of a tracefile as `geninfo` writes it and on their paths, and on texts and bundles.
 //!
-//!     cargo run --offline --profile fast --bin bench
+//!     cargo run --offline --profile fast --bin bench [lines | reports]
 //!
 //! The profile leaves out the overflow checks that the comparison needs. Both sides get the same lines in turn, round by round, and
 //! the median round counts. The Rust makes a `Record` that owns its texts, and prints it as `to_string` does, into a new string, or
-//! into one that is kept; the port answers with places in the line, and prints into a buffer that is kept.
+//! into one that is kept; the port answers with places in the line, and prints into a buffer that is kept. Of texts the Rust makes a
+//! `Report`, and prints its records into a new string; the port gets scratch and an output that are kept.
 
 #[path = "../port.rs"]
 mod port;
 
-use harness::interface::WORDS;
-use harness::{tracefile, Chance, Port};
-use oracle::Record;
+use harness::interface::{OUTPUT_TOO_SHORT, WORDS, WORDS_PER_ENTRY, WRITTEN};
+use harness::reports::{bundles, measured};
+use harness::{tracefile, Chance, Gatherer, Port};
+use oracle::{reader, Record, Report};
 use port::Linked;
+use std::cell::RefCell;
 use std::fmt::Write;
 use std::hint::black_box;
 use std::path::Path;
@@ -28,6 +31,17 @@ const ROUNDS: usize = 15;
 const ROOM: usize = 512;
 
 fn main() {
+    let wanted = std::env::args().nth(1);
+    let wants = |part: &str| wanted.as_ref().is_none_or(|wanted| wanted == part);
+    if wants("lines") {
+        measure_lines();
+    }
+    if wants("reports") {
+        measure_reports();
+    }
+}
+
+fn measure_lines() {
     let lines = tracefile::lines(&mut Chance::new(SEED), FILES);
     let paths = paths_of(&lines);
     heading(&lines);
@@ -78,17 +92,22 @@ fn heading(lines: &[String]) {
     println!("|---|---:|---:|---:|");
 }
 
-/// The two take turns, so that what else the machine does falls on both.
 fn row(what: &str, many: usize, rust: impl Fn(), port: impl Fn()) {
+    let (rust, port) = medians(ROUNDS, rust, port);
+    let rust = many as f64 / rust / 1e6;
+    let port = many as f64 / port / 1e6;
+    println!("| {what} | {rust:.2} | {port:.2} | {:.2} |", port / rust);
+}
+
+/// The two take turns, so that what else the machine does falls on both.
+fn medians(rounds: usize, rust: impl Fn(), port: impl Fn()) -> (f64, f64) {
     // caches and branch predictors warm up before the first round
     rust();
     port();
-    let (rust, port): (Vec<f64>, Vec<f64>) = (0..ROUNDS)
+    let (rust, port): (Vec<f64>, Vec<f64>) = (0..rounds)
         .map(|_| (seconds(&rust), seconds(&port)))
         .unzip();
-    let rust = many as f64 / median(rust) / 1e6;
-    let port = many as f64 / median(port) / 1e6;
-    println!("| {what} | {rust:.2} | {port:.2} | {:.2} |", port / rust);
+    (median(rust), median(port))
 }
 
 fn seconds(work: impl Fn()) -> f64 {
@@ -165,4 +184,187 @@ fn port_compares(paths: &[&str]) {
             black_box(Linked.compare_paths(black_box(a.as_bytes()), black_box(b.as_bytes())));
         }
     }
+}
+
+// ---- texts and bundles
+
+/// A row takes about so long for each side, and no fewer rounds than the fewest, nor more than the most.
+const SECONDS_OF_A_ROW: f64 = 0.3;
+const FEWEST_ROUNDS: usize = 5;
+const MOST_ROUNDS: usize = 101;
+
+/// Odd, so that one of them is the median.
+fn rounds_of(seconds: f64) -> usize {
+    ((SECONDS_OF_A_ROW / seconds) as usize).clamp(FEWEST_ROUNDS, MOST_ROUNDS) | 1
+}
+
+/// As many as scratch allows, nearly.
+const ENTRIES: usize = 60_000;
+
+/// Keys that do not come in order make the port move its index. What that takes depends on the number of entries, so there are several.
+const SIZES: [usize; 3] = [ENTRIES, 20_000, 2_000];
+
+/// What the program `gather` takes.
+const PROGRAM_BYTES: usize = 65_536;
+
+fn measure_reports() {
+    let mut chance = Chance::new(SEED);
+    println!("\nthe median of {FEWEST_ROUNDS} to {MOST_ROUNDS} rounds, in milliseconds\n");
+    println!("| | Rust | port | Rust / port |");
+    println!("|---|---:|---:|---:|");
+    for entries in SIZES {
+        for order in measured::ORDERS {
+            let text = measured::one_file(&mut chance, order, entries);
+            text_row(entries, order, "one file", &text);
+            let text = measured::many_files(&mut chance, order, entries);
+            let files = format!("{} files", grouped(entries / 4));
+            text_row(entries, order, &files, &text);
+        }
+    }
+    let text = measured::one_file(&mut chance, measured::Order::Ascending, ENTRIES);
+    reading_row(&text);
+    bundle_row(
+        "50 × 1,000 entries, the same keys",
+        &measured::same_keys(50, 1000),
+    );
+    bundle_row(
+        "50 × 1,000 entries, no shared keys",
+        &measured::no_shared_keys(50, 1000),
+    );
+    bundle_row("one text of 60,000 entries", &bundles::of(&[text]));
+    inner_row(&measured::filled(PROGRAM_BYTES));
+}
+
+fn report_row(what: &str, rust: impl Fn(), port: impl Fn()) {
+    let slower = seconds(&rust).max(seconds(&port));
+    let (rust, port) = medians(rounds_of(slower), rust, port);
+    println!(
+        "| {what} | {:.2} | {:.2} | {:.2} |",
+        rust * 1e3,
+        port * 1e3,
+        rust / port
+    );
+}
+
+/// With a comma before the thousands.
+fn grouped(number: usize) -> String {
+    match (number / 1000, number % 1000) {
+        (0, units) => units.to_string(),
+        (thousands, units) => format!("{thousands},{units:03}"),
+    }
+}
+
+fn text_row(entries: usize, order: measured::Order, files: &str, text: &[u8]) {
+    let lent = Lent::sized(&rust_read_text(text));
+    let what = format!(
+        "read {} entries, {}, {files}",
+        grouped(entries),
+        order.name()
+    );
+    report_row(
+        &what,
+        || drop(black_box(rust_read_text(black_box(text)))),
+        || {
+            lent.call(|scratch, out, answer| {
+                Linked.read_text(black_box(text), scratch, out, answer)
+            })
+        },
+    );
+}
+
+/// The port can't be asked to read alone. Into an empty output it reads, and counts the bytes that it would write.
+fn reading_row(text: &[u8]) {
+    let scratch = RefCell::new(vec![0; 65_535 * WORDS_PER_ENTRY]);
+    report_row(
+        &format!(
+            "read {} entries, ascending, one file, nothing printed",
+            grouped(ENTRIES)
+        ),
+        || drop(black_box(rust_report(black_box(text)))),
+        || {
+            let mut answer = [0; WORDS];
+            let mut scratch = scratch.borrow_mut();
+            let number = Linked.read_text(black_box(text), &mut scratch, &mut [], &mut answer);
+            assert_eq!(number, OUTPUT_TOO_SHORT);
+        },
+    );
+}
+
+fn bundle_row(what: &str, bundle: &[u8]) {
+    let lent = Lent::sized(&rust_gathers(bundle));
+    report_row(
+        &format!("gather {what}"),
+        || drop(black_box(rust_gathers(black_box(bundle)))),
+        || {
+            lent.call(|scratch, out, answer| {
+                Linked.gather_with(black_box(bundle), scratch, out, answer)
+            })
+        },
+    );
+}
+
+fn inner_row(bundle: &[u8]) {
+    let lent = Lent::sized(&rust_gathers(bundle));
+    report_row(
+        &format!("gather {} bytes, scratch inside", grouped(bundle.len())),
+        || drop(black_box(rust_gathers(black_box(bundle)))),
+        || lent.call(|_, out, answer| Linked.gather(black_box(bundle), out, answer)),
+    );
+}
+
+/// What is lent to the port, and kept between the rounds, as long as the report that is expected.
+struct Lent {
+    scratch: RefCell<Vec<u64>>,
+    out: RefCell<Vec<u8>>,
+    expected: String,
+}
+
+impl Lent {
+    fn sized(expected: &str) -> Self {
+        Lent {
+            scratch: RefCell::new(vec![0; 65_535 * WORDS_PER_ENTRY]),
+            out: RefCell::new(vec![0; expected.len()]),
+            expected: expected.to_owned(),
+        }
+    }
+
+    fn call(&self, ask: impl Fn(&mut [u64], &mut [u8], &mut [u64]) -> u32) {
+        let mut answer = [0; WORDS];
+        let mut out = self.out.borrow_mut();
+        let number = ask(&mut self.scratch.borrow_mut(), &mut out, &mut answer);
+        assert_eq!(number, 0, "a sound text, and room for it");
+        assert_eq!(answer[WRITTEN], self.expected.len() as u64);
+        black_box(&out);
+    }
+}
+
+fn rust_read_text(text: &[u8]) -> String {
+    rust_prints_report(rust_report(text))
+}
+
+/// A text is checked to be UTF-8, as the Rust's own reader does line by line.
+fn rust_report(text: &[u8]) -> Report {
+    let text = std::str::from_utf8(text).expect("a sound text");
+    let records = text
+        .split_terminator('\n')
+        .map(|line| line.parse().map_err(reader::Error::Record));
+    Report::from_reader(records).expect("a sound text")
+}
+
+fn rust_prints_report(report: Report) -> String {
+    let mut out = String::new();
+    for record in report.into_records() {
+        writeln!(out, "{record}").expect("a string takes all");
+    }
+    out
+}
+
+fn rust_gathers(bundle: &[u8]) -> String {
+    let mut joined = Report::new();
+    for text in bundles::decoded(bundle).expect("a sound bundle") {
+        joined
+            .merge(rust_report(text))
+            .expect("no start or checksum differs");
+    }
+    rust_prints_report(joined)
 }

@@ -1,19 +1,23 @@
-//! Writes the recorded sample, tests/lines.in and tests/lines.out, from a fixed seed; see tests/README.md.
+//! Writes the recorded sample, tests/lines.in and tests/lines.out, from a fixed seed, and the recorded bundles, tests/bundles/NAME.in
+//! and NAME.out; see tests/README.md.
 //!
 //!     record             writes the files
 //!     record --check     writes nothing, and fails unless the files are what would be written and what the Rust answers
 
+use harness::reports::recorded::{self, Recorded};
 use harness::sample::{self, Sample};
+use std::collections::BTreeMap;
 use std::path::PathBuf;
 use std::process::ExitCode;
 use std::{env, fs, io};
 
 fn main() -> ExitCode {
+    oracle::hush_overflow();
     let words: Vec<String> = env::args().skip(1).collect();
     let words: Vec<&str> = words.iter().map(String::as_str).collect();
     let done = match words.as_slice() {
-        [] => write(&sample::make()).map_err(|error| error.to_string()),
-        ["--check"] => check(),
+        [] => write_all().map_err(|error| error.to_string()),
+        ["--check"] => check().and_then(|()| check_bundles()),
         _ => Err("usage: record [--check]".to_owned()),
     };
     match done {
@@ -29,6 +33,11 @@ fn file(name: &str) -> PathBuf {
     PathBuf::from(env!("CARGO_MANIFEST_DIR"))
         .join("../../tests")
         .join(name)
+}
+
+fn write_all() -> io::Result<()> {
+    write(&sample::make())?;
+    write_bundles(&recorded::all())
 }
 
 fn write(sample: &Sample) -> io::Result<()> {
@@ -61,4 +70,51 @@ fn recorded() -> io::Result<Sample> {
         lines: fs::read(file("lines.in"))?,
         answers: fs::read(file("lines.out"))?,
     })
+}
+
+// ---- bundles
+
+const BUNDLES: &str = "bundles";
+
+fn write_bundles(all: &[Recorded]) -> io::Result<()> {
+    let folder = file(BUNDLES);
+    fs::create_dir_all(&folder)?;
+    for (name, bytes) in bundle_files(all) {
+        fs::write(folder.join(name), bytes)?;
+    }
+    println!("{} bundles", all.len());
+    Ok(())
+}
+
+/// Each file's name and what it holds.
+fn bundle_files(all: &[Recorded]) -> BTreeMap<String, Vec<u8>> {
+    all.iter()
+        .flat_map(|recorded| {
+            let bundle = (format!("{}.in", recorded.name), recorded.bundle.clone());
+            [
+                bundle,
+                (format!("{}.out", recorded.name), recorded.answer()),
+            ]
+        })
+        .collect()
+}
+
+fn check_bundles() -> Result<(), String> {
+    let written = files_in(BUNDLES).map_err(|error| format!("no recorded bundles: {error}"))?;
+    let all = recorded::all();
+    if written != bundle_files(&all) {
+        return Err("tests/bundles holds other bundles or answers: run `record`".to_owned());
+    }
+    println!("{} recorded bundles are answered by the Rust", all.len());
+    Ok(())
+}
+
+fn files_in(folder: &str) -> io::Result<BTreeMap<String, Vec<u8>>> {
+    let mut files = BTreeMap::new();
+    for entry in fs::read_dir(file(folder))? {
+        let entry = entry?;
+        let name = entry.file_name().to_string_lossy().into_owned();
+        files.insert(name, fs::read(entry.path())?);
+    }
+    Ok(files)
 }

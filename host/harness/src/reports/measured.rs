@@ -1,0 +1,122 @@
+//! Texts and bundles for the measure of speed.
+
+use super::bundles;
+use crate::Chance;
+
+/// In which order a text gives its keys.
+#[derive(Debug, Clone, Copy, PartialEq, Eq)]
+pub enum Order {
+    Ascending,
+    Descending,
+    Shuffled,
+}
+
+pub const ORDERS: [Order; 3] = [Order::Ascending, Order::Descending, Order::Shuffled];
+
+impl Order {
+    pub fn name(self) -> &'static str {
+        match self {
+            Order::Ascending => "ascending",
+            Order::Descending => "descending",
+            Order::Shuffled => "shuffled",
+        }
+    }
+
+    /// The numbers from 1 to `many` in this order.
+    fn numbers(self, chance: &mut Chance, many: usize) -> Vec<usize> {
+        let mut numbers: Vec<usize> = (1..=many).collect();
+        match self {
+            Order::Ascending => {}
+            Order::Descending => numbers.reverse(),
+            Order::Shuffled => shuffle(chance, &mut numbers),
+        }
+        numbers
+    }
+}
+
+fn shuffle(chance: &mut Chance, numbers: &mut [usize]) {
+    for last in (1..numbers.len()).rev() {
+        numbers.swap(last, chance.below(last + 1));
+    }
+}
+
+/// Lines of a file: the most entries for the fewest bytes.
+const LINES_OF_A_FILE: usize = 3;
+
+/// One file; so many entries with the section's own.
+pub fn one_file(chance: &mut Chance, order: Order, entries: usize) -> Vec<u8> {
+    let numbers = order.numbers(chance, entries - 1);
+    section("decoder/lattice.cc", numbers.into_iter()).into_bytes()
+}
+
+/// Files of a section and three lines each, the files in this order.
+pub fn many_files(chance: &mut Chance, order: Order, entries: usize) -> Vec<u8> {
+    let files = entries / (1 + LINES_OF_A_FILE);
+    let numbers = order.numbers(chance, files);
+    let sections = numbers.into_iter().map(|file| {
+        let path = format!("decoder/part{file:06}.cc");
+        section(&path, 1..=LINES_OF_A_FILE)
+    });
+    sections.collect::<String>().into_bytes()
+}
+
+fn section(path: &str, lines: impl Iterator<Item = usize>) -> String {
+    let mut text = format!("TN:utterances\nSF:{path}\n");
+    for line in lines {
+        text.push_str(&format!("DA:{line},{}\n", line % 1000));
+    }
+    text.push_str("end_of_record\n");
+    text
+}
+
+/// So many texts of so many entries each, all with the same keys.
+pub fn same_keys(texts: usize, entries: usize) -> Vec<u8> {
+    let text = section("decoder/lattice.cc", 1..entries);
+    bundles::of(&vec![text; texts])
+}
+
+/// So many texts of so many entries each, no key in two of them.
+pub fn no_shared_keys(texts: usize, entries: usize) -> Vec<u8> {
+    let texts: Vec<String> = (0..texts)
+        .map(|text| section(&format!("decoder/part{text:06}.cc"), 1..entries))
+        .collect();
+    bundles::of(&texts)
+}
+
+/// The texts that fill a bundle of so many bytes: 250 entries, the same in each text.
+pub fn filled(bytes: usize) -> Vec<u8> {
+    const TEXTS: usize = 20;
+    let text = section("decoder/lattice.cc", 1..250);
+    let bundle = bundles::of(&vec![text; TEXTS]);
+    assert!(bundle.len() <= bytes);
+    bundle
+}
+
+#[cfg(test)]
+mod tests {
+    use super::*;
+    use crate::reports::expected::Expected;
+    use crate::reports::Asked;
+    use oracle::Mode;
+
+    fn entries(asked: Asked) -> usize {
+        let expected = Expected::of(asked).unwrap();
+        assert!(expected.told.is_ok());
+        expected.entries
+    }
+
+    #[test]
+    fn the_texts_have_so_many_entries() {
+        for order in ORDERS {
+            let mut chance = Chance::new(1);
+            let one = one_file(&mut chance, order, 1000);
+            assert_eq!(entries(Asked::Text(&one)), 1000);
+            let many = many_files(&mut chance, order, 1000);
+            assert_eq!(entries(Asked::Text(&many)), 1000);
+        }
+        let bundled = |bundle: &[u8]| entries(Asked::Bundle(Mode::Checked, bundle));
+        assert_eq!(bundled(&same_keys(5, 100)), 100);
+        assert_eq!(bundled(&no_shared_keys(5, 100)), 500);
+        assert_eq!(bundled(&filled(65_536)), 250);
+    }
+}

@@ -1,0 +1,28 @@
+//! Questions about readings and gathers: texts and bundles, what document 01 expects of them, and the comparison with the port.
+
+pub mod bundles;
+pub mod by_chance;
+pub mod compare;
+pub mod expected;
+pub mod measured;
+pub mod recorded;
+pub mod restated;
+pub mod systematic;
+pub mod tally;
+
+use oracle::Mode;
+
+/// A question without the slices that are lent for its answer.
+#[derive(Clone, Copy)]
+pub enum Asked<'a> {
+    Text(&'a [u8]),
+    Bundle(Mode, &'a [u8]),
+}
+
+impl<'a> Asked<'a> {
+    pub fn bytes(self) -> &'a [u8] {
+        match self {
+            Asked::Text(bytes) | Asked::Bundle(_, bytes) => bytes,
+        }
+    }
+}

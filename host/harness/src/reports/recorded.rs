@@ -1,0 +1,224 @@
+//! Recorded bundles and what the program `gather` prints for them, for a run without Rust.
+//!
+//! The answers are the Rust's; where document 01 added a number (9, 10, 13, 14 and 16) they are the count's.
+
+use super::expected::{Expected, NOT_WELL_FORMED};
+use super::systematic::ascending;
+use super::{bundles, Asked};
+use crate::interface::{INNER_WORDS, OUTPUT_TOO_SHORT, WORDS_PER_ENTRY};
+use oracle::{Mode, Refusal};
+
+/// What the program reads and writes at most.
+const MOST_INPUT: usize = 65_536;
+const MOST_OUTPUT: usize = 65_536;
+
+/// A file's name without its end, and the bundle in it.
+pub struct Recorded {
+    pub name: &'static str,
+    pub bundle: Vec<u8>,
+}
+
+impl Recorded {
+    /// What the program prints.
+    pub fn answer(&self) -> Vec<u8> {
+        if self.bundle.len() > MOST_INPUT {
+            return refused(numbered(NOT_WELL_FORMED));
+        }
+        let asked = Asked::Bundle(Mode::Checked, &self.bundle);
+        let expected = Expected::of(asked).expect("recorded bundles are UTF-8");
+        match expected.limited(asked, INNER_WORDS / WORDS_PER_ENTRY) {
+            Ok(printed) if printed.len() > MOST_OUTPUT => refused(numbered(OUTPUT_TOO_SHORT)),
+            Ok(printed) => printed,
+            Err(refusal) => refused(refusal),
+        }
+    }
+}
+
+fn numbered(number: u32) -> Refusal {
+    Refusal {
+        number,
+        text: 0,
+        line: 0,
+        field: 0,
+    }
+}
+
+fn refused(refusal: Refusal) -> Vec<u8> {
+    let Refusal {
+        number,
+        text,
+        line,
+        field,
+    } = refusal;
+    format!("refused {number} {text} {line} {field}\n").into_bytes()
+}
+
+const FIRST: &str = "TN:a\nSF:m.c\nFN:3,f\nFNDA:2,f\nDA:3,2\nDA:4,0,c1\nend_of_record\n";
+const SECOND: &str = "TN:a\nSF:./m.c\nFNDA:1,g\nBRDA:4,0,0,-\nBRDA:4,0,1,7\nend_of_record\n";
+const THIRD: &str = "TN:a\nSF:.//m.c\nFN:3,g\nBRDA:4,0,0,2\nDA:4,1,c2\nend_of_record\n";
+const MOST: &str = "BRDA:1,0,0,18446744073709551615\nDA:1,1\nend_of_record\n";
+const LINE_MOST: &str = "BRDA:1,0,0,-\nDA:1,18446744073709551615\nend_of_record\n";
+
+pub fn all() -> Vec<Recorded> {
+    let mut all = Vec::new();
+    let mut add = |name, bundle| all.push(Recorded { name, bundle });
+    for (name, texts) in of_texts() {
+        add(name, bundles::of(&texts));
+    }
+    add("none", bundles::of::<&str>(&[]));
+    add("empty-input", Vec::new());
+    add("64-texts", bundles::of(&[FIRST; 64]));
+    add("65-texts", bundles::of(&[FIRST; 65]));
+    add("overlapping", overlapping());
+    add("text-past-the-end", bundles::encoded(b"TN:a\n", &[(1, 5)]));
+    add("65536-bytes", of_length(MOST_INPUT));
+    add("65537-bytes", of_length(MOST_INPUT + 1));
+    add("256-entries", bundles::of(&[ascending(256)]));
+    add("257-entries", bundles::of(&[ascending(257)]));
+    add(
+        "256-joined",
+        bundles::of(&[&ascending(252)[..], FIRST.as_bytes()]),
+    );
+    add(
+        "257-joined",
+        bundles::of(&[&ascending(253)[..], FIRST.as_bytes()]),
+    );
+    add("output-65536", printed_as_long_as(MOST_OUTPUT));
+    add("output-65537", printed_as_long_as(MOST_OUTPUT + 1));
+    all
+}
+
+/// One for each refusal that a text can give, and for each of a merge.
+fn of_texts() -> Vec<(&'static str, Vec<&'static str>)> {
+    vec![
+        ("refused-01", vec![FIRST, "TN:a\nXY:1\n"]),
+        ("refused-02", vec![FIRST, "TN:a\nSF:b\nFN:5\n"]),
+        ("refused-03", vec!["LF:1,2\n"]),
+        ("refused-04", vec!["BRDA:1,0,0,\n"]),
+        ("refused-05", vec![FIRST, FIRST, "DA:4294967295x,0\n"]),
+        ("refused-06", vec!["DA:1,18446744073709551616\n"]),
+        ("refused-07", vec![FIRST, "SF:b\nTN:a\n"]),
+        ("refused-08", vec!["TN:a\nSF:b\n"]),
+        (
+            "refused-09",
+            vec!["FNDA:18446744073709551615,f\nFNDA:1,f\n"],
+        ),
+        (
+            "refused-11",
+            vec![FIRST, "TN:a\nSF:m.c\nFN:4,f\nend_of_record\n"],
+        ),
+        (
+            "refused-12",
+            vec![FIRST, "TN:a\nSF:m.c\nDA:4,1,c2\nend_of_record\n"],
+        ),
+        (
+            "refused-13-branch",
+            vec![MOST, "DA:1,1\nend_of_record\n", MOST],
+        ),
+        ("refused-13-line", vec![LINE_MOST, MOST]),
+        (
+            "calls-stop",
+            vec!["FNDA:18446744073709551615,f\nend_of_record\n"; 2],
+        ),
+        (
+            "case-l",
+            vec!["TN:a\nSF:m.c\nFN:3,f\nFNDA:2,f\nDA:3,2\nDA:4,0\nend_of_record\n"; 2],
+        ),
+        ("joined", vec![FIRST, SECOND, THIRD]),
+        ("joined-reversed", vec![THIRD, SECOND, FIRST]),
+        ("named-twice", vec![FIRST, SECOND, FIRST]),
+        (
+            "nothing-in-them",
+            vec!["", "TN:a\n", "SF:a\nend_of_record\n"],
+        ),
+    ]
+}
+
+/// Three texts of one stretch: all of it, its first half and its second.
+fn overlapping() -> Vec<u8> {
+    let bytes = [FIRST, SECOND].concat();
+    let (first, second) = (FIRST.len(), SECOND.len());
+    bundles::encoded(
+        bytes.as_bytes(),
+        &[(0, first + second), (0, first), (first, second)],
+    )
+}
+
+/// A bundle that is so long because of bytes that no text names.
+fn of_length(len: usize) -> Vec<u8> {
+    let mut bytes = FIRST.as_bytes().to_vec();
+    bytes.resize(len - bundles::head_len(2), b'x');
+    bundles::encoded(&bytes, &[(0, FIRST.len()), (0, FIRST.len())])
+}
+
+/// A bundle of one text whose report is so long: a function's name is printed twice where it has a start, and so the report is longer
+/// than the text.
+fn printed_as_long_as(len: usize) -> Vec<u8> {
+    let text = |name: usize, path: usize| {
+        format!(
+            "SF:{}\nFN:1,{}\nend_of_record\n",
+            "p".repeat(path),
+            "n".repeat(name)
+        )
+    };
+    let printed = |text: &str| {
+        let report = oracle::read_text(text.as_bytes()).expect("a sound text");
+        oracle::print_report(report).len()
+    };
+    let shortest = printed(&text(20_000, 0));
+    let made = text(20_000, len - shortest);
+    assert_eq!(printed(&made), len);
+    bundles::of(&[made])
+}
+
+#[cfg(test)]
+mod tests {
+    use super::*;
+    use std::collections::HashSet;
+
+    fn answer(name: &str) -> String {
+        let all = all();
+        let recorded = all.iter().find(|recorded| recorded.name == name).unwrap();
+        String::from_utf8(recorded.answer()).unwrap()
+    }
+
+    #[test]
+    fn every_refusal_of_the_program_is_recorded() {
+        oracle::hush_overflow();
+        let numbers: HashSet<u32> = all()
+            .iter()
+            .filter_map(|recorded| {
+                let answer = String::from_utf8(recorded.answer()).unwrap();
+                answer
+                    .strip_prefix("refused ")?
+                    .split(' ')
+                    .next()?
+                    .parse()
+                    .ok()
+            })
+            .collect();
+        assert_eq!(numbers, HashSet::from_iter((1..=14).chain([16])));
+    }
+
+    #[test]
+    fn limits_are_met_from_both_sides() {
+        oracle::hush_overflow();
+        for (fits, does_not, number) in [
+            ("65536-bytes", "65537-bytes", "16 0 0 0"),
+            ("256-entries", "257-entries", "10 0 257 0"),
+            ("256-joined", "257-joined", "10 1 0 0"),
+            ("64-texts", "65-texts", "16 0 0 0"),
+            ("output-65536", "output-65537", "14 0 0 0"),
+        ] {
+            assert!(!answer(fits).starts_with("refused"), "{fits}");
+            assert_eq!(answer(does_not), format!("refused {number}\n"));
+        }
+    }
+
+    #[test]
+    fn names_are_distinct() {
+        let all = all();
+        let names: HashSet<&str> = all.iter().map(|recorded| recorded.name).collect();
+        assert_eq!(names.len(), all.len());
+    }
+}
