@@ -31,7 +31,7 @@ def told(answer):
 
 
 def limited():
-    """Texts at the entry limit, with what they give: 10 at the line that passes it, or the report."""
+    """Texts at the limits that the port adds, with what they give: 10 at the line that passes the entry limit, or the report; and 9."""
     lines = ["SF:a\n"] + [f"DA:{k},1\n" for k in range(1, 4)]
     for entries in range(len(lines)):
         yield "".join(lines) + "end_of_record\n", entries, f"refused 10 0 {entries + 1} 0\n".encode()
@@ -40,6 +40,8 @@ def limited():
     yield "", 0, b""
     yield "TN:a\n", 0, b""
     yield "end_of_record\n", 0, b""
+    # the Rust's sum overflows here
+    yield "SF:a\nFNDA:18446744073709551615,f\nFNDA:1,f\n", 256, b"refused 9 0 3 0\n"
     # a section that will replace a kept one counts beside it while it is open
     yield whole * 2, len(lines), b"refused 10 0 6 0\n"
 
