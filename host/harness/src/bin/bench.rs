@@ -231,6 +231,14 @@ fn measure_reports() {
         "50 × 1,000 entries, no shared keys",
         &measured::no_shared_keys(50, 1000),
     );
+    bundle_row(
+        "50 × 1,000 entries, interleaved lines",
+        &measured::interleaved(50, 1000),
+    );
+    bundle_row(
+        "50 × 1,000 entries in 250 files",
+        &measured::same_files(50, 1000),
+    );
     bundle_row("one text of 60,000 entries", &bundles::of(&[text]));
     inner_row(&measured::filled(PROGRAM_BYTES));
 }

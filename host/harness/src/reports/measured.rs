@@ -83,6 +83,21 @@ pub fn no_shared_keys(texts: usize, entries: usize) -> Vec<u8> {
     bundles::of(&texts)
 }
 
+/// So many texts of so many entries each, whose lines take turns in one file.
+pub fn interleaved(texts: usize, entries: usize) -> Vec<u8> {
+    let lines = |text: usize| (1..entries).map(move |line| line * texts + text);
+    let texts: Vec<String> = (0..texts)
+        .map(|text| section("decoder/lattice.cc", lines(text)))
+        .collect();
+    bundles::of(&texts)
+}
+
+/// So many texts of so many entries each, in files of three lines, the same files in each text.
+pub fn same_files(texts: usize, entries: usize) -> Vec<u8> {
+    let text = many_files(&mut Chance::new(1), Order::Ascending, entries);
+    bundles::of(&vec![text; texts])
+}
+
 /// The texts that fill a bundle of so many bytes: 250 entries, the same in each text.
 pub fn filled(bytes: usize) -> Vec<u8> {
     const TEXTS: usize = 20;
@@ -117,6 +132,8 @@ mod tests {
         let bundled = |bundle: &[u8]| entries(Asked::Bundle(Mode::Checked, bundle));
         assert_eq!(bundled(&same_keys(5, 100)), 100);
         assert_eq!(bundled(&no_shared_keys(5, 100)), 500);
+        assert_eq!(bundled(&interleaved(5, 100)), 1 + 5 * 99);
+        assert_eq!(bundled(&same_files(5, 100)), 100);
         assert_eq!(bundled(&filled(65_536)), 250);
     }
 }
