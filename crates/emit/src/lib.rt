@@ -36,8 +36,8 @@ pub fn emit_record(text: &[u8], record: Record, out: &mut [u8], at: usize, write
         return at + n;
     }
     let n = display::line_len(text, record);
-    if 0xffff_ffff_ffff_ffff - at < n {
-        return 0xffff_ffff_ffff_ffff;
+    if usize::MAX - at < n {
+        return usize::MAX;
     }
     at + n
 }

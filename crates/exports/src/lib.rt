@@ -16,8 +16,7 @@ mod words;
 use model::LineAnswer;
 use order::Order;
 
-// `program-words` in model/specs/Limits.antt.
-const SCRATCH_WORDS: usize = 8192;
+const SCRATCH_WORDS: usize = lcov::PROGRAM_WORDS;
 
 // Reads a line. Answers 0 and the record's words, or a refusal's number and its values.
 #[no_mangle]

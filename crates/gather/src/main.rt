@@ -3,12 +3,12 @@
 use model::Fault;
 use model::WriteAnswer;
 
-// `program-input`, `program-words` and `program-output` in model/specs/Limits.antt.
+// `program-input` in model/specs/Limits.antt.
 const MOST_INPUT: usize = 65_536;
 
-const SCRATCH_WORDS: usize = 8192;
+const SCRATCH_WORDS: usize = lcov::PROGRAM_WORDS;
 
-const MOST_OUTPUT: usize = 65_536;
+const MOST_OUTPUT: usize = lcov::PROGRAM_OUTPUT;
 
 fn gather(bundle: &[u8]) {
     let mut scratch = [0u64; SCRATCH_WORDS];

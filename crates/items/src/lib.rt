@@ -225,7 +225,7 @@ pub fn combine(old: Row, row: Row, adds: bool) -> Combined
     }
     let a = old.count;
     let b = row.count;
-    if 0xffff_ffff_ffff_ffff - a < b {
+    if u64::MAX - a < b {
         return Combined::Overflow;
     }
     let mut both = old;

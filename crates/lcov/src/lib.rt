@@ -24,9 +24,15 @@ ghost use Rattle.lcov.specs.Layout.{index-at, spare-at, base-at, Space};
 ghost use Rattle.lcov.specs.Demand.{AcceptsAndWrites};
 ghost use Rattle.lcov.specs.Gathering.{inTextOf, joinedAt, Joining, ReadBehind, GatheredAs};
 
-// `words-per-entry` and `most-entries` in model/specs/Limits.antt.
-const WORDS_PER_ENTRY: usize = 32;
+// The fixed numbers of model/specs/Limits.antt that code outside needs too: `words-per-entry`, and the scratch and the output of the program
+// `gather`, which `program-words` and `program-output` are.
+pub const WORDS_PER_ENTRY: usize = 32;
 
+pub const PROGRAM_WORDS: usize = 8192;
+
+pub const PROGRAM_OUTPUT: usize = 65_536;
+
+// `most-entries`.
 const MOST_ENTRIES: usize = 65_535;
 
 // "The entry limit E is the smaller of W/32 rounded down and 65,535."

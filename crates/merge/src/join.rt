@@ -53,8 +53,8 @@ fn choose(mode: Mode, earlier: u64, later: u64, alike: bool) -> Choice
 fn capped_sum(a: u64, b: u64) -> u64
     ensures { λ r. ⌜ r ≡ min (a + b) u64-max ⌝ }
 {
-    if 0xffff_ffff_ffff_ffff - a < b {
-        return 0xffff_ffff_ffff_ffff;
+    if u64::MAX - a < b {
+        return u64::MAX;
     }
     a + b
 }
@@ -64,7 +64,7 @@ fn with_sum(row: Row, more: u64) -> Joining
     ensures { λ r. ⌜ r ≡ summed row more ⌝ }
 {
     let count = row.count;
-    if 0xffff_ffff_ffff_ffff - count < more {
+    if u64::MAX - count < more {
         return Joining::Refused(Fault::CountOverflow);
     }
     let mut both = row;

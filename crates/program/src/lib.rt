@@ -1,10 +1,12 @@
 // What the programs share: recorded cases cut from standard input, a refusal told in words and numbers, the front of a buffer written.
+ghost use mathlib.Core.Path.{_≡_};
 ghost use Prim.Native.Nat.{_+_, _≤_};
 ghost use lib.ListN.{length};
+ghost use Rattle.program.specs.Cases.{u16At, caseEnd};
 use model::Refusal;
 
 fn wide(byte: u8) -> usize
-    ensures { λ r. ⌜ r ≤ 255 ⌝ }
+    ensures { λ r. ⌜ (r ≡ byte) × (r ≤ 255) ⌝ }
 {
     byte as usize
 }
@@ -12,7 +14,7 @@ fn wide(byte: u8) -> usize
 // The little-endian u16 at an offset.
 pub fn u16_at(input: &[u8], at: usize) -> usize
     requires { ⌜ at + 2 ≤ length (now input) ⌝ }
-    ensures { λ r. ⌜ r ≤ 65535 ⌝ }
+    ensures { λ r. ⌜ (r ≡ u16At (now (input .entry)) at) × (r ≤ 65535) ⌝ }
 {
     wide(input[at]) + wide(input[at + 1]) * 256
 }
@@ -20,7 +22,7 @@ pub fn u16_at(input: &[u8], at: usize) -> usize
 // Where the case that starts at `at` with its length ends, or the end of the input where no whole case is left.
 pub fn case_end(input: &[u8], at: usize) -> usize
     requires { ⌜ at + 2 ≤ length (now input) ⌝ }
-    ensures { λ r. ⌜ (at + 2 ≤ r) × (r ≤ length (now (input .entry))) ⌝ }
+    ensures { λ r. ⌜ (r ≡ caseEnd (now (input .entry)) at) × (at + 2 ≤ r) × (r ≤ length (now (input .entry))) ⌝ }
 {
     let len = u16_at(input, at);
     let rest = input.len() - 2 - at;

@@ -1,25 +1,26 @@
 // Reads recorded texts: standard input holds cases, each a little-endian u16 entry limit, a u16 length and a text of that many bytes. For
 // each it reads the text in scratch for that many entries and writes what the scratch then holds, as a printed report, or the refusal.
 // tests/README.md tells how the texts and their answers were recorded.
-ghost use Prim.Native.Nat.{_+_, _≤_};
-ghost use lib.ListN.{length};
+ghost use mathlib.Core.Path.{_≡_};
+ghost use Prim.Native.Nat.{_*_, min};
+ghost use Rattle.model.specs.Limits.{words-per-entry, program-words};
 use model::WriteAnswer;
 
 const MOST: usize = 131072;
 
 // Words for 256 entries, which is the most that a case may ask for.
-const SCRATCH_WORDS: usize = 8192;
+const SCRATCH_WORDS: usize = lcov::PROGRAM_WORDS;
 
-const MOST_OUTPUT: usize = 65_536;
+const MOST_OUTPUT: usize = lcov::PROGRAM_OUTPUT;
 
 // Scratch for so many entries; all of it where that is not enough.
 fn words_for(entries: usize) -> usize
-    ensures { λ r. ⌜ r ≤ 8192 ⌝ }
+    ensures { λ r. ⌜ r ≡ min (entries * words-per-entry) program-words ⌝ }
 {
-    if SCRATCH_WORDS / 32 < entries {
+    if SCRATCH_WORDS / lcov::WORDS_PER_ENTRY < entries {
         return SCRATCH_WORDS;
     }
-    entries * 32
+    entries * lcov::WORDS_PER_ENTRY
 }
 
 fn show(text: &[u8], entries: usize) {
