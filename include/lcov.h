@@ -66,6 +66,29 @@ uint32_t lcov_gather_with(const uint8_t *bundle, size_t bundle_len, uint64_t *sc
 uint32_t lcov_gather_lossy(const uint8_t *bundle, size_t bundle_len, uint64_t *scratch, size_t scratch_len, uint8_t *out, size_t out_len,
                            uint64_t *answer, size_t answer_len);
 
+/* Ranges of lines are pairs of start and end, both in the range, in a lent list of which the first `used` pairs count. They are well formed
+ * if used is at most the list's length, each start is at most its end, and they ascend with at least one line between two. pairs_len
+ * counts pairs. What is not well formed is refused with 18 and stays. */
+
+/* Puts the range from start to end among the pairs: it is joined with those that it overlaps or is next to; one that ends before it starts
+ * is dropped. The first word is the new number of pairs, and the pairs past it are zeroed. Refuses with 15, and leaves the list, if it
+ * can't hold the result. */
+uint32_t lcov_insert_range(uint32_t (*pairs)[2], size_t pairs_len, size_t used, uint32_t start, uint32_t end, uint64_t *answer,
+                           size_t answer_len);
+
+/* Asks whether some pair starts at `end` or before and ends at `start` or later: the first word is 1 or 0. */
+uint32_t lcov_query_range(const uint32_t (*pairs)[2], size_t pairs_len, size_t used, uint32_t start, uint32_t end, uint64_t *answer,
+                          size_t answer_len);
+
+/* The range that the half-open a..b is, its start and end as the first two words: a to b - 1, with b = 0 read as b = 1. */
+void lcov_half_open(uint32_t a, uint32_t b, uint64_t *answer, size_t answer_len);
+
+/* Reads one text and prints what of its report the pairs hold: branches and lines whose line is held; functions that have a start line
+ * and of whose lines, up to one before the next function's start, some is held. A section that is emptied is printed as TN, SF and
+ * end_of_record. Refuses with 18, then as lcov_read_text does. */
+uint32_t lcov_filter(const uint8_t *text, size_t text_len, const uint32_t (*pairs)[2], size_t pairs_len, size_t used, uint64_t *scratch,
+                     size_t scratch_len, uint8_t *out, size_t out_len, uint64_t *answer, size_t answer_len);
+
 /* Compares two paths by their components, as sections are ordered: 0 less, 1 equal, 2 greater. */
 uint32_t lcov_compare_paths(const uint8_t *a, size_t a_len, const uint8_t *b, size_t b_len);
 

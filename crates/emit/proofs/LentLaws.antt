@@ -85,7 +85,7 @@ checksum-in text (suc (suc m)) start len h g = absurd (omega arith)
 
 module _ (text : Bytes) (row : Row) where
   -- by kind k and what is given, m
-  abbrev item : ℕ → ℕ → Item
+  abbrev pub item : ℕ → ℕ → Item
   item k m =
       byKind k
       (sectionItem (part text (row .path) (row .«path_len»)))

@@ -1,6 +1,7 @@
 -- What the exported calls promise follows from what the crates below promise. Assumes nothing.
 use Prim.Native.Nat.{ℕ, Ordering}
 use mathlib.Core.Path.{_≡_, sym, ap, _∙_}
+use mathlib.Core.Bool.{Bool}
 use mathlib.Core.List.{List, [], _∷_, _++_}
 use Rattle.model.specs.declared.LineAnswer.{LineAnswer}
 use Rattle.model.specs.declared.LineAnswer.the-variants as Line
@@ -14,11 +15,15 @@ use Rattle.model.specs.Tags.{defaultTag}
 use Rattle.model.specs.Line.{readLine, printRecord}
 use Rattle.model.specs.Output.{written, outputAfter}
 use Rattle.model.specs.Parts.{printLine}
-use Rattle.model.specs.Calls.{lineRead, writeAnswer}
+use Rattle.model.specs.declared.Range.{Range}
+use Rattle.model.specs.declared.InsertAnswer.{InsertAnswer}
+use Rattle.model.specs.declared.QueryAnswer.{QueryAnswer}
+use Rattle.model.specs.Ranges.{sliceAfter}
+use Rattle.model.specs.Calls.{lineRead, writeAnswer, insertAnswer, queryAnswer}
 use Rattle.order.specs.declared.Order.{Order}
 use Rattle.order.specs.Orders.{orderOf}
-use Rattle.exports.specs.Words.{lineWords, lineNumber, writeWords, writeNumber, holding}
-use Rattle.exports.specs.Exports.{ReadLine, printedLine, Told, orderNumber}
+use Rattle.words.specs.Words.{lineWords, lineNumber, writeWords, writeNumber, insertWords, insertNumber, queryWords, queryNumber, holding}
+use Rattle.exports.specs.Exports.{ReadLine, printedLine, Told, Inserted, Queried, rangeWords, orderNumber}
 
 pub line-read : (line : Bytes) (slice slice′ : List ℕ) (number : ℕ) (got : LineAnswer) (words : List ℕ) → lineRead line got ≡ readLine defaultTag line
     → number ≡ lineNumber got → words ≡ lineWords got → slice′ ≡ holding words slice → ReadLine line slice slice′ number
@@ -65,13 +70,25 @@ module _ (line : Bytes) (room : ℕ) (got : LineAnswer) (is : lineRead line got 
 
 -- ---- texts read and gathered
 
-pub tell-words : (got : WriteAnswer) (words slice slice′ : List ℕ) → words ≡ writeWords got → slice′ ≡ holding words slice → slice′ ≡ holding (writeWords got) slice
-tell-words got words slice slice′ w e = rw w at e
-
 pub told : (answer : Answer Bytes) (got : WriteAnswer) (slice slice′ : List ℕ) (out out′ : Bytes) (number : ℕ) → got ≡ writeAnswer answer
     → out′ ≡ outputAfter answer out → number ≡ writeNumber got → slice′ ≡ holding (writeWords got) slice → Told answer slice slice′ out out′ number
 told answer got slice slice′ out out′ number is output n w =
     record { numbered = n ∙ ap writeNumber is; words = rw is at w; output = output }
+
+-- ---- ranges
+
+pub inserted : (answer : Answer (List Range)) (got : InsertAnswer) (words slice slice′ : List ℕ) (ranges ranges′ : List Range) (number : ℕ)
+    → got ≡ insertAnswer answer → ranges′ ≡ sliceAfter answer ranges → words ≡ insertWords got → slice′ ≡ holding words slice → number ≡ insertNumber got
+    → Inserted answer slice slice′ ranges ranges′ number
+inserted answer got words slice slice′ ranges ranges′ number is kept w h n =
+    record { numbered = n ∙ ap insertNumber is; words = rw (w, is) at h; kept = kept }
+
+pub queried : (answer : Answer Bool) (got : QueryAnswer) (words slice slice′ : List ℕ) (number : ℕ) → got ≡ queryAnswer answer → words ≡ queryWords got
+    → slice′ ≡ holding words slice → number ≡ queryNumber got → Queried answer slice slice′ number
+queried answer got words slice slice′ number is w h n = record { numbered = n ∙ ap queryNumber is; words = rw (w, is) at h }
+
+pub half-open-words : (range is : Range) (slice slice′ : List ℕ) → range ≡ is → slice′ ≡ holding (rangeWords range) slice → slice′ ≡ holding (rangeWords is) slice
+half-open-words range is slice slice′ e h = rw e at h
 
 -- ---- two paths
 

@@ -1,6 +1,7 @@
 -- What the exported calls answer and leave in the lent slices, told by the model's definitions. Assumes nothing.
 use Prim.Native.Nat.{ℕ, Ordering, Ordering·lt, Ordering·eq, Ordering·gt}
 use mathlib.Core.Path.{_≡_}
+use mathlib.Core.Bool.{Bool}
 use mathlib.Core.List.{List, [], _∷_, _++_}
 use Rattle.model.specs.declared.LineAnswer.{LineAnswer}
 use Rattle.model.specs.Bytes.{Bytes, newline}
@@ -8,8 +9,10 @@ use Rattle.model.specs.Answer.{Answer, _>>=_}
 use Rattle.model.specs.Tags.{defaultTag}
 use Rattle.model.specs.Line.{readLine, printRecord}
 use Rattle.model.specs.Output.{written, outputAfter}
-use Rattle.model.specs.Calls.{lineRead, writeAnswer}
-use Rattle.exports.specs.Words.{lineWords, lineNumber, writeWords, writeNumber, holding}
+use Rattle.model.specs.declared.Range.{Range}
+use Rattle.model.specs.Ranges.{sliceAfter}
+use Rattle.model.specs.Calls.{lineRead, writeAnswer, insertAnswer, queryAnswer}
+use Rattle.words.specs.Words.{eight, lineWords, lineNumber, writeWords, writeNumber, insertWords, insertNumber, queryWords, queryNumber, holding}
 
 -- a line read: the number and the words of an answer that is the model's. Parts are told by their place, which the answer chooses
 pub record ReadLine (line : Bytes) (slice slice′ : List ℕ) (number : ℕ) : Type 0 where
@@ -27,6 +30,19 @@ pub record Told (answer : Answer Bytes) (slice slice′ : List ℕ) (out out′ 
   pub numbered : number ≡ writeNumber (writeAnswer answer)
   pub words : slice′ ≡ holding (writeWords (writeAnswer answer)) slice
   pub output : out′ ≡ outputAfter answer out
+
+-- a range put among others: the number, the words, and what the lent ranges then are
+pub record Inserted (answer : Answer (List Range)) (slice slice′ : List ℕ) (ranges ranges′ : List Range) (number : ℕ) : Type 0 where
+  pub numbered : number ≡ insertNumber (insertAnswer answer)
+  pub words : slice′ ≡ holding (insertWords (insertAnswer answer)) slice
+  pub kept : ranges′ ≡ sliceAfter answer ranges
+
+pub record Queried (answer : Answer Bool) (slice slice′ : List ℕ) (number : ℕ) : Type 0 where
+  pub numbered : number ≡ queryNumber (queryAnswer answer)
+  pub words : slice′ ≡ holding (queryWords (queryAnswer answer)) slice
+
+abbrev pub rangeWords : Range → List ℕ
+rangeWords r = eight (r .start) (r .end) 0 0 0 0 0 0
 
 -- 0 for less, 1 for equal, 2 for greater
 abbrev pub orderNumber : Ordering → ℕ

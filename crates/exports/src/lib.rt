@@ -5,14 +5,14 @@ ghost use Rattle.model.specs.declared.Mode.the-variants.{Checked, Lossy};
 ghost use Rattle.model.specs.Limits.{program-words};
 ghost use Rattle.model.specs.Tags.{defaultTag};
 ghost use Rattle.model.specs.Gather.{readAndPrint, gather};
+ghost use Rattle.model.specs.Filter.{filterText};
 ghost use Rattle.model.specs.Path.{components, comparePaths};
 ghost use Rattle.model.specs.Output.{outputAfter};
 ghost use Rattle.model.specs.Calls.{writeAnswer};
-ghost use Rattle.exports.specs.Words.{writeWords, writeNumber, holding};
-ghost use Rattle.exports.specs.Exports.{ReadLine, printedLine, Told, orderNumber};
-
-mod words;
-
+ghost use Rattle.words.specs.Words.{writeWords, writeNumber, holding};
+ghost use Rattle.model.specs.Ranges.{halfOpen, insertCall, queryCall};
+ghost use Rattle.line_num.specs.Pairs.{pair, rangesIn};
+ghost use Rattle.exports.specs.Exports.{ReadLine, printedLine, Told, Inserted, Queried, rangeWords, orderNumber};
 use model::LineAnswer;
 use order::Order;
 
@@ -95,6 +95,67 @@ pub extern "C" fn lcov_gather(bundle: &[u8], out: &mut [u8], answer: &mut [u64])
 {
     let mut scratch = [0u64; SCRATCH_WORDS];
     let got = lcov::gather_checked(bundle, &mut scratch, out);
+    words::tell(got, answer)
+}
+
+// Puts a range among the first `used` pairs of a lent slice. Answers 0 and the new number of pairs, or a refusal's number and its values; the
+// pairs stay then.
+#[no_mangle]
+pub extern "C" fn lcov_insert_range(
+    pairs: &mut [[u32; 2]],
+    used: usize,
+    start: u32,
+    end: u32,
+    answer: &mut [u64],
+) -> u32
+    ensures { λ r. ⌜ Inserted (insertCall (rangesIn (now (pairs .entry))) used (pair start end)) (now (answer .entry)) (now (answer .exit)) (rangesIn (now (pairs .entry))) (rangesIn (now (pairs .exit))) r ⌝ }
+{
+    let got = line_num::insert(pairs, used, start, end);
+    words::put_words(words::insert_words(got), answer);
+    words::insert_number(got)
+}
+
+// Asks whether one of the first `used` pairs of a lent slice shares a line with start to end. Answers 0 and 1 for yes, 0 for no, or a refusal.
+#[no_mangle]
+pub extern "C" fn lcov_query_range(
+    pairs: &[[u32; 2]],
+    used: usize,
+    start: u32,
+    end: u32,
+    answer: &mut [u64],
+) -> u32
+    ensures { λ r. ⌜ Queried (queryCall (rangesIn (now (pairs .entry))) used start end) (now (answer .entry)) (now (answer .exit)) r ⌝ }
+{
+    let got = line_num::query(pairs, used, start, end);
+    words::put_words(words::query_words(got), answer);
+    words::query_number(got)
+}
+
+// The range that the half-open a..b is.
+#[no_mangle]
+pub extern "C" fn lcov_half_open(a: u32, b: u32, answer: &mut [u64])
+    ensures { λ _. ⌜ now (answer .exit) ≡ holding (rangeWords (halfOpen a b)) (now (answer .entry)) ⌝ }
+{
+    let range = line_num::half_open(a, b);
+    words::put_words(
+        [range.start as u64, range.end as u64, 0, 0, 0, 0, 0, 0],
+        answer,
+    );
+}
+
+// Reads one text and prints what of its report the first `used` pairs of a lent slice hold.
+#[no_mangle]
+pub extern "C" fn lcov_filter(
+    text: &[u8],
+    pairs: &[[u32; 2]],
+    used: usize,
+    scratch: &mut [u64],
+    out: &mut [u8],
+    answer: &mut [u64],
+) -> u32
+    ensures { λ r. ⌜ Told (filterText defaultTag (now (text .entry)) (rangesIn (now (pairs .entry))) used (length (now (scratch .entry))) (length (now (out .entry)))) (now (answer .entry)) (now (answer .exit)) (now (out .entry)) (now (out .exit)) r ⌝ }
+{
+    let got = lcov::filter_text(text, pairs, used, scratch, out);
     words::tell(got, answer)
 }
 

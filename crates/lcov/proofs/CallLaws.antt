@@ -3,20 +3,23 @@ use Prim.Native.Nat.{ℕ, _+_, _*_, _/_, _≤_, _<_, min}
 use native.Mathlib.Omega.{arith}
 use mathlib.Core.Path.{_≡_, refl, sym, ap, subst, _∙_}
 use mathlib.Core.Bool.{Bool, true, false}
-use mathlib.Core.List.{List, [], _++_}
+use mathlib.Core.List.{List, [], _++_, map}
 use lib.ListN.{length, take, drop, take-append-drop}
-use Rattle.model.specs.declared.Fault.the-variants.{MalformedBundle}
+use Rattle.model.specs.declared.Fault.the-variants.{MalformedBundle, MalformedRanges}
 use Rattle.model.specs.declared.Mode.{Mode}
+use Rattle.model.specs.declared.Range.{Range}
 use Rattle.model.specs.declared.Refusal.{Refusal}
 use Rattle.model.specs.declared.WriteAnswer.{WriteAnswer}
 use Rattle.model.specs.declared.WriteAnswer.the-variants as W
 use Rattle.model.specs.Bytes.{Bytes}
 use Rattle.model.specs.Limits.{words-per-entry, most-entries}
-use Rattle.model.specs.Answer.{Answer, accepted, refused, unplaced}
+use Rattle.model.specs.Answer.{Answer, accepted, refused, unplaced, _>>=_}
 use Rattle.model.specs.Tags.{defaultTag}
 use Rattle.model.specs.Report.{Report}
 use Rattle.model.specs.Reading.{readText}
-use Rattle.model.specs.Printing.{printReport}
+use Rattle.model.specs.Printing.{sections, printSections, printReport}
+use Rattle.model.specs.Ranges.{wellFormedRanges}
+use Rattle.model.specs.Filter.{filterSection, filterText}
 use Rattle.model.specs.Output.{written, outputAfter}
 use Rattle.model.specs.Calls.{writeAnswer}
 use Rattle.model.specs.Bundle.{wellFormed, texts}
@@ -135,31 +138,44 @@ module _ (bundle : Bytes) (mode : Mode) (words : ℕ) where
 
 -- ---- one text
 
+-- the answer of a call that reads a text and prints what it makes of the report
+abbrev readThen : (Report → Bytes) → Bytes → ℕ → Bytes → Answer Bytes
+readThen print text words out = readText defaultTag (entryLimit words) text >>= λ report. written (length out) (print report)
+
+pub read-means : (text : Bytes) (words : ℕ) (out : Bytes) → readAndPrint defaultTag text words (length out) ≡ readThen (printReport defaultTag) text words out
+unfolding readAndPrint
+read-means text words out = refl
+
 module _ (text : Bytes) (words limit : ℕ) (is : limit ≡ entryLimit words) (ws : List ℕ) (index : ℕ) (got : TextAnswer)
     (t : TextRead text ws index limit 0 got) where
-  abbrev reading : Bytes → Answer Bytes
-  reading out = readAndPrint defaultTag text words (length out)
+  pub reading-ready : (kept used : ℕ) → got ≡ T.Read kept used → length ws ≡ words → index ≡ index-at limit → (spare : ℕ) → spare ≡ spare-at limit
+      → Ready text ws index spare used kept
+  reading-ready kept used e long at-index spare at-spare =
+      let held = rw e at (t .held) in
+      ready text ws words index spare limit used kept is long at-index at-spare (read-table text ws index limit 0 kept used (rw e at t)) (held .1)
 
-  pub reading-refused : (out : Bytes) (r : Refusal) → got ≡ T.Refused r → Told (reading out) out out (W.Refused r)
-  unfolding readAndPrint
-  reading-refused out r e =
-      let read : refused r ≡ readText defaultTag limit text = rw e at (t .is) in
-      told-refused (reading out) r out (rw (← is, ← read))
+  module _ (print : Report → Bytes) (out : Bytes) (answer : Answer Bytes) (means : answer ≡ readThen print text words out) where
+    pub reading-refused : (r : Refusal) → got ≡ T.Refused r → Told answer out out (W.Refused r)
+    reading-refused r e =
+        let read : refused r ≡ readText defaultTag limit text = rw e at (t .is) in
+        told-refused answer r out (sym (means ∙ rw (← is, ← read)))
 
-  module _ (kept used : ℕ) (e : got ≡ T.Read kept used) where
-    used-few : used ≤ limit
-    used-few = let held = rw e at (t .held) in held .1
-
-    pub reading-ready : length ws ≡ words → index ≡ index-at limit → (spare : ℕ) → spare ≡ spare-at limit → Ready text ws index spare used kept
-    reading-ready long at-index spare at-spare =
-        ready text ws words index spare limit used kept is long at-index at-spare (read-table text ws index limit 0 kept used (rw e at t)) used-few
-
-    printed-text : (out : Bytes) → written (length out) (printReport defaultTag (entriesAt text ws index kept)) ≡ reading out
-    unfolding readAndPrint
-    printed-text out =
+    pub reading-printed : (kept used : ℕ) → got ≡ T.Read kept used → (out′ : Bytes) (r : WriteAnswer)
+        → Told (written (length out) (print (entriesAt text ws index kept))) out out′ r → Told answer out out′ r
+    reading-printed kept used e out′ r h =
         let read : accepted (entriesAt text ws index kept) ≡ readText defaultTag limit text = rw e at (t .is) in
-        rw (← is, ← read)
+        told-as (written (length out) (print (entriesAt text ws index kept))) answer out out′ r (sym (means ∙ rw (← is, ← read))) h
 
-    pub reading-printed : (out out′ : Bytes) (r : WriteAnswer) → Told (written (length out) (printReport defaultTag (entriesAt text ws index kept))) out out′ r
-        → Told (reading out) out out′ r
-    reading-printed out out′ r h = told-as (written (length out) (printReport defaultTag (entriesAt text ws index kept))) (reading out) out out′ r (printed-text out) h
+-- ---- one text filtered
+
+module _ (text : Bytes) (slice : List Range) (used words : ℕ) (out : Bytes) where
+  pub filter-means : wellFormedRanges slice used ≡ true
+      → filterText defaultTag text slice used words (length out)
+      ≡ readThen (λ report. printSections defaultTag (map (filterSection (take used slice)) (sections report))) text words out
+  unfolding filterText
+  filter-means well = rw well
+
+  pub filter-bad : (r : Refusal) → wellFormedRanges slice used ≡ false → r ≡ unplaced MalformedRanges
+      → Told (filterText defaultTag text slice used words (length out)) out out (W.Refused r)
+  unfolding filterText
+  filter-bad r bad e = told-refused (filterText defaultTag text slice used words (length out)) r out (rw (bad, e))

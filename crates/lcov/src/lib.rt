@@ -1,5 +1,5 @@
-// The calls that read texts (document 01): a bundle gathered, checked or lossy, and one text read, each printed to the output. The scratch
-// is lent; "After a call the scratch is free to hold anything, and no call reads what it held."
+// The calls that read texts (document 01): a bundle gathered, checked or lossy, one text read, and one filtered, each printed to the output.
+// The scratch is lent; "After a call the scratch is free to hold anything, and no call reads what it held."
 use merge::Joined;
 use model::Fault;
 use model::Mode;
@@ -20,6 +20,8 @@ ghost use Rattle.model.specs.Calls.{writeAnswer};
 ghost use Rattle.model.specs.Output.{outputAfter};
 ghost use Rattle.model.specs.Gather.{entryLimit, readAndPrint, gatherText, gatherTexts};
 ghost use Rattle.model.specs.Gather.{gather as gatherOf};
+ghost use Rattle.model.specs.Filter.{filterText};
+ghost use Rattle.line_num.specs.Pairs.{rangesIn};
 ghost use Rattle.lcov.specs.Layout.{index-at, spare-at, base-at, Space};
 ghost use Rattle.lcov.specs.Demand.{AcceptsAndWrites};
 ghost use Rattle.lcov.specs.Gathering.{inTextOf, joinedAt, Joining, ReadBehind, GatheredAs};
@@ -204,4 +206,41 @@ pub fn read_text(text: &[u8], scratch: &mut [u64], out: &mut [u8]) -> WriteAnswe
             printing::print_report(text, scratch, index, used, kept, spare, out)
         }
     }
+}
+
+// One text read, its report filtered by the used pairs of a slice of ranges and printed: `LineNum::apply`.
+pub fn filter_text(
+    text: &[u8],
+    pairs: &[[u32; 2]],
+    used: usize,
+    scratch: &mut [u64],
+    out: &mut [u8],
+) -> WriteAnswer
+    ensures { λ r. ⌜ r ≡ writeAnswer (filterText defaultTag (now (text .entry)) (rangesIn (now (pairs .entry))) used (length (now (scratch .entry))) (length (now (out .entry)))) ⌝ }
+    ensures { λ _. ⌜ now (out .exit) ≡ outputAfter (filterText defaultTag (now (text .entry)) (rangesIn (now (pairs .entry))) used (length (now (scratch .entry))) (length (now (out .entry)))) (now (out .entry)) ⌝ }
+{
+    if line_num::is_well_formed(pairs, used) {
+        let limit = entry_limit(scratch.len());
+        let index = index_at(limit);
+        match reader::read_lines(text, 0, scratch, index, limit) {
+            TextAnswer::Refused(refusal) => {
+                return WriteAnswer::Refused(refusal);
+            }
+            TextAnswer::Read { kept, used: rows } => {
+                let spare = spare_at(limit);
+                return filter::print_filtered(
+                    text,
+                    scratch,
+                    pairs,
+                    used,
+                    index,
+                    rows,
+                    kept,
+                    spare,
+                    out,
+                );
+            }
+        }
+    }
+    WriteAnswer::Refused(refusal::unplaced(Fault::MalformedRanges))
 }

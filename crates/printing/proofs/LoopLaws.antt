@@ -27,23 +27,49 @@ use Rattle.section.specs.Sections.{entryAt, entriesAt}
 use Rattle.emit.specs.Emit.{RoomFor, Emitted}
 use Rattle.emit.proofs.EmitLaws.{room-as}
 use Rattle.printing.specs.declared.Printed.{Printed}
-use Rattle.printing.specs.Printing.{printedFrom, Spacious, Spared, SectionPrinted}
+use Rattle.printing.specs.Printing.{entriesFrom, printedFrom, Spacious, Spared, SectionPrinted}
 use Rattle.printing.proofs.KindLaws.{first-own}
 use Rattle.printing.proofs.TableLaws.{spared-none, spared-both, row-kept, entries-kept}
 use Rattle.printing.proofs.GoingLaws.{Going, going-start, going-next, going-done, room-left}
 
+-- ---- what is printed
+
+-- `printed` says of words and a place what the entries from there on print: the same where only spare words are written to, and nothing past
+-- the last entry
+pub record Prints (printed : List ℕ → ℕ → Bytes) (ws : List ℕ) (n spare : ℕ) : Type 0 where
+  pub same : (ws′ : List ℕ) → Spared ws ws′ spare → (lo : ℕ) → printed ws′ lo ≡ printed ws lo
+  pub none : (lo : ℕ) → n ≤ lo → printed ws lo ≡ []
+
+module _ {text ws : List ℕ} {index used n spare : ℕ} (π : Spacious text ws index used n spare) where
+  pub entries-none : (lo : ℕ) → n ≤ lo → entriesFrom text ws index n lo ≡ []
+  unfolding listed
+  entries-none lo h = ap (listed (λ k. entryAt text ws index (lo + k))) (let e : n - lo ≡ 0 = omega arith in e)
+
+  pub report-prints : Prints (printedFrom text index n) ws n spare
+  unfolding printReport printSections printRecords sections each
+  report-prints = record {
+    same = λ ws′ σ lo. ap (printReport defaultTag) (entries-kept π σ lo);
+    none = λ lo h. ap (printReport defaultTag) (entries-none lo h);
+  }
+
+-- from the first place on, all entries
+pub entries-all : (text ws : List ℕ) (index n : ℕ) → entriesFrom text ws index n 0 ≡ entriesAt text ws index n
+entries-all text ws index n =
+    ap (listed (λ k. entryAt text ws index (0 + k))) (let e : n - 0 ≡ n = omega arith in e)
+    ∙ listed-cong (λ k. entryAt text ws index (0 + k)) (entryAt text ws index) n (λ k h. ap (entryAt text ws index) (zero-add k))
+
 -- ---- the loop
 
 -- the sections before place lo are printed
-pub record Looping (write : Bool) (text ws₀ ws out₀ out : List ℕ) (index n spare lo at : ℕ) : Type 0 where
+pub record Looping (printed : List ℕ → ℕ → Bytes) (write : Bool) (ws₀ ws out₀ out : List ℕ) (index n spare lo at : ℕ) : Type 0 where
   pub spared : Spared ws₀ ws spare
-  pub going : Going write out₀ out 0 at (printedFrom text ws₀ index n 0) (printedFrom text ws₀ index n lo)
+  pub going : Going write out₀ out 0 at (printed ws₀ 0) (printed ws₀ lo)
   pub most : lo ≤ n
   pub own : lo < n → kindOf (row ws₀ index lo) ≡ 0
   pub size : length out ≡ length out₀
 
-pub loop-start : {write : Bool} {text ws out : List ℕ} {index used n spare : ℕ} → Spacious text ws index used n spare
-    → RoomFor write out 0 (printedFrom text ws index n 0) → length out * 1 < 2 ^ 63 → Looping write text ws ws out out index n spare 0 0
+pub loop-start : {printed : List ℕ → ℕ → Bytes} {write : Bool} {text ws out : List ℕ} {index used n spare : ℕ} → Spacious text ws index used n spare
+    → RoomFor write out 0 (printed ws 0) → length out * 1 < 2 ^ 63 → Looping printed write ws ws out out index n spare 0 0
 loop-start π h few = record {
   spared = spared-none;
   going = going-start h few (omega arith);
@@ -52,59 +78,45 @@ loop-start π h few = record {
   size = refl;
 }
 
-module _ {write : Bool} {text ws₀ ws out₀ out : List ℕ} {index used n spare lo at : ℕ} (π : Spacious text ws₀ index used n spare)
-    (Λ : Looping write text ws₀ ws out₀ out index n spare lo at) where
-  same-printed : (k : ℕ) → printedFrom text ws index n k ≡ printedFrom text ws₀ index n k
-  same-printed k = ap (printReport defaultTag) (entries-kept π (Λ .spared) k)
-
+module _ {printed : List ℕ → ℕ → Bytes} {write : Bool} {text ws₀ ws out₀ out : List ℕ} {index used n spare lo at : ℕ}
+    (π : Spacious text ws₀ index used n spare) (δ : Prints printed ws₀ n spare) (Λ : Looping printed write ws₀ ws out₀ out index n spare lo at) where
   pub loop-own : lo < n → kindOf (row ws index lo) ≡ 0
   loop-own h = ap kindOf (row-kept π (Λ .spared) lo h) ∙ Λ .own h
 
-  pub loop-room : RoomFor write out at (printedFrom text ws index n lo)
-  loop-room = room-as write out at (printedFrom text ws index n lo) (printedFrom text ws₀ index n lo) (same-printed lo) (room-left (Λ .going))
+  pub loop-room : RoomFor write out at (printed ws lo)
+  loop-room = room-as write out at (printed ws lo) (printed ws₀ lo) (δ .same ws (Λ .spared) lo) (room-left (Λ .going))
 
-  pub loop-next : {ws′ out′ : List ℕ} {r : Printed} → SectionPrinted write text ws ws′ out out′ index n lo spare at r → length out′ ≡ length out
-      → Looping write text ws₀ ws′ out₀ out′ index n spare (r .next) (r .at)
+  pub loop-next : {ws′ out′ : List ℕ} {r : Printed} → SectionPrinted printed write ws ws′ out out′ index n lo spare at r → length out′ ≡ length out
+      → Looping printed write ws₀ ws′ out₀ out′ index n spare (r .next) (r .at)
   loop-next {ws′} {out′} {r} ς e = record {
     spared = spared-both (Λ .spared) (ς .spared);
-    going = going-next (Λ .going) (ς .lines) (printedFrom text ws₀ index n (r .next))
-        (sym (same-printed lo) ∙ ς .first ∙ ap (λ (t : Bytes). ς .lines ++ t) (same-printed (r .next))) (ς .emitted);
+    going = going-next (Λ .going) (ς .lines) (printed ws₀ (r .next))
+        (sym (δ .same ws (Λ .spared) lo) ∙ ς .first ∙ ap (λ (t : Bytes). ς .lines ++ t) (δ .same ws (Λ .spared) (r .next))) (ς .emitted);
     most = ς .most;
     own = λ h. ap kindOf (sym (row-kept π (Λ .spared) (r .next) h)) ∙ ς .own h;
     size = e ∙ Λ .size;
   }
 
-  nothing-left : n ≤ lo → printedFrom text ws₀ index n lo ≡ []
-  unfolding listed printReport printSections printRecords sections each
-  nothing-left h = ap (λ (m : ℕ). printReport defaultTag (listed (λ k. entryAt text ws₀ index (lo + k)) m)) (let e : n - lo ≡ 0 = omega arith in e)
-
-  pub loop-done : n ≤ lo → Emitted write out₀ out 0 (printedFrom text ws₀ index n 0) at
-  loop-done h = going-done (Λ .going) (nothing-left h)
+  pub loop-done : n ≤ lo → Emitted write out₀ out 0 (printed ws₀ 0) at
+  loop-done h = going-done (Λ .going) (δ .none lo h)
 
 -- ---- the answer
 
--- the first pass: only the words from `spare` on change, and r is the needed length
-pub record Measured (text ws ws₁ out out₁ : List ℕ) (index used n spare needed : ℕ) : Type 0 where
-  pub spacious : Spacious text ws index used n spare
+-- the first pass: only the words from `spare` on change, and r is the needed length of all bytes
+pub record Measured (printed : List ℕ → ℕ → Bytes) (bytes : Bytes) (ws ws₁ out out₁ : List ℕ) (n spare needed : ℕ) : Type 0 where
+  pub prints : Prints printed ws n spare
+  pub is : printed ws 0 ≡ bytes
   pub spared : Spared ws ws₁ spare
-  pub emitted : Emitted false out out₁ 0 (printedFrom text ws index n 0) needed
+  pub emitted : Emitted false out out₁ 0 (printed ws 0) needed
   pub few : length out * 1 < 2 ^ 63
 
-module _ {text ws ws₁ out out₁ : List ℕ} {index used n spare needed : ℕ} (μ : Measured text ws ws₁ out out₁ index used n spare needed) where
-  abbrev bytes : Bytes
-  bytes = printReport defaultTag (entriesAt text ws index n)
-
-  from-start : printedFrom text ws index n 0 ≡ bytes
-  from-start =
-      ap (λ (m : ℕ). printReport defaultTag (listed (λ k. entryAt text ws index (0 + k)) m)) (let e : n - 0 ≡ n = omega arith in e)
-      ∙ ap (printReport defaultTag)
-      (listed-cong (λ k. entryAt text ws index (0 + k)) (entryAt text ws index) n (λ k h. ap (entryAt text ws index) (zero-add k)))
-
-  from-start₁ : printedFrom text ws₁ index n 0 ≡ bytes
-  from-start₁ = ap (printReport defaultTag) (entries-kept (μ .spacious) (μ .spared) 0) ∙ from-start
+module _ {printed : List ℕ → ℕ → Bytes} {bytes : Bytes} {ws ws₁ out out₁ : List ℕ} {n spare needed : ℕ}
+    (μ : Measured printed bytes ws ws₁ out out₁ n spare needed) where
+  again : printed ws₁ 0 ≡ bytes
+  again = μ .prints .same ws₁ (μ .spared) 0 ∙ μ .is
 
   needed-is : needed ≡ min (length bytes) u64-max
-  needed-is = μ .emitted .next ∙ ap (λ (m : ℕ). min m u64-max) (zero-add (length (printedFrom text ws index n 0)) ∙ ap length from-start)
+  needed-is = μ .emitted .next ∙ ap (λ (m : ℕ). min m u64-max) (zero-add (length (printed ws 0)) ∙ ap length (μ .is))
 
   size : length out₁ ≡ length out
   size = ap length (μ .emitted .after)
@@ -134,12 +146,12 @@ module _ {text ws ws₁ out out₁ : List ℕ} {index used n spare needed : ℕ}
     unfolding written
     is-written = let e : leb (length bytes) (length out) ≡ true = le-leb (length bytes) (length out) fits in rw e
 
-    pub second-room : RoomFor true out₁ 0 (printedFrom text ws₁ index n 0)
-    second-room = omega (arith, fits, size, ap length from-start₁)
+    pub second-room : RoomFor true out₁ 0 (printed ws₁ 0)
+    second-room = omega (arith, fits, size, ap length again)
 
-    module _ {out₂ : Bytes} {len : ℕ} (ε : Emitted true out₁ out₂ 0 (printedFrom text ws₁ index n 0) len) where
+    module _ {out₂ : Bytes} {len : ℕ} (ε : Emitted true out₁ out₂ 0 (printed ws₁ 0) len) where
       second : Emitted true out out₂ 0 bytes len
-      second = rw (from-start₁, μ .emitted .after) at ε
+      second = rw (again, μ .emitted .after) at ε
 
       pub written-answer : Written len ≡ writeAnswer (written (length out) bytes)
       unfolding writeAnswer

@@ -106,7 +106,7 @@ module _ {A : Type 0} (f : ℕ → A) where
 -- ---- items by kind
 
 -- each test is one of the kind
-tests : (i : Item) → (isSection i ≡ eqb (kindIn i) 0) × (isFunction i ≡ eqb (kindIn i) 1) × (isBranch i ≡ eqb (kindIn i) 2) × (isLine i ≡ eqb (kindIn i) 3)
+pub tests : (i : Item) → (isSection i ≡ eqb (kindIn i) 0) × (isFunction i ≡ eqb (kindIn i) 1) × (isBranch i ≡ eqb (kindIn i) 2) × (isLine i ≡ eqb (kindIn i) 3)
 unfolding isSection isFunction isBranch isLine
 tests (sectionItem spelling) = (refl, refl, refl, refl)
 tests (functionItem name start count) = (refl, refl, refl, refl)
@@ -171,7 +171,7 @@ print-six : (a b c d e f g : List Record)
     ++ (printRecords defaultTag d ++ (printRecords defaultTag e ++ (printRecords defaultTag f ++ printRecords defaultTag g))))
 print-six a b c d e f g = simp (lines-append, append-assoc)
 
-lines-of : (s : Section) (fs bs ls : List Item) (rest : List Section) → select isFunction (s .items) ≡ fs → select isBranch (s .items) ≡ bs
+pub lines-of : (s : Section) (fs bs ls : List Item) (rest : List Section) → select isFunction (s .items) ≡ fs → select isBranch (s .items) ≡ bs
     → select isLine (s .items) ≡ ls
     → printSections defaultTag (s ∷ rest) ≡ sectionLines (s .test) (s .spelling) fs bs ls (printSections defaultTag rest)
 unfolding printSections sectionRecords functionsOf each
@@ -217,7 +217,7 @@ module _ {text ws : List ℕ} {index used n lo f b l : ℕ} (τ : Table text ws 
       own-here : l < n → isSection (entryAt text ws index l .item) ≡ true
       own-here h = tests (entryAt text ws index l .item) .0 ∙ ap (λ (k : ℕ). eqb k 0) (kind-at τ l h ∙ next-own τ (omega arith) φ β λs h)
 
-  abbrev items : List Item
+  abbrev pub items : List Item
   items = itemsAt text ws index (lo + 1) (l - (lo + 1))
 
   items-three : items
@@ -226,22 +226,35 @@ module _ {text ws : List ℕ} {index used n lo f b l : ℕ} (τ : Table text ws 
       part-split (itemAt text ws index) (lo + 1) f l (φ .least) (omega (arith, β .least, λs .least))
       ∙ ap (λ (t : List Item). itemsAt text ws index (lo + 1) (f - (lo + 1)) ++ t) (part-split (itemAt text ws index) f b l (β .least) (λs .least))
 
-  -- THE SECTION AT A PLACE: its lines, and then what the rows behind it print
-  pub section-printed : printedFrom text ws index n lo
-      ≡ sectionLines (testOf text (row ws index lo)) (pathOf text (row ws index lo)) (itemsAt text ws index (lo + 1) (f - (lo + 1)))
-      (itemsAt text ws index f (b - f)) (itemsAt text ws index b (l - b)) (printedFrom text ws index n l)
-  unfolding printReport
-  section-printed =
-      ap (λ (r : Report). printSections defaultTag (sections r))
+  pub items-functions : select isFunction items ≡ itemsAt text ws index (lo + 1) (f - (lo + 1))
+  items-functions = ap (select isFunction) items-three ∙ functions-in _ _ _ _ _ _ (kinds φ) (kinds β) (kinds λs)
+
+  pub items-branches : select isBranch items ≡ itemsAt text ws index f (b - f)
+  items-branches = ap (select isBranch) items-three ∙ branches-in _ _ _ _ _ _ (kinds φ) (kinds β) (kinds λs)
+
+  pub items-lines : select isLine items ≡ itemsAt text ws index b (l - b)
+  items-lines = ap (select isLine) items-three ∙ lines-in _ _ _ _ _ _ (kinds φ) (kinds β) (kinds λs)
+
+  -- the section of a place, and those of the rows behind it
+  abbrev pub sectionAt : Section
+  sectionAt = record { test = testOf text (row ws index lo); spelling = pathOf text (row ws index lo); items = items }
+
+  pub sections-at : sections (entriesFrom text ws index n lo) ≡ sectionAt ∷ sections (entriesFrom text ws index n l)
+  sections-at =
+      ap sections
       (part-cons (entryAt text ws index) lo n here
       ∙ ap (λ (t : Report). entryAt text ws index lo ∷ t)
       (part-split (entryAt text ws index) (lo + 1) l n (omega (arith, φ .least, β .least, λs .least)) (λs .most)))
-      ∙ ap (printSections defaultTag)
-      (sections-cons (entryAt text ws index lo) (λ k. entryAt text ws index (lo + 1 + k)) (l - (lo + 1)) (entriesFrom text ws index n l)
-      (pathOf text (row ws index lo)) (own-item text (row ws index lo) own) not-section ends)
-      ∙ lines-of (record { test = testOf text (row ws index lo); spelling = pathOf text (row ws index lo); items = items })
+      ∙ sections-cons (entryAt text ws index lo) (λ k. entryAt text ws index (lo + 1 + k)) (l - (lo + 1)) (entriesFrom text ws index n l)
+      (pathOf text (row ws index lo)) (own-item text (row ws index lo) own) not-section ends
+
+  -- THE SECTION AT A PLACE: its lines, and then what the rows behind it print
+  pub section-printed : printedFrom text index n ws lo
+      ≡ sectionLines (testOf text (row ws index lo)) (pathOf text (row ws index lo)) (itemsAt text ws index (lo + 1) (f - (lo + 1)))
+      (itemsAt text ws index f (b - f)) (itemsAt text ws index b (l - b)) (printedFrom text index n ws l)
+  unfolding printReport
+  section-printed =
+      ap (printSections defaultTag) sections-at
+      ∙ lines-of sectionAt
       (itemsAt text ws index (lo + 1) (f - (lo + 1))) (itemsAt text ws index f (b - f)) (itemsAt text ws index b (l - b))
-      (sections (entriesFrom text ws index n l))
-      (ap (select isFunction) items-three ∙ functions-in _ _ _ _ _ _ (kinds φ) (kinds β) (kinds λs))
-      (ap (select isBranch) items-three ∙ branches-in _ _ _ _ _ _ (kinds φ) (kinds β) (kinds λs))
-      (ap (select isLine) items-three ∙ lines-in _ _ _ _ _ _ (kinds φ) (kinds β) (kinds λs))
+      (sections (entriesFrom text ws index n l)) items-functions items-branches items-lines

@@ -7,28 +7,23 @@ use mathlib.Core.List.{List, [], _∷_, _++_, append-assoc}
 use lib.ListN.{length}
 use Rattle.store.specs.declared.Row.{Row}
 use Rattle.store.specs.Store.{row}
-use Rattle.store.proofs.ListedLaws.{listed-cong}
 use Rattle.model.specs.Bytes.{Bytes}
 use Rattle.model.specs.Limits.{u64-max}
 use Rattle.model.specs.Lists.{sort}
-use Rattle.model.specs.Record.{testName, sourceFile, endOfRecord}
+use Rattle.model.specs.Record.{endOfRecord}
 use Rattle.model.specs.Tags.{defaultTag}
 use Rattle.model.specs.Printing.{comparePrinted, printRecords}
-use Rattle.items.specs.Items.{kindOf, branch-kind, line-kind, itemOf}
-use Rattle.items.specs.Open.{itemFrom, itemsAt}
-use Rattle.section.specs.Sections.{testOf, pathOf}
+use Rattle.items.specs.Items.{kindOf, branch-kind, line-kind}
+use Rattle.items.specs.Open.{itemsAt}
 use Rattle.sorting.specs.Sorting.{itemsBy}
 use Rattle.emit.specs.Emit.{RoomFor, Emitted}
 use Rattle.emit.proofs.EmitLaws.{room-as, emitted-as}
 use Rattle.printing.specs.declared.Runs.{Runs}
-use Rattle.printing.specs.Printing.{printedFrom, Spacious, Spared, RunsOf, functionLines, groupLines, branchLines, lineLines, GroupRows, SectionPrinted}
+use Rattle.printing.specs.Printing.{printedFrom, Spacious, Spared, RunsOf, headLines, functionLines, groupLines, branchLines, lineLines, GroupRows, SectionPrinted}
 use Rattle.printing.proofs.KindLaws.{next-own}
 use Rattle.printing.proofs.SplitLaws.{section-printed}
-use Rattle.printing.proofs.TableLaws.{row-kept, spacious-kept, index-printable, index-items}
+use Rattle.printing.proofs.TableLaws.{spacious-kept, items-kept, index-printable}
 use Rattle.printing.proofs.GoingLaws.{Going, going-start, going-room, going-next}
-
-abbrev headLines : Bytes → Row → Bytes
-headLines text own = printRecords defaultTag (testName (testOf text own) ∷ sourceFile (pathOf text own) ∷ [])
 
 -- the section at place lo is to be printed, with room for it and all behind it
 pub record Here (write : Bool) (text ws out : List ℕ) (index used n spare lo at : ℕ) (own : Row) (r : Runs) : Type 0 where
@@ -37,7 +32,7 @@ pub record Here (write : Bool) (text ws out : List ℕ) (index used n spare lo a
   pub kind : kindOf (row ws index lo) ≡ 0
   pub is : own ≡ row ws index lo
   pub runs : RunsOf ws index n (lo + 1) r
-  pub room : RoomFor write out at (printedFrom text ws index n lo)
+  pub room : RoomFor write out at (printedFrom text index n ws lo)
   pub few : length out * 1 < 2 ^ 63
   pub place : at ≤ u64-max
 
@@ -56,16 +51,16 @@ module _ {write : Bool} {text ws out : List ℕ} {index used n spare lo at : ℕ
   end = printRecords defaultTag (endOfRecord ∷ [])
 
   abbrev rest : Bytes
-  rest = printedFrom text ws index n (r .lines)
+  rest = printedFrom text index n ws (r .lines)
 
-  all : printedFrom text ws index n lo ≡ headLines text own ++ (functions ++ (branches ++ lines ++ (end ++ rest)))
+  all : printedFrom text index n ws lo ≡ headLines text own ++ (functions ++ (branches ++ lines ++ (end ++ rest)))
   all =
       section-printed (η .spacious .table) (η .kind) (η .more) (η .runs .functions) (η .runs .branches) (η .runs .lines)
       ∙ ap₂ (λ (o : Row) (t : Bytes). headLines text o ++ (functions ++ t)) (sym (η .is)) (sym (append-assoc branches lines (end ++ rest)))
 
   -- ---- TN and SF
 
-  at-head : Going write out out at at (printedFrom text ws index n lo) (printedFrom text ws index n lo)
+  at-head : Going write out out at at (printedFrom text index n ws lo) (printedFrom text index n ws lo)
   at-head = going-start (η .room) (η .few) (η .place)
 
   pub own-named : (own .test + own .«test_len» ≤ length text) × (own .path + own .«path_len» ≤ length text)
@@ -77,7 +72,7 @@ module _ {write : Bool} {text ws out : List ℕ} {index used n spare lo at : ℕ
   -- ---- functions
 
   module _ {out₁ : Bytes} {a : ℕ} (ε₁ : Emitted write out out₁ at (headLines text own) a) where
-    at-functions : Going write out out₁ at a (printedFrom text ws index n lo) (functions ++ (branches ++ lines ++ (end ++ rest)))
+    at-functions : Going write out out₁ at a (printedFrom text index n ws lo) (functions ++ (branches ++ lines ++ (end ++ rest)))
     at-functions = going-next at-head (headLines text own) (functions ++ (branches ++ lines ++ (end ++ rest))) all ε₁
 
     pub functions-room : RoomFor write out₁ a functions
@@ -88,17 +83,13 @@ module _ {write : Bool} {text ws out : List ℕ} {index used n spare lo at : ℕ
     module _ {ws′ out₂ : Bytes} {b : ℕ} (ε₂ : Emitted write out₁ out₂ a functions b) (σ : Spared ws ws′ spare) where
       same-lines : (kind from to : ℕ) → to ≤ n
           → groupLines kind (itemsBy text ws′ (index + from) (to - from)) ≡ groupLines kind (itemsAt text ws index from (to - from))
-      same-lines kind from to h =
-          ap (groupLines kind)
-          (index-items text ws′ index from (to - from)
-          ∙ listed-cong (itemFrom text ws′ index from) (itemFrom text ws index from) (to - from)
-          (λ k l. ap (itemOf text) (row-kept (η .spacious) σ (from + k) (omega arith))))
+      same-lines kind from to h = ap (groupLines kind) (items-kept (η .spacious) σ from to h)
 
       groups-is : branchLines text ws′ index r ++ lineLines text ws′ index r ≡ branches ++ lines
       groups-is =
           ap₂ _++_ (same-lines branch-kind (r .functions) (r .branches) (η .runs .branches .most)) (same-lines line-kind (r .branches) (r .lines) (η .runs .lines .most))
 
-      at-groups : Going write out out₂ at b (printedFrom text ws index n lo) (branches ++ lines ++ (end ++ rest))
+      at-groups : Going write out out₂ at b (printedFrom text index n ws lo) (branches ++ lines ++ (end ++ rest))
       at-groups = going-next at-functions functions (branches ++ lines ++ (end ++ rest)) refl ε₂
 
       pub groups-room : RoomFor write out₂ b (branchLines text ws′ index r ++ lineLines text ws′ index r)
@@ -119,7 +110,7 @@ module _ {write : Bool} {text ws out : List ℕ} {index used n spare lo at : ℕ
       -- ---- the end
 
       module _ {out₃ : Bytes} {c : ℕ} (ε₃ : Emitted write out₂ out₃ b (branchLines text ws′ index r ++ lineLines text ws′ index r) c) where
-        at-end : Going write out out₃ at c (printedFrom text ws index n lo) (end ++ rest)
+        at-end : Going write out out₃ at c (printedFrom text index n ws lo) (end ++ rest)
         at-end =
             going-next at-groups (branches ++ lines) (end ++ rest) refl
             (emitted-as write (branchLines text ws′ index r ++ lineLines text ws′ index r) (branches ++ lines) groups-is ε₃)
@@ -128,7 +119,7 @@ module _ {write : Bool} {text ws out : List ℕ} {index used n spare lo at : ℕ
         end-room = going-room at-end end rest refl
 
         pub section-done : {out₄ : Bytes} {d : ℕ} → Emitted write out₃ out₄ c end d
-            → SectionPrinted write text ws ws′ out out₄ index n lo spare at (record { next = r .lines; at = d })
+            → SectionPrinted (printedFrom text index n) write ws ws′ out out₄ index n lo spare at (record { next = r .lines; at = d })
         section-done ε₄ =
             let γ = going-next at-end end rest refl ε₄ in
             record {

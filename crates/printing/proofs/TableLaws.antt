@@ -11,7 +11,7 @@ use Rattle.store.proofs.ListedLaws.{listed-cong}
 use Rattle.store.proofs.WordLaws.{row-cong}
 use Rattle.model.specs.Valid.{Fits}
 use Rattle.items.specs.Items.{function-kind, itemOf, Good}
-use Rattle.items.specs.Open.{itemsAt}
+use Rattle.items.specs.Open.{itemFrom, itemsAt}
 use Rattle.section.specs.Sections.{entryOf, entryAt, entriesAt}
 use Rattle.section.specs.Table.{Table}
 use Rattle.sorting.specs.Sorting.{itemsBy, InPrintOrder}
@@ -114,6 +114,13 @@ unfolding row
 index-items text ws index from m =
     listed-cong (λ k. itemOf text (rowAt ws (word ws (index + from + k)))) (λ k. itemOf text (row ws index (from + k))) m
     (λ k l. ap (λ (j : ℕ). itemOf text (rowAt ws (word ws j))) (let e : index + from + k ≡ index + (from + k) = omega arith in e))
+
+-- and so where spare words are written to
+pub items-kept : {text ws ws′ : List ℕ} {index used n spare : ℕ} → Spacious text ws index used n spare → Spared ws ws′ spare → (from end : ℕ) → end ≤ n
+    → itemsBy text ws′ (index + from) (end - from) ≡ itemsAt text ws index from (end - from)
+items-kept {text} {ws} {ws′} {index} π σ from end h =
+    index-items text ws′ index from (end - from)
+    ∙ listed-cong (itemFrom text ws′ index from) (itemFrom text ws index from) (end - from) (λ k l. ap (itemOf text) (row-kept π σ (from + k) (omega arith)))
 
 -- ---- functions
 

@@ -3,20 +3,21 @@ use Prim.Native.Nat.{ℕ, _+_, _-_, _≤_, _<_}
 use mathlib.Core.Path.{_≡_}
 use mathlib.Core.Logic.{_≢_}
 use mathlib.Core.Bool.{Bool}
-use mathlib.Core.List.{List, _++_}
+use mathlib.Core.List.{List, [], _∷_, _++_}
 use lib.ListN.{length}
+use Rattle.store.specs.declared.Row.{Row}
 use Rattle.store.specs.Places.{listed}
 use Rattle.store.specs.Rows.{word}
 use Rattle.store.specs.Store.{row}
 use Rattle.model.specs.Bytes.{Bytes}
 use Rattle.model.specs.Limits.{most-entries}
 use Rattle.model.specs.Lists.{each}
-use Rattle.model.specs.Record.{functionsFound, functionsHit}
+use Rattle.model.specs.Record.{testName, sourceFile, functionsFound, functionsHit}
 use Rattle.model.specs.Tags.{defaultTag}
 use Rattle.model.specs.Report.{Item, Report}
 use Rattle.model.specs.Printing.{startRecord, group, printRecords, printReport}
 use Rattle.items.specs.Items.{kindOf, function-kind, branch-kind, line-kind}
-use Rattle.section.specs.Sections.{entryAt}
+use Rattle.section.specs.Sections.{testOf, pathOf, entryAt}
 use Rattle.section.specs.Table.{Table}
 use Rattle.sorting.specs.Sorting.{itemsBy, Functions}
 use Rattle.emit.specs.Emit.{foundOf, hitOf, Emitted, Printable}
@@ -30,8 +31,8 @@ abbrev pub entriesFrom : Bytes → List ℕ → ℕ → ℕ → ℕ → Report
 entriesFrom text ws index n lo = listed (λ k. entryAt text ws index (lo + k)) (n - lo)
 
 -- what they print
-abbrev pub printedFrom : Bytes → List ℕ → ℕ → ℕ → ℕ → Bytes
-printedFrom text ws index n lo = printReport defaultTag (entriesFrom text ws index n lo)
+abbrev pub printedFrom : Bytes → ℕ → ℕ → List ℕ → ℕ → Bytes
+printedFrom text index n ws lo = printReport defaultTag (entriesFrom text ws index n lo)
 
 -- a table of few entries, with twice as many spare words behind it
 pub record Spacious (text ws : List ℕ) (index used n spare : ℕ) : Type 0 where
@@ -59,6 +60,12 @@ pub record RunsOf (ws : List ℕ) (index n from : ℕ) (r : Runs) : Type 0 where
   pub functions : RunOf ws index n from function-kind (r .functions)
   pub branches : RunOf ws index n (r .functions) branch-kind (r .branches)
   pub lines : RunOf ws index n (r .branches) line-kind (r .lines)
+
+-- ---- a section's head
+
+-- TN and SF
+abbrev pub headLines : Bytes → Row → Bytes
+headLines text own = printRecords defaultTag (testName (testOf text own) ∷ sourceFile (pathOf text own) ∷ [])
 
 -- ---- functions
 
@@ -95,10 +102,11 @@ pub record GroupRows (text ws : List ℕ) (index : ℕ) (r : Runs) : Type 0 wher
 
 -- ---- sections
 
--- the lines of the section at place lo come first of what the entries from there on print, and the next section is at `next`
-pub record SectionPrinted (write : Bool) (text ws ws′ out out′ : List ℕ) (index n lo spare at : ℕ) (r : Printed) : Type 0 where
+-- the lines of the section at place lo come first of what the entries from there on print, which `printed` says of words and a place, and
+-- the next section is at `next`
+pub record SectionPrinted (printed : List ℕ → ℕ → Bytes) (write : Bool) (ws ws′ out out′ : List ℕ) (index n lo spare at : ℕ) (r : Printed) : Type 0 where
   pub lines : Bytes
-  pub first : printedFrom text ws index n lo ≡ lines ++ printedFrom text ws index n (r .next)
+  pub first : printed ws lo ≡ lines ++ printed ws (r .next)
   pub emitted : Emitted write out out′ at lines (r .at)
   pub more : lo < r .next
   pub most : r .next ≤ n

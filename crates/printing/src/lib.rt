@@ -40,14 +40,14 @@ fn run_end(words: &[u64], index: usize, used: usize, n: usize, from: usize, kind
 }
 
 // Where a section's functions, branches and lines end.
-struct Runs {
-    functions: usize,
-    branches: usize,
-    lines: usize,
+pub struct Runs {
+    pub functions: usize,
+    pub branches: usize,
+    pub lines: usize,
 }
 
 // The runs from place `from` on, behind the section's own row.
-fn find_runs(words: &[u64], index: usize, used: usize, n: usize, from: usize) -> Runs
+pub fn find_runs(words: &[u64], index: usize, used: usize, n: usize, from: usize) -> Runs
     requires { ⌜ Store (now words) index used × (n ≤ used) × (from ≤ n) ⌝ }
     ensures { λ r. ⌜ RunsOf (now (words .entry)) index n from r ⌝ }
 {
@@ -62,7 +62,7 @@ fn find_runs(words: &[u64], index: usize, used: usize, n: usize, from: usize) ->
 }
 
 // FN, FNDA, FNF and FNH of the n functions whose row numbers stand from word `numbers` on.
-fn print_numbered(
+pub fn print_numbered(
     text: &[u8],
     words: &[u64],
     numbers: usize,
@@ -128,9 +128,9 @@ fn print_groups(
 }
 
 // The place of the next section, and the place in the output.
-struct Printed {
-    next: usize,
-    at: usize,
+pub struct Printed {
+    pub next: usize,
+    pub at: usize,
 }
 
 // The section whose own row stands at place lo.
@@ -147,8 +147,8 @@ fn print_section(
     write: bool,
 ) -> Printed
     requires { ⌜ Spacious (now text) (now words) index used n spare × (lo < n) × (kindOf (row (now words) index lo) ≡ 0) ⌝ }
-    requires { ⌜ RoomFor write (now out) at (printedFrom (now text) (now words) index n lo) ⌝ }
-    ensures { λ r. ⌜ SectionPrinted write (now (text .entry)) (now (words .entry)) (now (words .exit)) (now (out .entry)) (now (out .exit)) index n lo spare at r ⌝ }
+    requires { ⌜ RoomFor write (now out) at (printedFrom (now text) index n (now words) lo) ⌝ }
+    ensures { λ r. ⌜ SectionPrinted (printedFrom (now (text .entry)) index n) write (now (words .entry)) (now (words .exit)) (now (out .entry)) (now (out .exit)) index n lo spare at r ⌝ }
 {
     let own = store::get(words, index, used, lo);
     let runs = find_runs(words, index, used, n, lo + 1);
@@ -173,8 +173,8 @@ fn print_sections(
     write: bool,
 ) -> usize
     requires { ⌜ Spacious (now text) (now words) index used n spare ⌝ }
-    requires { ⌜ RoomFor write (now out) 0 (printedFrom (now text) (now words) index n 0) ⌝ }
-    ensures { λ r. ⌜ Emitted write (now (out .entry)) (now (out .exit)) 0 (printedFrom (now (text .entry)) (now (words .entry)) index n 0) r ⌝ }
+    requires { ⌜ RoomFor write (now out) 0 (printedFrom (now text) index n (now words) 0) ⌝ }
+    ensures { λ r. ⌜ Emitted write (now (out .entry)) (now (out .exit)) 0 (printedFrom (now (text .entry)) index n (now (words .entry)) 0) r ⌝ }
     ensures { λ _. ⌜ Spared (now (words .entry)) (now (words .exit)) spare ⌝ }
 {
     let mut lo = 0;
@@ -188,7 +188,7 @@ fn print_sections(
 }
 
 // Refusal 14.
-fn too_short(needed: usize) -> WriteAnswer
+pub fn too_short(needed: usize) -> WriteAnswer
     ensures { λ r. ⌜ r ≡ writeAnswer (refuseLength needed) ⌝ }
 {
     WriteAnswer::Refused(Refusal {

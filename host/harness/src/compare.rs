@@ -41,6 +41,7 @@ impl fmt::Display for Difference {
 pub struct Comparison<P> {
     port: P,
     pub tally: Tally,
+    pub calls: u64,
     pub differences: u64,
     /// The first ones.
     pub shown: Vec<Difference>,
@@ -51,6 +52,7 @@ impl<P: Port> Comparison<P> {
         Comparison {
             port,
             tally: Tally::default(),
+            calls: 0,
             differences: 0,
             shown: Vec::new(),
         }
@@ -83,6 +85,7 @@ impl<P: Port> Comparison<P> {
     }
 
     fn reading(&mut self, line: &[u8], expected: &Expected, words: usize) {
+        self.calls += 1;
         let mut lent = LentWords::new(words);
         let number = self.port.read_line(line, lent.lend());
         let free_start = expected.leaves_start_free().then_some(line.len());
@@ -97,6 +100,7 @@ impl<P: Port> Comparison<P> {
 
     fn printing(&mut self, line: &[u8], expected: &Expected, room: usize, words: usize) {
         let mut out = LentBytes::new(room);
+        self.calls += 1;
         let mut lent = LentWords::new(words);
         let number = self.port.print_line(line, out.lend(), lent.lend());
         let (answer, bytes) = printing_of(expected, room);
@@ -114,6 +118,7 @@ impl<P: Port> Comparison<P> {
     pub fn paths(&mut self, a: &[u8], b: &[u8]) {
         let expected = path_order(a, b);
         self.tally.count_paths(expected);
+        self.calls += 1;
         let order = self.port.compare_paths(a, b);
         if order != expected {
             self.differ(

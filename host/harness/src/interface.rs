@@ -43,6 +43,41 @@ pub trait Gatherer {
         out: &mut [u8],
         answer: &mut [u64],
     ) -> u32;
+
+    /// Reads a text and keeps what the first `used` pairs hold.
+    fn filter_text(
+        &self,
+        text: &[u8],
+        pairs: &[[u32; 2]],
+        used: usize,
+        scratch: &mut [u64],
+        out: &mut [u8],
+        answer: &mut [u64],
+    ) -> u32;
+}
+
+/// The calls on lists of ranges: a slice of pairs, each a start and an end, of which the first `used` count.
+pub trait Ranges {
+    fn insert_range(
+        &self,
+        pairs: &mut [[u32; 2]],
+        used: usize,
+        start: u32,
+        end: u32,
+        answer: &mut [u64],
+    ) -> u32;
+
+    fn query_range(
+        &self,
+        pairs: &[[u32; 2]],
+        used: usize,
+        start: u32,
+        end: u32,
+        answer: &mut [u64],
+    ) -> u32;
+
+    /// The start and the end of the range that `a..b` is.
+    fn half_open(&self, a: u32, b: u32, answer: &mut [u64]);
 }
 
 /// So many words of scratch allow one entry.

@@ -1,6 +1,6 @@
-//! The differential harness for lines, paths, texts and bundles: questions, what the Rust answers, and the comparison with the port.
+//! The differential harness for lines, paths, ranges, texts and bundles: questions, what the Rust answers, and the comparison with the port.
 //!
-//! Nothing here is linked with the port: [`Port`] and [`Gatherer`] are what the programs hand in, and the tests a stand-in for it.
+//! Nothing here is linked with the port: [`Port`], [`Ranges`] and [`Gatherer`] are what the programs hand in, and the tests a stand-in for it.
 
 pub mod chance;
 pub mod compare;
@@ -9,6 +9,7 @@ pub mod interface;
 pub mod lent;
 pub mod lines;
 pub mod paths;
+pub mod ranges;
 pub mod reports;
 pub mod sample;
 pub mod tally;
@@ -16,4 +17,4 @@ pub mod tracefile;
 
 pub use chance::Chance;
 pub use compare::Comparison;
-pub use interface::{Gatherer, Port};
+pub use interface::{Gatherer, Port, Ranges};

@@ -1,36 +1,53 @@
-//! Compares the port with the unchanged Rust on lines, paths, texts and bundles.
+//! Compares the port with the unchanged Rust on lines, paths, ranges, texts, filters and bundles.
 //!
-//!     harness [--seed N] [--seconds S | --lines N] [--reports N]
+//!     harness [--seed N] [--minutes M | [--lines N] [--ranges N] [--reports N]]
 //!
-//! Every run asks the systematic lines and all pairs of paths. Lines by chance follow: so many (by default a million), or until so
-//! many seconds have passed since the start. Then come the systematic bundles, and so many texts and bundles by chance. It prints how
-//! often each answer came, ten differences in full (of texts and bundles the smallest), and a last line `N compared, M differences`; the
-//! exit status is 0 only if M is 0.
+//! Every run asks the systematic lines and bundles and all pairs of paths. Questions by chance follow: so many lines, lists of ranges, and
+//! texts, filters and bundles, or rounds of all of them until so many minutes have passed since the start. It prints how often each
+//! answer came, ten differences of each kind in full (of texts and bundles the smallest), how many calls there were, and a last line
+//! `N compared, M differences`; the exit status is 0 only if M is 0.
 
-mod port;
+mod linked;
 
 use harness::interface::{INNER_WORDS, WORDS_PER_ENTRY};
 use harness::lines::{by_chance, systematic};
 use harness::reports::compare::MOST_ENTRIES;
-use harness::{paths, reports, Chance, Comparison};
-use port::Linked;
+use harness::{paths, ranges, reports, Chance, Comparison};
+use linked::Linked;
 use std::process::ExitCode;
 use std::time::{Duration, Instant};
 
-const USAGE: &str = "usage: harness [--seed N] [--seconds S | --lines N] [--reports N]";
+const USAGE: &str =
+    "usage: harness [--seed N] [--minutes M | [--lines N] [--ranges N] [--reports N]]";
 
-/// How long lines by chance go on.
+/// So many questions by chance.
 #[derive(Clone, Copy)]
-enum Until {
-    Lines(u64),
-    Seconds(u64),
+struct Round {
+    lines: u64,
+    /// Lists, each filled by a dozen inserts with queries between them.
+    ranges: u64,
+    /// Half of them texts, each filtered too, half bundles, each asked checked and lossy.
+    reports: u64,
 }
+
+/// What a run asks where nothing else is said.
+const USUAL: Round = Round {
+    lines: 1_000_000,
+    ranges: 20_000,
+    reports: 200_000,
+};
+
+/// What is asked again and again until the time is over.
+const AGAIN: Round = Round {
+    lines: 200_000,
+    ranges: 4_000,
+    reports: 40_000,
+};
 
 struct Options {
     seed: u64,
-    until: Until,
-    /// Half of them texts, half bundles, and a bundle is asked checked and lossy.
-    reports: u64,
+    round: Round,
+    minutes: Option<u64>,
 }
 
 fn main() -> ExitCode {
@@ -39,130 +56,129 @@ fn main() -> ExitCode {
         return ExitCode::from(2);
     };
     oracle::hush_overflow();
-    let lines = compare(&options);
-    let reports = compare_reports(&options);
-    let of_reports = reports.shown.iter().map(|(_, difference)| difference);
-    for (number, difference) in (1..).zip(lines.shown.iter().chain(of_reports)) {
-        println!("difference {number}: {difference}");
+    let start = Instant::now();
+    let mut run = Run::new(options.seed);
+    run.systematic();
+    match options.minutes {
+        None => run.round(options.round),
+        Some(minutes) => {
+            while start.elapsed() < Duration::from_secs(60 * minutes) {
+                run.round(AGAIN);
+            }
+        }
     }
-    let differences = lines.differences + reports.differences;
-    println!(
-        "{} compared, {differences} differences",
-        lines.compared() + reports.tally.questions()
-    );
-    ExitCode::from(u8::from(differences > 0))
+    run.tell(start.elapsed());
+    ExitCode::from(u8::from(run.differences() > 0))
 }
 
 /// None where they are none of the usage.
 fn options(mut words: impl Iterator<Item = String>) -> Option<Options> {
     let mut options = Options {
         seed: 1,
-        until: Until::Lines(1_000_000),
-        reports: 200_000,
+        round: USUAL,
+        minutes: None,
     };
-    let mut bounded = false;
+    let mut counted = false;
     while let Some(word) = words.next() {
         let number = words.next()?.parse().ok()?;
-        match (word.as_str(), bounded) {
-            ("--seed", _) => options.seed = number,
-            ("--reports", _) => options.reports = number,
-            ("--lines", false) => options.until = Until::Lines(number),
-            ("--seconds", false) => options.until = Until::Seconds(number),
+        match word.as_str() {
+            "--seed" => options.seed = number,
+            "--minutes" => options.minutes = Some(number),
+            "--lines" => options.round.lines = number,
+            "--ranges" => options.round.ranges = number,
+            "--reports" => options.round.reports = number,
             _ => return None,
         }
-        bounded |= word == "--lines" || word == "--seconds";
+        counted |= matches!(word.as_str(), "--lines" | "--ranges" | "--reports");
     }
-    Some(options)
+    (options.minutes.is_none() || !counted).then_some(options)
 }
 
-fn compare(options: &Options) -> Comparison<Linked> {
-    let start = Instant::now();
-    let mut chance = Chance::new(options.seed);
-    let mut comparison = Comparison::new(Linked);
-
-    systematic(&mut |line| comparison.line(line));
-    let systematic = comparison.tally.lines();
-    all_pairs(&mut comparison, &paths::spellings(&mut chance));
-    lines_by_chance(&mut comparison, &mut chance, options.until, start);
-
-    print!("{}", comparison.tally);
-    println!(
-        "seed {}: {systematic} systematic lines, {} by chance, {} pairs of paths in {:.1} s",
-        options.seed,
-        comparison.tally.lines() - systematic,
-        comparison.tally.pairs(),
-        start.elapsed().as_secs_f64()
-    );
-    comparison
+struct Run {
+    seed: u64,
+    chance: Chance,
+    lines: Comparison<Linked>,
+    ranges: ranges::compare::Comparison<Linked>,
+    reports: reports::compare::Comparison<Linked>,
 }
 
-fn all_pairs(comparison: &mut Comparison<Linked>, spellings: &[Vec<u8>]) {
-    for a in spellings {
-        for b in spellings {
-            comparison.paths(a, b);
+impl Run {
+    fn new(seed: u64) -> Self {
+        Run {
+            seed,
+            chance: Chance::new(seed),
+            lines: Comparison::new(Linked),
+            ranges: ranges::compare::Comparison::new(Linked),
+            reports: reports::compare::Comparison::new(Linked, seed),
         }
     }
-}
 
-fn lines_by_chance(
-    comparison: &mut Comparison<Linked>,
-    chance: &mut Chance,
-    until: Until,
-    start: Instant,
-) {
-    let mut asked = 0;
-    while goes_on(until, asked, start) {
-        comparison.line(&by_chance::line(chance));
-        asked += 1;
-    }
-}
-
-fn goes_on(until: Until, asked: u64, start: Instant) -> bool {
-    match until {
-        Until::Lines(lines) => asked < lines,
-        Until::Seconds(seconds) => start.elapsed() < Duration::from_secs(seconds),
-    }
-}
-
-// ---- texts and bundles
-
-fn compare_reports(options: &Options) -> reports::compare::Comparison<Linked> {
-    let start = Instant::now();
-    let mut chance = Chance::new(options.seed);
-    let mut comparison = reports::compare::Comparison::new(Linked, options.seed);
-
-    systematic_reports(&mut comparison);
-    let systematic = comparison.tally.questions();
-    for _ in 0..options.reports / 2 {
-        reports_by_chance(&mut comparison, &mut chance);
+    fn systematic(&mut self) {
+        systematic(&mut |line| self.lines.line(line));
+        let spellings = paths::spellings(&mut self.chance);
+        for a in &spellings {
+            for b in &spellings {
+                self.lines.paths(a, b);
+            }
+        }
+        let inner = INNER_WORDS / WORDS_PER_ENTRY;
+        let reports = &mut self.reports;
+        reports::systematic::bundles(&mut |bundle| reports.bundle(bundle));
+        reports::systematic::near_the_inner_limit(inner, &mut |bundle| reports.bundle(bundle));
+        for entries in [MOST_ENTRIES, MOST_ENTRIES + 1] {
+            reports.text(&reports::systematic::ascending(entries));
+        }
     }
 
-    print!("{}", comparison.tally);
-    println!(
-        "seed {}: {systematic} systematic questions, {} by chance in {:.1} s",
-        options.seed,
-        comparison.tally.questions() - systematic,
-        start.elapsed().as_secs_f64()
-    );
-    comparison
-}
+    fn round(&mut self, round: Round) {
+        for _ in 0..round.lines {
+            self.lines.line(&by_chance::line(&mut self.chance));
+        }
+        for _ in 0..round.ranges {
+            self.ranges.list(&mut self.chance);
+        }
+        for _ in 0..round.reports / 2 {
+            reports_by_chance(&mut self.reports, &mut self.chance);
+        }
+    }
 
-fn systematic_reports(comparison: &mut reports::compare::Comparison<Linked>) {
-    let inner = INNER_WORDS / WORDS_PER_ENTRY;
-    reports::systematic::bundles(&mut |bundle| comparison.bundle(bundle));
-    reports::systematic::near_the_inner_limit(inner, &mut |bundle| comparison.bundle(bundle));
-    for entries in [MOST_ENTRIES, MOST_ENTRIES + 1] {
-        comparison.text(&reports::systematic::ascending(entries));
+    fn differences(&self) -> u64 {
+        self.lines.differences + self.ranges.differences + self.reports.differences
+    }
+
+    fn tell(&self, took: Duration) {
+        print!(
+            "{}{}{}",
+            self.lines.tally, self.ranges.tally, self.reports.tally
+        );
+        let of_reports = self.reports.shown.iter().map(|(_, difference)| difference);
+        let shown = self.lines.shown.iter().chain(&self.ranges.shown);
+        for (number, difference) in (1..).zip(shown.chain(of_reports)) {
+            println!("difference {number}: {difference}");
+        }
+        let calls = self.lines.calls + self.ranges.tally.calls() + self.reports.tally.calls();
+        println!(
+            "seed {}: {calls} calls in {:.1} s",
+            self.seed,
+            took.as_secs_f64()
+        );
+        println!(
+            "{} compared, {} differences",
+            self.lines.compared() + self.ranges.tally.calls() + self.reports.tally.questions(),
+            self.differences()
+        );
     }
 }
 
 /// Of how many bundles one is followed by others in all orders of their texts.
 const ORDERS_ONE_IN: usize = 20;
 
-/// A text, and a bundle.
+/// A text, read and filtered, and a bundle.
 fn reports_by_chance(comparison: &mut reports::compare::Comparison<Linked>, chance: &mut Chance) {
     let habit = reports::by_chance::Habit::by_chance(chance);
-    comparison.text(&reports::by_chance::text(chance, habit));
+    let text = reports::by_chance::text(chance, habit);
+    comparison.text(&text);
+    comparison.filter(&text, &reports::by_chance::lines_kept(chance));
     comparison.bundle(&reports::by_chance::bundle(chance));
     if chance.one_in(ORDERS_ONE_IN) {
         for bundle in reports::by_chance::in_all_orders(chance) {

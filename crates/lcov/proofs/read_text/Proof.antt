@@ -1,7 +1,10 @@
 -- `lcov::read_text` meets its contract. Assumes nothing.
 use denote.Ref.{now}
 use borrow.Author.Needs.{needs}
-use Rattle.lcov.proofs.CallLaws.{limit-few, limit-room, reading-refused, reading-ready, reading-printed}
+use lib.ListN.{length}
+use Rattle.model.specs.Tags.{defaultTag}
+use Rattle.model.specs.Printing.{printReport}
+use Rattle.lcov.proofs.CallLaws.{limit-few, limit-room, read-means, reading-refused, reading-ready, reading-printed}
 use Rattle.lcov.proofs.read_text.Statement.{statement}
 use Rattle.lcov.proofs.read_text.Tie as tie
 
@@ -32,11 +35,14 @@ read-text-spec =
     reading-ready _ _ _ (limited r .entry-limit .ensures) _ _ _ (r .read-lines .ensures) _ _ (k .kept .given .1) (search needs) (r .before .before .index-at .ensures) _ (s .spare-at .ensures))
     (λ c. search needs)
     (λ c. let r = read (c .before .before .before) in
-    reading-refused _ _ _ (limited r .entry-limit .ensures) _ _ _ (r .read-lines .ensures) _ _ (c .before .refusal .given .1))
+    let s = limited r .before .before .before .before .args in
+    reading-refused _ _ _ (limited r .entry-limit .ensures) _ _ _ (r .read-lines .ensures) (printReport defaultTag) (now (s .out)) _
+    (read-means (now (s .text)) (length (now (s .scratch))) (now (s .out))) _ (c .before .refusal .given .1))
     (λ c. search needs)
     (λ c. search needs)
     (λ c. let p = c .before .before .before .before in
     let k = kept (p .before .before .before) in
     let r = read (k .before .before) in
-    reading-printed _ _ _ (limited r .entry-limit .ensures) _ _ _ (r .read-lines .ensures) _ _ (k .kept .given .1)
-    (now (limited r .before .before .before .before .args .out)) _ _ (p .print-report .ensures)))
+    let s = limited r .before .before .before .before .args in
+    reading-printed _ _ _ (limited r .entry-limit .ensures) _ _ _ (r .read-lines .ensures) (printReport defaultTag) (now (s .out)) _
+    (read-means (now (s .text)) (length (now (s .scratch))) (now (s .out))) _ _ (k .kept .given .1) _ _ (p .print-report .ensures)))

@@ -2,9 +2,13 @@
 use native.Mathlib.Omega.{arith}
 use borrow.Author.Needs.{needs}
 use denote.Ref.{now}
-use Rattle.printing.specs.Printing.{Spacious}
+use mathlib.Core.Path.{ap}
+use Rattle.model.specs.Tags.{defaultTag}
+use Rattle.model.specs.Printing.{printReport}
+use Rattle.section.specs.Sections.{entriesAt}
+use Rattle.printing.specs.Printing.{printedFrom, Spacious}
 use Rattle.printing.proofs.TableLaws.{spacious-kept}
-use Rattle.printing.proofs.LoopLaws.{Measured, short-answer, short-out, second-room, written-answer, written-out}
+use Rattle.printing.proofs.LoopLaws.{report-prints, entries-all, Measured, short-answer, short-out, second-room, written-answer, written-out}
 use Rattle.printing.proofs.print_report.Statement.{statement}
 use Rattle.printing.proofs.print_report.Tie as tie
 
@@ -17,11 +21,13 @@ start m = m .before .before .before .before .before .before
 
 -- what the first pass promises
 abbrev measured : (m : tie.After-print-sections)
-    → Measured (now (start m .args .text)) (now (start m .args .words)) (m .print-sections .last .1 .0) (now (start m .args .out))
-    (m .print-sections .last .1 .1 .1 .1 .1 .1 .0) (start m .args .index) (start m .args .used) (start m .args .n) (start m .args .spare)
-    (m .print-sections .result)
+    → Measured (printedFrom (now (start m .args .text)) (start m .args .index) (start m .args .n))
+    (printReport defaultTag (entriesAt (now (start m .args .text)) (now (start m .args .words)) (start m .args .index) (start m .args .n)))
+    (now (start m .args .words)) (m .print-sections .last .1 .0) (now (start m .args .out))
+    (m .print-sections .last .1 .1 .1 .1 .1 .1 .0) (start m .args .n) (start m .args .spare) (m .print-sections .result)
 measured m = record {
-  spacious = spacious (start m);
+  prints = report-prints (spacious (start m));
+  is = ap (printReport defaultTag) (entries-all (now (start m .args .text)) (now (start m .args .words)) (start m .args .index) (start m .args .n));
   spared = m .print-sections .ensures .1;
   emitted = m .print-sections .ensures .0;
   few = omega arith;
@@ -38,7 +44,7 @@ print-report-spec =
     (λ c. let μ = measured (c .before .before .before .before .before .before) in
     (short-answer μ (omega arith) (c .too-short .ensures), short-out μ (omega arith)))
     (λ c κs. let μ = measured (c .before .before .before .before .before .before .before) in
-    (spacious-kept (μ .spacious) (μ .spared), second-room μ (omega arith)))
+    (spacious-kept (spacious (start (c .before .before .before .before .before .before .before))) (μ .spared), second-room μ (omega arith)))
     (λ c. search needs)
     (λ c. search needs)
     (λ c. let w = c .before .before .before .before in

@@ -1,13 +1,14 @@
 -- `printing::print_sections` meets its contract: the sections before a place are printed. Assumes nothing.
 use Prim.Native.Nat.{_-_}
 use native.Mathlib.Omega.{arith}
+use Rattle.printing.specs.Printing.{printedFrom}
 use Rattle.printing.proofs.TableLaws.{spacious-kept}
-use Rattle.printing.proofs.LoopLaws.{Looping, loop-start, loop-own, loop-room, loop-next, loop-done}
+use Rattle.printing.proofs.LoopLaws.{report-prints, Looping, loop-start, loop-own, loop-room, loop-next, loop-done}
 use Rattle.printing.proofs.print_sections.Statement.{statement}
 use Rattle.printing.proofs.print_sections.Tie as tie
 
 abbrev Inv-loop : tie.InvT-loop
-Inv-loop text words₀ index used n spare out₀ write lo₀ at₀ words out lo at = Looping write text words₀ words out₀ out index n spare lo at
+Inv-loop text words₀ index used n spare out₀ write lo₀ at₀ words out lo at = Looping (printedFrom text index n) write words₀ words out₀ out index n spare lo at
 
 abbrev μ-loop : tie.MeasureT-loop
 μ-loop text words₀ index used n spare out₀ write lo₀ at₀ words out lo at = n - lo
@@ -21,15 +22,17 @@ print-sections-spec =
     (λ c. let s = c .before .before .before in loop-start (s .pre .0) (s .pre .1) (omega arith))
     (λ c κs. let l = c .before .before .before in
     let s = l .before .before .before .before in
+    let π = s .pre .0 in
+    let δ = report-prints π in
     let Λ = l .loop .inv in
-    ((spacious-kept (s .pre .0) (Λ .spared), omega arith, loop-own (s .pre .0) Λ (omega arith)), loop-room (s .pre .0) Λ))
+    ((spacious-kept π (Λ .spared), omega arith, loop-own π δ Λ (omega arith)), loop-room π δ Λ))
     (λ c. let p = c .before .before .before .before .print-section .ensures in omega (arith, p .more, p .most))
     (λ c. let p = c .before .before .before .before in
     let l = p .before .before .before .before in
     let s = l .before .before .before .before in
-    loop-next (s .pre .0) (l .loop .inv) (p .print-section .ensures) (p .print-section .kept .1 .1 .1 .1 .1 .1 .1 .0))
+    loop-next (s .pre .0) (report-prints (s .pre .0)) (l .loop .inv) (p .print-section .ensures) (p .print-section .kept .1 .1 .1 .1 .1 .1 .1 .0))
     (λ c. c .before .loop .inv .spared .words)
     (λ c. c .before .loop .inv .size)
     (λ c. let l = c .before in
     let s = l .before .before .before .before in
-    (loop-done (s .pre .0) (l .loop .inv) (omega arith), l .loop .inv .spared)))
+    (loop-done (s .pre .0) (report-prints (s .pre .0)) (l .loop .inv) (omega arith), l .loop .inv .spared)))

@@ -1,20 +1,23 @@
-//! Measures the port beside the Rust: on the lines of a tracefile as `geninfo` writes it and on their paths, and on texts and bundles.
+//! Measures the port beside the Rust: on the lines of a tracefile as `geninfo` writes it and on their paths, on ranges and filters, and on
+//! texts and bundles.
 //!
-//!     cargo run --offline --profile fast --bin bench [lines | reports]
+//!     cargo run --offline --profile fast --bin bench [lines | ranges | reports]
 //!
 //! The profile leaves out the overflow checks that the comparison needs. Both sides get the same lines in turn, round by round, and
 //! the median round counts. The Rust makes a `Record` that owns its texts, and prints it as `to_string` does, into a new string, or
 //! into one that is kept; the port answers with places in the line, and prints into a buffer that is kept. Of texts the Rust makes a
 //! `Report`, and prints its records into a new string; the port gets scratch and an output that are kept.
 
-#[path = "../port.rs"]
-mod port;
+#[path = "../linked.rs"]
+mod linked;
 
 use harness::interface::{OUTPUT_TOO_SHORT, WORDS, WORDS_PER_ENTRY, WRITTEN};
+use harness::ranges::List;
 use harness::reports::{bundles, measured};
-use harness::{tracefile, Chance, Gatherer, Port};
+use harness::{tracefile, Chance, Gatherer, Port, Ranges};
+use linked::Linked;
+use oracle::filter::line_num::LineNum;
 use oracle::{reader, Record, Report};
-use port::Linked;
 use std::cell::RefCell;
 use std::fmt::Write;
 use std::hint::black_box;
@@ -35,6 +38,9 @@ fn main() {
     let wants = |part: &str| wanted.as_ref().is_none_or(|wanted| wanted == part);
     if wants("lines") {
         measure_lines();
+    }
+    if wants("ranges") {
+        measure_ranges();
     }
     if wants("reports") {
         measure_reports();
@@ -186,6 +192,98 @@ fn port_compares(paths: &[&str]) {
     }
 }
 
+// ---- ranges
+
+/// Ranges of two lines, two lines apart.
+fn ranges_of(many: u32) -> List {
+    List {
+        pairs: (0..many).map(|k| [4 * k, 4 * k + 1]).collect(),
+        used: many as usize,
+    }
+}
+
+fn rust_ranges(list: &List) -> LineNum {
+    let ranges = list.pairs.iter();
+    ranges.map(|&[start, end]| start..end + 1).collect()
+}
+
+const QUERIES: u32 = 100_000;
+
+fn measure_ranges() {
+    println!("\nthe median of {ROUNDS} rounds, in millions per second\n");
+    println!("| | Rust | port | port / Rust |");
+    println!("|---|---:|---:|---:|");
+    for many in [1, 10, 100, 1000] {
+        query_row(&ranges_of(many));
+    }
+    println!("\nthe median of {FEWEST_ROUNDS} to {MOST_ROUNDS} rounds, in milliseconds\n");
+    println!("| | Rust | port | Rust / port |");
+    println!("|---|---:|---:|---:|");
+    for many in [10, 1000] {
+        for order in [measured::Order::Ascending, measured::Order::Shuffled] {
+            filter_row(&ranges_of(many), order);
+        }
+    }
+}
+
+/// The Rust's list is made once. The port is lent its list for each query, and tries whether it is well formed.
+fn query_row(list: &List) {
+    let held = rust_ranges(list);
+    let lines = 4 * list.used as u32;
+    let asked = move || (0..QUERIES).map(move |k| k.wrapping_mul(2_654_435_761) % lines);
+    row(
+        &format!("queries of {} ranges", grouped(list.used)),
+        QUERIES as usize,
+        || {
+            for line in asked() {
+                black_box(held.probe_query(black_box(line), line));
+            }
+        },
+        || {
+            let mut answer = [0; WORDS];
+            for line in asked() {
+                let pairs = black_box(&list.pairs);
+                black_box(Linked.query_range(pairs, list.used, line, line, &mut answer));
+            }
+        },
+    );
+}
+
+fn filter_row(list: &List, order: measured::Order) {
+    let text = measured::functions(&mut Chance::new(SEED), order, ENTRIES);
+    let held = rust_ranges(list);
+    let lent = Lent::sized(&rust_filters(&text, &held));
+    report_row(
+        &format!(
+            "filter {} entries, {}, by {} ranges",
+            grouped(ENTRIES),
+            order.name(),
+            grouped(list.used)
+        ),
+        || drop(black_box(rust_filters(black_box(&text), &held))),
+        || {
+            lent.call(|scratch, out, answer| {
+                Linked.filter_text(
+                    black_box(&text),
+                    &list.pairs,
+                    list.used,
+                    scratch,
+                    out,
+                    answer,
+                )
+            })
+        },
+    );
+}
+
+fn rust_filters(text: &[u8], held: &LineNum) -> String {
+    let mut report = rust_report(text);
+    for section in report.sections.values_mut() {
+        held.apply(section);
+    }
+    rust_prints_report(report)
+}
+
 // ---- texts and bundles
 
 /// A row takes about so long for each side, and no fewer rounds than the fewest, nor more than the most.
@@ -202,7 +300,7 @@ fn rounds_of(seconds: f64) -> usize {
 const ENTRIES: usize = 60_000;
 
 /// Keys that do not come in order make the port move its index. What that takes depends on the number of entries, so there are several.
-const SIZES: [usize; 3] = [ENTRIES, 20_000, 2_000];
+const SIZES: [usize; 3] = [ENTRIES, 16_000, 4_000];
 
 /// What the program `gather` takes.
 const PROGRAM_BYTES: usize = 65_536;

@@ -1,6 +1,7 @@
 //! Texts and bundles made by chance, from few names, so that keys meet.
 
 use super::bundles;
+use crate::ranges::{self, List};
 use crate::Chance;
 
 const TESTS: [&str; 6] = ["", "a", "ab", "b", "é", "a,b"];
@@ -242,6 +243,27 @@ fn change_a_byte(chance: &mut Chance, text: &mut [u8]) {
     };
 }
 
+// ---- lines to be kept
+
+/// A few ranges; now and then the list is not well formed.
+pub fn lines_kept(chance: &mut Chance) -> List {
+    let mut list = ranges::by_chance::empty_list(chance);
+    for _ in 0..chance.below(4) {
+        let (start, end) = ranges::by_chance::range(chance);
+        let (answer, pairs) = ranges::expected::insert(&list, start, end);
+        if answer.number == 0 {
+            list = List {
+                pairs,
+                used: answer.words[0] as usize,
+            };
+        }
+    }
+    if chance.one_in(12) {
+        ranges::by_chance::damage(chance, &mut list);
+    }
+    list
+}
+
 // ---- bundles
 
 /// Texts of which some come twice.
@@ -348,7 +370,7 @@ fn many(chance: &mut Chance) -> Vec<u8> {
 #[cfg(test)]
 mod tests {
     use super::*;
-    use crate::reports::expected::{Expected, NOT_WELL_FORMED};
+    use crate::reports::expected::{Expected, NOT_WELL_FORMED, RANGES_NOT_WELL_FORMED};
     use crate::reports::Asked;
     use oracle::Mode;
     use std::collections::HashSet;
@@ -370,6 +392,18 @@ mod tests {
             Expected::of(Asked::Text(&text(chance, habit)))
         });
         assert_eq!(met, HashSet::from_iter(0..=9));
+    }
+
+    #[test]
+    fn filters_meet_every_refusal_of_a_filter() {
+        let met = numbers(|chance| {
+            let habit = Habit::by_chance(chance);
+            let text = text(chance, habit);
+            Expected::of(Asked::Filter(&text, &lines_kept(chance)))
+        });
+        let mut all = HashSet::from_iter(0..=9);
+        all.insert(RANGES_NOT_WELL_FORMED);
+        assert_eq!(met, all);
     }
 
     #[test]

@@ -8,6 +8,7 @@ use crate::compare::{shown, Difference};
 use crate::expected::{refused, too_short, written, Answer};
 use crate::interface::{Gatherer, INNER_WORDS, OUTPUT_TOO_SHORT, WORDS, WORDS_PER_ENTRY, WRITTEN};
 use crate::lent::{LentBytes, LentScratch, LentWords};
+use crate::ranges::List;
 use crate::Chance;
 use oracle::Mode;
 
@@ -90,6 +91,10 @@ impl<P: Gatherer> Comparison<P> {
 
     pub fn text(&mut self, text: &[u8]) {
         self.ask(Asked::Text(text));
+    }
+
+    pub fn filter(&mut self, text: &[u8], list: &List) {
+        self.ask(Asked::Filter(text, list));
     }
 
     pub fn bundle(&mut self, bundle: &[u8]) {
@@ -188,9 +193,10 @@ impl<P: Gatherer> Comparison<P> {
         }
     }
 
-    /// What a gather wrote, or a reading, is read as what it is.
+    /// What a gather wrote, or a reading, is read as what it is. What a filter wrote may lose emptied sections.
     fn reading_back(&mut self, asked: Asked, printed: &[u8], entries: usize) {
-        if matches!(asked, Asked::Text(text) if text == printed) {
+        let same = matches!(asked, Asked::Text(text) if text == printed);
+        if same || matches!(asked, Asked::Filter(..)) {
             return;
         }
         self.tally.read_back += 1;
@@ -211,7 +217,7 @@ impl<P: Gatherer> Comparison<P> {
             words: WORDS,
         };
         let left = self.asked_with(asked, lent);
-        self.tally.count_call(asked, left.number.min(16));
+        self.tally.count_call(asked, left.number.min(18));
         if left.number == 0 {
             let len = left.answer.word(WRITTEN) as usize;
             let printed = left.out.all()[..len].to_vec();
@@ -230,6 +236,14 @@ impl<P: Gatherer> Comparison<P> {
             (Asked::Text(text), _) => self
                 .port
                 .read_text(text, scratch, out.lend(), answer.lend()),
+            (Asked::Filter(text, list), _) => self.port.filter_text(
+                text,
+                &list.pairs,
+                list.used,
+                scratch,
+                out.lend(),
+                answer.lend(),
+            ),
             (Asked::Bundle(Mode::Checked, bundle), Scratch::Inside) => {
                 self.port.gather(bundle, out.lend(), answer.lend())
             }
@@ -259,9 +273,10 @@ impl<P: Gatherer> Comparison<P> {
             lent.words
         );
         let call = match asked {
-            Asked::Text(_) => "read text",
-            Asked::Bundle(Mode::Checked, _) => "gather",
-            Asked::Bundle(Mode::Lossy, _) => "gather lossy",
+            Asked::Text(_) => "read text".to_owned(),
+            Asked::Filter(_, list) => format!("filter by {list:?} text"),
+            Asked::Bundle(Mode::Checked, _) => "gather".to_owned(),
+            Asked::Bundle(Mode::Lossy, _) => "gather lossy".to_owned(),
         };
         let difference = Difference::new(
             format!("{call} {}, {lengths}", shown(asked.bytes())),
@@ -321,6 +336,7 @@ mod tests {
         LossyIsChecked,
         CheckedIsLossy,
         InnerLimit,
+        FilterKeepsAll,
     }
 
     /// Answers as expected, save for what is wrong.
@@ -406,6 +422,31 @@ mod tests {
             };
             self.tell(Asked::Bundle(mode, bundle), scratch, out, answer)
         }
+
+        fn filter_text(
+            &self,
+            text: &[u8],
+            pairs: &[[u32; 2]],
+            used: usize,
+            scratch: &mut [u64],
+            out: &mut [u8],
+            answer: &mut [u64],
+        ) -> u32 {
+            let list = lines(pairs, used);
+            let asked = if self.0 == Wrong::FilterKeepsAll && list.held().is_some() {
+                Asked::Text(text)
+            } else {
+                Asked::Filter(text, &list)
+            };
+            self.tell(asked, scratch, out, answer)
+        }
+    }
+
+    fn lines(pairs: &[[u32; 2]], used: usize) -> List {
+        List {
+            pairs: pairs.to_vec(),
+            used,
+        }
     }
 
     fn compared(wrong: Wrong) -> Comparison<StandIn> {
@@ -421,6 +462,8 @@ mod tests {
             for text in texts {
                 comparison.text(text.as_bytes());
             }
+            comparison.filter(texts[0].as_bytes(), &lines(&[[2, 2]], 1));
+            comparison.filter(texts[0].as_bytes(), &lines(&[[2, 2]], 2));
             comparison.bundle(&bundles::of(&texts[..2]));
             comparison.bundle(&bundles::of(&[texts[0], texts[0]]));
             comparison.bundle(b"");
@@ -432,7 +475,7 @@ mod tests {
     fn a_port_that_answers_as_expected_has_no_differences() {
         let comparison = compared(Wrong::Nothing);
         assert_eq!(comparison.differences, 0);
-        for number in [0, 8, 10, 11, 14, 16] {
+        for number in [0, 8, 10, 11, 14, 16, 18] {
             assert!(comparison.tally.calls_refused(number) > 0, "{number}");
         }
     }
@@ -454,6 +497,7 @@ mod tests {
             Wrong::LossyIsChecked,
             Wrong::CheckedIsLossy,
             Wrong::InnerLimit,
+            Wrong::FilterKeepsAll,
         ];
         for wrong in words.chain(others) {
             assert!(compared(wrong).differences > 0, "{wrong:?} is not seen");

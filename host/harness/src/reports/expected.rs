@@ -1,13 +1,15 @@
-//! What a reading or a gather must answer: the Rust's answer, and where document 01 added a number, the count's.
+//! What a reading, a filter or a gather must answer: the Rust's answer, and where document 01 added a number, the count's.
 
 use super::restated::{self, Entries, SUM_OF_CALLS, SUM_OF_RUNS, TOO_MANY_ENTRIES};
 use super::{bundles, Asked};
+use crate::ranges::expected::told;
 use oracle::{Fault, Mode, Refusal, Report};
 
 /// The bytes to be written, or a refusal.
 pub type Told = Result<Vec<u8>, Refusal>;
 
 pub const NOT_WELL_FORMED: u32 = 16;
+pub use crate::ranges::expected::NOT_WELL_FORMED as RANGES_NOT_WELL_FORMED;
 
 pub struct Expected {
     /// With scratch for any number of entries, and output for any number of bytes.
@@ -19,11 +21,14 @@ pub struct Expected {
 impl Expected {
     /// None where a text is not UTF-8: the Rust can't be asked.
     pub fn of(asked: Asked) -> Option<Self> {
-        let Some(texts) = texts_of(asked) else {
-            return Some(Expected {
-                told: Err(not_well_formed()),
-                entries: 0,
-            });
+        let texts = match texts_of(asked) {
+            Ok(texts) => texts,
+            Err(number) => {
+                return Some(Expected {
+                    told: Err(not_well_formed(number)),
+                    entries: 0,
+                })
+            }
         };
         if texts.iter().any(|text| std::str::from_utf8(text).is_err()) {
             return None;
@@ -46,26 +51,32 @@ impl Expected {
     }
 }
 
-fn not_well_formed() -> Refusal {
+fn not_well_formed(number: u32) -> Refusal {
     Refusal {
-        number: NOT_WELL_FORMED,
+        number,
         text: 0,
         line: 0,
         field: 0,
     }
 }
 
-/// None where it is a bundle that is not well formed.
-fn texts_of(asked: Asked<'_>) -> Option<Vec<&[u8]>> {
+/// A number where the bundle or the list of ranges is not well formed.
+fn texts_of(asked: Asked<'_>) -> Result<Vec<&[u8]>, u32> {
     match asked {
-        Asked::Text(text) => Some(vec![text]),
-        Asked::Bundle(_, bundle) => bundles::decoded(bundle),
+        Asked::Filter(_, list) if list.held().is_none() => Err(RANGES_NOT_WELL_FORMED),
+        Asked::Text(text) | Asked::Filter(text, _) => Ok(vec![text]),
+        Asked::Bundle(_, bundle) => bundles::decoded(bundle).ok_or(NOT_WELL_FORMED),
     }
 }
 
 fn restated(asked: Asked, texts: &[&[u8]], entries: &mut Entries) -> Result<Report, Refusal> {
     match asked {
         Asked::Text(text) => restated::read(text, entries),
+        Asked::Filter(text, list) => {
+            let mut report = restated::read(text, entries)?;
+            restated::filter(&mut report, &list.pairs[..list.used]);
+            Ok(report)
+        }
         Asked::Bundle(mode, _) => restated::gather(mode, texts, entries),
     }
 }
@@ -73,6 +84,7 @@ fn restated(asked: Asked, texts: &[&[u8]], entries: &mut Entries) -> Result<Repo
 fn rust(asked: Asked, texts: &[&[u8]]) -> Result<Vec<u8>, Fault> {
     match asked {
         Asked::Text(text) => oracle::read_text(text).map(oracle::print_report),
+        Asked::Filter(text, list) => oracle::filter(text, &told(&list.pairs[..list.used])),
         Asked::Bundle(mode, _) => oracle::gather(mode, texts),
     }
 }
@@ -104,6 +116,9 @@ fn agreed(counted: Result<Report, Refusal>, rust: Result<Vec<u8>, Fault>) -> Tol
 pub fn may_refuse(asked: Asked, number: u32) -> bool {
     match asked {
         Asked::Text(_) => (1..=TOO_MANY_ENTRIES).contains(&number) || number == 14,
+        Asked::Filter(..) => {
+            matches!(number, 1..=TOO_MANY_ENTRIES | 14 | RANGES_NOT_WELL_FORMED)
+        }
         Asked::Bundle(Mode::Checked, _) => (1..=14).contains(&number) || number == NOT_WELL_FORMED,
         Asked::Bundle(Mode::Lossy, _) => {
             matches!(number, 1..=10 | 13 | 14 | NOT_WELL_FORMED)

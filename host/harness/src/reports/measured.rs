@@ -69,6 +69,27 @@ fn section(path: &str, lines: impl Iterator<Item = usize>) -> String {
     text
 }
 
+/// Files of ten functions with a start and a count, and thirty lines, the files in this order; a little fewer than so many entries.
+pub fn functions(chance: &mut Chance, order: Order, entries: usize) -> Vec<u8> {
+    let numbers = order.numbers(chance, entries / 41);
+    let mut text = String::new();
+    for file in numbers {
+        text.push_str(&format!("TN:utterances\nSF:decoder/part{file:06}.cc\n"));
+        for function in 0..10 {
+            text.push_str(&format!(
+                "FN:{},score_{function}\n",
+                3 * function + file % 3
+            ));
+            text.push_str(&format!("FNDA:{file},score_{function}\n"));
+        }
+        for line in 1..=30 {
+            text.push_str(&format!("DA:{line},{}\n", line * file % 1000));
+        }
+        text.push_str("end_of_record\n");
+    }
+    text.into_bytes()
+}
+
 /// So many texts of so many entries each, all with the same keys.
 pub fn same_keys(texts: usize, entries: usize) -> Vec<u8> {
     let text = section("decoder/lattice.cc", 1..entries);
@@ -129,6 +150,8 @@ mod tests {
             let many = many_files(&mut chance, order, 1000);
             assert_eq!(entries(Asked::Text(&many)), 1000);
         }
+        let functions = functions(&mut Chance::new(1), Order::Ascending, 1000);
+        assert_eq!(entries(Asked::Text(&functions)), 1000 / 41 * 41);
         let bundled = |bundle: &[u8]| entries(Asked::Bundle(Mode::Checked, bundle));
         assert_eq!(bundled(&same_keys(5, 100)), 100);
         assert_eq!(bundled(&no_shared_keys(5, 100)), 500);

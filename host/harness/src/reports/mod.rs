@@ -1,4 +1,4 @@
-//! Questions about readings and gathers: texts and bundles, what document 01 expects of them, and the comparison with the port.
+//! Questions about readings, filters and gathers: texts and bundles, what document 01 expects of them, and the comparison with the port.
 
 pub mod bundles;
 pub mod by_chance;
@@ -10,19 +10,22 @@ pub mod restated;
 pub mod systematic;
 pub mod tally;
 
+use crate::ranges::List;
 use oracle::Mode;
 
 /// A question without the slices that are lent for its answer.
 #[derive(Clone, Copy)]
 pub enum Asked<'a> {
     Text(&'a [u8]),
+    /// A text, and the lines that are to stay.
+    Filter(&'a [u8], &'a List),
     Bundle(Mode, &'a [u8]),
 }
 
 impl<'a> Asked<'a> {
     pub fn bytes(self) -> &'a [u8] {
         match self {
-            Asked::Text(bytes) | Asked::Bundle(_, bytes) => bytes,
+            Asked::Text(bytes) | Asked::Filter(bytes, _) | Asked::Bundle(_, bytes) => bytes,
         }
     }
 }

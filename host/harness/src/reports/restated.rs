@@ -1,4 +1,4 @@
-//! Document 01's readings and gathers once more, with what the Rust does not count: entries, and sums that pass their type.
+//! Document 01's readings, filters and gathers once more, with what the Rust does not count: entries, and sums that pass their type.
 //!
 //! The maps are the Rust's, so that keys are its keys; what is done with them is written here from document 01 alone.
 
@@ -185,6 +185,43 @@ fn take_item(open: &mut Value, record: Record) -> Result<(), u32> {
         _ => {}
     }
     Ok(())
+}
+
+// ---- filtering
+
+/// Keeps what the pairs hold, in each section; a section that is emptied stays.
+pub fn filter(report: &mut Report, pairs: &[[u32; 2]]) {
+    let is_held = |from: u32, to: u32| pairs.iter().any(|&[start, end]| start <= to && end >= from);
+    for section in report.sections.values_mut() {
+        let gone = functions_that_go(section, is_held);
+        section.functions.retain(|key, _| !gone.contains(&key.name));
+        section
+            .branches
+            .retain(|key, _| is_held(key.line, key.line));
+        section.lines.retain(|key, _| is_held(key.line, key.line));
+    }
+}
+
+/// Those without a start; and in printing order, by start and then name, those whose lines up to the next start are not held.
+fn functions_that_go(section: &Value, is_held: impl Fn(u32, u32) -> bool) -> Vec<String> {
+    let mut started = Vec::new();
+    let mut gone = Vec::new();
+    for (key, value) in &section.functions {
+        match value.start_line {
+            Some(start) => started.push((start, key.name.clone())),
+            None => gone.push(key.name.clone()),
+        }
+    }
+    started.sort();
+    for (place, (start, name)) in started.iter().enumerate() {
+        let end = started
+            .get(place + 1)
+            .map_or(u32::MAX, |(next, _)| next.saturating_sub(1));
+        if !is_held(*start, end) {
+            gone.push(name.clone());
+        }
+    }
+    gone
 }
 
 // ---- counting

@@ -5,10 +5,10 @@ use super::Asked;
 use oracle::Mode;
 use std::fmt;
 
-const QUESTIONS: usize = 3;
+const QUESTIONS: usize = 4;
 
 /// Numbers of document 01, and 0 for an answer.
-const NUMBERS: usize = 17;
+const NUMBERS: usize = 19;
 
 /// What each number says; those that no text or bundle can give are empty.
 const NAMES: [&str; NUMBERS] = [
@@ -29,6 +29,8 @@ const NAMES: [&str; NUMBERS] = [
     "output too short",
     "",
     "bundle ill formed",
+    "",
+    "ranges ill formed",
 ];
 
 #[derive(Default)]
@@ -48,8 +50,9 @@ pub struct Tally {
 fn column(asked: Asked) -> usize {
     match asked {
         Asked::Text(_) => 0,
-        Asked::Bundle(Mode::Checked, _) => 1,
-        Asked::Bundle(Mode::Lossy, _) => 2,
+        Asked::Filter(..) => 1,
+        Asked::Bundle(Mode::Checked, _) => 2,
+        Asked::Bundle(Mode::Lossy, _) => 3,
     }
 }
 
@@ -85,9 +88,20 @@ impl Tally {
     }
 }
 
+fn columns(f: &mut fmt::Formatter, of: &str) -> fmt::Result {
+    writeln!(
+        f,
+        "{of:<29}{:>10}{:>10}{:>10}{:>10}",
+        "texts", "filters", "checked", "lossy"
+    )
+}
+
 fn line(f: &mut fmt::Formatter, what: &str, counts: [u64; QUESTIONS]) -> fmt::Result {
-    let [text, checked, lossy] = counts;
-    writeln!(f, "{what:<29}{text:>10}{checked:>10}{lossy:>10}")
+    let [text, filter, checked, lossy] = counts;
+    writeln!(
+        f,
+        "{what:<29}{text:>10}{filter:>10}{checked:>10}{lossy:>10}"
+    )
 }
 
 fn rows(f: &mut fmt::Formatter, counts: &[[u64; QUESTIONS]; NUMBERS]) -> fmt::Result {
@@ -103,20 +117,12 @@ fn rows(f: &mut fmt::Formatter, counts: &[[u64; QUESTIONS]; NUMBERS]) -> fmt::Re
 
 impl fmt::Display for Tally {
     fn fmt(&self, f: &mut fmt::Formatter) -> fmt::Result {
-        writeln!(
-            f,
-            "{:<29}{:>10}{:>10}{:>10}",
-            "questions", "texts", "checked", "lossy"
-        )?;
+        columns(f, "questions")?;
         rows(f, &self.asked)?;
         line(f, "outside", self.outside)?;
         writeln!(f, "questions                    {:>10}", self.questions())?;
         writeln!(f, "  of them with every length  {:>10}", self.thorough)?;
-        writeln!(
-            f,
-            "{:<29}{:>10}{:>10}{:>10}",
-            "calls", "texts", "checked", "lossy"
-        )?;
+        columns(f, "calls")?;
         rows(f, &self.calls)?;
         writeln!(f, "calls                        {:>10}", self.calls())?;
         writeln!(f, "  of them reading back       {:>10}", self.read_back)

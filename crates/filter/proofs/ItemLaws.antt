@@ -1,0 +1,149 @@
+-- What a row's words say of its item: its start, its line, and where the function before it ends. Assumes nothing.
+use Prim.Native.Nat.{ℕ, zero, suc, _+_, _*_, _-_, _/_, _%_, _≤_, _<_}
+use native.Mathlib.Omega.{arith}
+use native.Mathlib.Nat.{add-zero}
+use mathlib.Core.Path.{_≡_, refl, sym, ap, ap₂, _∙_}
+use mathlib.Core.Logic.{_≢_}
+use mathlib.Core.Bool.{Bool}
+use mathlib.Core.List.{List}
+use lib.Dec.{eqb}
+use lib.ListN.{length}
+use borrow.Author.Tests.{ne-eqb}
+use mir.Val as Val
+use mir.Syntax.{w32}
+use Rattle.store.specs.declared.Row.{Row}
+use Rattle.store.specs.Places.{listed}
+use Rattle.store.specs.Rows.{row-words, word, rowAt}
+use Rattle.store.proofs.PlaceLaws.{by-eq}
+use Rattle.model.specs.Bytes.{Bytes}
+use Rattle.model.specs.Limits.{u32-max}
+use Rattle.model.specs.Report.{sectionItem, startOf}
+use Rattle.model.specs.declared.Range.{Range}
+use Rattle.model.specs.Ranges.{holds}
+use Rattle.model.specs.Filter.{lineOf, isHeld, startLine, hasStart, endBefore}
+use Rattle.model.specs.Valid.{Fits}
+use Rattle.items.specs.Items.{itemOf}
+use Rattle.sorting.specs.Sorting.{itemsBy}
+use Rattle.emit.specs.Emit.{Printable}
+use Rattle.emit.proofs.LentLaws.{item}
+use Rattle.filter.specs.declared.Rule.{Rule}
+use Rattle.filter.specs.declared.Rule.the-variants.{Started, Held, UntilNext}
+use Rattle.filter.specs.Keeping.{keeps}
+
+module _ (text : Bytes) (row : Row) where
+  -- ---- starts
+
+  no-start : row .tag ≢ 3 → startOf (itemOf text row) ≡ startOf (sectionItem text)
+  unfolding itemOf startOf
+  no-start h = go (row .tag / 2) (row .tag % 2) (λ e. omega arith)
+    where
+      go : (k m : ℕ) → (k ≡ 1 → m ≡ 0) → startOf (item text row k m) ≡ startOf (sectionItem text)
+      go zero m f = refl
+      go (suc zero) zero f = refl
+      go (suc zero) (suc m) f = absurd (omega (arith, f refl))
+      go (suc (suc zero)) m f = refl
+      go (suc (suc (suc k))) m f = refl
+
+  pub start-given : eqb (row .tag) 3 ≡ hasStart (itemOf text row)
+  unfolding itemOf hasStart startOf
+  start-given = by-eq (row .tag) 3 (λ e. rw e) (λ e. ne-eqb (row .tag) 3 e ∙ sym (rw (no-start e, hasStart)))
+
+  pub start-none : row .tag ≢ 3 → 0 ≡ startLine (itemOf text row)
+  unfolding startLine startOf
+  start-none e = sym (rw (no-start e, startLine))
+
+  pub start-is : row .tag ≡ 3 → row .k3 ≡ startLine (itemOf text row)
+  unfolding itemOf startLine startOf
+  start-is e = rw e
+
+  -- ---- lines
+
+  pub line-none : row .tag < 4 → 0 ≡ lineOf (itemOf text row)
+  unfolding itemOf lineOf
+  line-none h = go (row .tag / 2) (row .tag % 2) (omega arith)
+    where
+      go : (k m : ℕ) → k < 2 → 0 ≡ lineOf (item text row k m)
+      go zero m f = refl
+      go (suc zero) m f = refl
+      go (suc (suc k)) m f = absurd (omega arith)
+
+  pub line-is : 4 ≤ row .tag → row .k1 ≡ lineOf (itemOf text row)
+  unfolding itemOf lineOf
+  line-is h = go (row .tag / 2) (row .tag % 2) (omega arith)
+    where
+      go : (k m : ℕ) → 2 ≤ k → row .k1 ≡ lineOf (item text row k m)
+      go zero m f = absurd (omega arith)
+      go (suc zero) m f = absurd (omega arith)
+      go (suc (suc zero)) m f = refl
+      go (suc (suc (suc k))) m f = refl
+
+  pub line-fits : 4 ≤ row .tag → Fits (itemOf text row) → Val.Fits w32 (row .k1)
+  unfolding itemOf
+  line-fits h f = record { fits = omega (arith, go (row .tag / 2) (row .tag % 2) (omega arith) f) }
+    where
+      go : (k m : ℕ) → 2 ≤ k → Fits (item text row k m) → row .k1 ≤ u32-max
+      go zero m f i = absurd (omega arith)
+      go (suc zero) m f i = absurd (omega arith)
+      go (suc (suc zero)) m f i = i .0
+      go (suc (suc (suc k))) m f i = i .0
+
+-- ---- ends
+
+module _ (text ws : List ℕ) (next n : ℕ) where
+  pub end-last : n ≡ 0 → u32-max ≡ endBefore (itemsBy text ws next n)
+  unfolding listed endBefore
+  end-last e = rw e
+
+  pub end-first : n ≢ 0 → endBefore (itemsBy text ws next n) ≡ startLine (itemOf text (rowAt ws (word ws next))) - 1
+  unfolding listed endBefore
+  end-first e = go n refl
+    where
+      go : (m : ℕ) → n ≡ m → endBefore (itemsBy text ws next m) ≡ startLine (itemOf text (rowAt ws (word ws next))) - 1
+      go zero z = absurd (e z)
+      go (suc m) z = ap (λ (j : ℕ). startLine (itemOf text (rowAt ws (word ws j))) - 1) (add-zero next)
+
+  module _ (r : Row) (is : r ≡ rowAt ws (word ws next)) (s : ℕ) (starts : s ≡ startLine (itemOf text r)) (some : n ≢ 0) where
+    start-next : s ≡ startLine (itemOf text (rowAt ws (word ws next)))
+    start-next = starts ∙ ap (λ (q : Row). startLine (itemOf text q)) is
+
+    pub end-zero : s ≡ 0 → 0 ≡ endBefore (itemsBy text ws next n)
+    end-zero z = sym (end-first some ∙ ap (λ (k : ℕ). k - 1) (sym start-next ∙ z))
+
+    pub end-one : s - 1 ≡ endBefore (itemsBy text ws next n)
+    end-one = sym (end-first some ∙ ap (λ (k : ℕ). k - 1) (sym start-next))
+
+-- ---- the first of some rows
+
+module _ {text ws : List ℕ} {at n : ℕ} (π : Printable text ws at n) (some : 0 < n) where
+  pub first-inside : word ws at * row-words + row-words ≤ length ws
+  first-inside = let e : at + 0 ≡ at = add-zero at in rw e at (π .inside 0 some)
+
+  pub first-fits : (r : Row) → r ≡ rowAt ws (word ws at) → Fits (itemOf text r)
+  first-fits r is = let e : at + 0 ≡ at = add-zero at in rw is (rw e at (π .fits 0 some))
+
+  pub next-printable : Printable text ws (at + 1) (n - 1)
+  next-printable = record {
+    words = omega (arith, π .words);
+    inside = λ k h. rw (next k) (π .inside (k + 1) (omega arith));
+    good = λ k h. rw (next k) (π .good (k + 1) (omega arith));
+    fits = λ k h. rw (next k) (π .fits (k + 1) (omega arith));
+  }
+    where
+      next : (k : ℕ) → at + 1 + k ≡ at + (k + 1)
+      next k = omega arith
+
+-- whether it stays, by each rule
+module _ (ranges : List Range) (ws : List ℕ) (at n : ℕ) (rule : Rule) (row : Row) (is : row ≡ rowAt ws (word ws at)) (t : Bool) where
+  abbrev Stays : Type 0
+  Stays = (text : Bytes) → t ≡ keeps rule ranges (itemOf text (rowAt ws (word ws at))) (itemsBy text ws (at + 1) (n - 1))
+
+  pub stays-started : rule ≡ Started → ((text : Bytes) → t ≡ hasStart (itemOf text row)) → Stays
+  stays-started e h text = rw (e, ← is) (h text)
+
+  pub stays-held : rule ≡ Held → (line : ℕ) → ((text : Bytes) → line ≡ lineOf (itemOf text row)) → t ≡ holds ranges line line → Stays
+  unfolding isHeld
+  stays-held e line h q text = rw (e, ← is) (q ∙ ap (λ (l : ℕ). holds ranges l l) (h text))
+
+  pub stays-until : rule ≡ UntilNext → (start end : ℕ) → ((text : Bytes) → start ≡ startLine (itemOf text row))
+      → ((text : Bytes) → end ≡ endBefore (itemsBy text ws (at + 1) (n - 1))) → t ≡ holds ranges start end → Stays
+  stays-until e start end h i q text = rw (e, ← is) (q ∙ ap₂ (holds ranges) (h text) (i text))

@@ -1,0 +1,6 @@
+pub mod ResortLaws
+pub mod ItemLaws
+pub mod KeepLaws
+pub mod RowsLaws
+pub mod KeptLaws
+pub mod SectionLaws

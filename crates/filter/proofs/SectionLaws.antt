@@ -1,0 +1,264 @@
+-- A filtered section: its lines are those of the rows that stay. Assumes nothing.
+use Prim.Native.Nat.{ℕ, _+_, _-_, _<_}
+use native.Mathlib.Omega.{arith}
+use mathlib.Core.Path.{_≡_, refl, sym, ap, ap₂, _∙_}
+use mathlib.Core.Bool.{Bool, true, false}
+use mathlib.Core.List.{List, [], _∷_, _++_, map, append-assoc, append-nil}
+use Rattle.map.proofs.Results.{impossible}
+use Rattle.store.specs.declared.Row.{Row}
+use Rattle.store.specs.Store.{row}
+use Rattle.model.specs.declared.Range.{Range}
+use Rattle.model.specs.Order.{if_then_else_}
+use Rattle.model.specs.Bytes.{Bytes}
+use Rattle.model.specs.Lists.{select, sort, each}
+use Rattle.model.specs.Record.{endOfRecord}
+use Rattle.model.specs.Report.{Item, sectionItem, functionItem, branchItem, lineItem, Report, compareItems}
+use Rattle.model.specs.Tags.{defaultTag}
+use Rattle.model.specs.Printing.{Section, isFunction, isBranch, isLine, functionsOf, sections, comparePrinted, printRecords, printSections}
+use Rattle.model.specs.Filter.{isHeld, hasStart, filterItems, filterSection}
+use Rattle.model.proofs.ListLaws.{select-all, select-none}
+use Rattle.model.proofs.ListLaws as L
+use Rattle.items.specs.Items.{kindOf, branch-kind, line-kind}
+use Rattle.items.specs.Open.{itemsAt}
+use Rattle.sorting.proofs.MergeLaws.{All, all-map, all-sort}
+use Rattle.emit.specs.Emit.{RoomFor, Emitted}
+use Rattle.emit.proofs.EmitLaws.{room-first}
+use Rattle.printing.specs.declared.Runs.{Runs}
+use Rattle.printing.specs.Printing.{entriesFrom, Spacious, RunsOf, SectionPrinted, headLines, functionLines, groupLines}
+use Rattle.printing.proofs.KindLaws.{next-own}
+use Rattle.printing.proofs.OrderLaws.{select-append}
+use Rattle.printing.proofs.SplitLaws.{sectionLines, lines-of, items, items-functions, items-branches, items-lines, sectionAt, sections-at}
+use Rattle.printing.proofs.TableLaws.{entries-kept}
+use Rattle.printing.proofs.LoopLaws.{Prints, entries-none}
+use Rattle.filter.specs.declared.Kept.{Kept}
+use Rattle.filter.specs.Filtered.{filteredFrom, functionsLeft, KeptRows, Ready, keptLines}
+use Rattle.filter.proofs.ResortLaws.{all-chosen, all-held, printed-again}
+
+-- ---- items by kind
+
+-- those selected pass
+passing : (test : Item → Bool) (l : List Item) → All (λ i. test i ≡ true) (select test l)
+unfolding select
+passing test [] = tt
+passing test (x ∷ l) = go (test x) refl (passing test l)
+  where
+    go : (t : Bool) → test x ≡ t → All (λ i. test i ≡ true) (select test l) → All (λ i. test i ≡ true)
+        (if t then x ∷ select test l else select test l)
+    go true e h = (e, h)
+    go false e h = h
+
+all-as : (P : Item → Type 0) (l : List Item) → All P l → L.All P l
+all-as P [] h = tt
+all-as P (x ∷ l) h = (h .0, all-as P l (h .1))
+
+-- of two kinds, an item is one
+abbrev Excludes : (Item → Bool) → (Item → Bool) → Type 0
+Excludes a b = (i : Item) → a i ≡ true → b i ≡ false
+
+function-branch : Excludes isFunction isBranch
+unfolding isFunction isBranch
+function-branch (sectionItem s) h = refl
+function-branch (functionItem n s c) h = refl
+function-branch (branchItem l b h t) e = impossible cc
+function-branch (lineItem l c s) h = refl
+
+function-line : Excludes isFunction isLine
+unfolding isFunction isLine
+function-line (sectionItem s) h = refl
+function-line (functionItem n s c) h = refl
+function-line (branchItem l b h t) e = refl
+function-line (lineItem l c s) h = impossible cc
+
+branch-line : Excludes isBranch isLine
+unfolding isBranch isLine
+branch-line (sectionItem s) h = refl
+branch-line (functionItem n s c) h = refl
+branch-line (branchItem l b h t) e = refl
+branch-line (lineItem l c s) h = impossible cc
+
+excludes-back : {a b : Item → Bool} → Excludes a b → Excludes b a
+excludes-back {a} {b} x i h = go (a i) refl
+  where
+    go : (t : Bool) → a i ≡ t → t ≡ false
+    go true e = let z : false ≡ true = sym (x i e) ∙ h in cc
+    go false e = refl
+
+-- ---- what is left of a section's items
+
+module _ (ranges : List Range) (its fs bs ls : List Item) (F : select isFunction its ≡ fs) (B : select isBranch its ≡ bs)
+    (L : select isLine its ≡ ls) where
+  abbrev functions : List Item
+  functions = sort compareItems (functionsLeft ranges fs)
+
+  abbrev branches : List Item
+  branches = select (isHeld ranges) bs
+
+  abbrev lines : List Item
+  lines = select (isHeld ranges) ls
+
+  filter-is : filterItems ranges its ≡ functions ++ branches ++ lines
+  unfolding filterItems functionsOf
+  filter-is = rw (F, B, L)
+
+  all-fs : All (λ i. isFunction i ≡ true) fs
+  all-fs = rw F at (passing isFunction its)
+
+  all-functions : All (λ i. isFunction i ≡ true) functions
+  all-functions =
+      all-sort compareItems (λ i. isFunction i ≡ true) (functionsLeft ranges fs)
+      (all-held (λ i. isFunction i ≡ true) ranges (select hasStart (sort comparePrinted fs))
+      (all-chosen (λ i. isFunction i ≡ true) hasStart (sort comparePrinted fs) (all-sort comparePrinted (λ i. isFunction i ≡ true) fs all-fs)))
+
+  all-branches : All (λ i. isBranch i ≡ true) branches
+  all-branches = all-chosen (λ i. isBranch i ≡ true) (isHeld ranges) bs (rw B at (passing isBranch its))
+
+  all-lines : All (λ i. isLine i ≡ true) lines
+  all-lines = all-chosen (λ i. isLine i ≡ true) (isHeld ranges) ls (rw L at (passing isLine its))
+
+  kind-in : (test : Item → Bool) (l : List Item) → All (λ i. test i ≡ true) l → select test l ≡ l
+  kind-in test l h = select-all test l (all-as (λ i. test i ≡ true) l h)
+
+  kind-out : (test kind : Item → Bool) → Excludes kind test → (l : List Item) → All (λ i. kind i ≡ true) l → select test l ≡ []
+  kind-out test kind x l h = select-none test l (all-as (λ i. test i ≡ false) l (all-map (λ i. kind i ≡ true) (λ i. test i ≡ false) x l h))
+
+  select-parts : (test : Item → Bool) → select test (filterItems ranges its) ≡ select test functions ++ select test branches ++ select test lines
+  select-parts test =
+      ap (select test) filter-is ∙ select-append test (functions ++ branches) lines
+      ∙ ap (λ (l : List Item). l ++ select test lines) (select-append test functions branches)
+
+  functions-left : select isFunction (filterItems ranges its) ≡ functions
+  functions-left =
+      select-parts isFunction
+      ∙ rw (
+        kind-in isFunction functions all-functions,
+        kind-out isFunction isBranch (excludes-back function-branch) branches all-branches,
+        kind-out isFunction isLine (excludes-back function-line) lines all-lines,
+      ) (append-nil (functions ++ []) ∙ append-nil functions)
+
+  branches-left : select isBranch (filterItems ranges its) ≡ branches
+  branches-left =
+      select-parts isBranch
+      ∙ rw (
+        kind-out isBranch isFunction function-branch functions all-functions,
+        kind-in isBranch branches all-branches,
+        kind-out isBranch isLine (excludes-back branch-line) lines all-lines,
+      ) (append-nil branches)
+
+  lines-left : select isLine (filterItems ranges its) ≡ lines
+  lines-left =
+      select-parts isLine
+      ∙ rw (
+        kind-out isLine isFunction function-line functions all-functions,
+        kind-out isLine isBranch branch-line branches all-branches,
+        kind-in isLine lines all-lines,
+      ) refl
+
+  -- THE LINES OF A FILTERED SECTION: the functions left in printing order, the branches and lines that are held
+  filtered-lines : (s : Section) → s .items ≡ its → (rest : List Section)
+      → printSections defaultTag (filterSection ranges s ∷ rest)
+      ≡ sectionLines (s .test) (s .spelling) functions branches lines (printSections defaultTag rest)
+  unfolding filterSection
+  filtered-lines s e rest =
+      lines-of (filterSection ranges s) functions branches lines rest
+      (ap (λ (l : List Item). select isFunction (filterItems ranges l)) e ∙ functions-left)
+      (ap (λ (l : List Item). select isBranch (filterItems ranges l)) e ∙ branches-left)
+      (ap (λ (l : List Item). select isLine (filterItems ranges l)) e ∙ lines-left)
+
+  left-again : sort comparePrinted functions ≡ functionsLeft ranges fs
+  left-again = printed-again ranges fs all-fs
+
+-- ---- the section at a place
+
+module _ {text ws ws′ : List ℕ} {index used n lo spare : ℕ} {own : Row} {r : Runs} {kept : Kept} (π : Spacious text ws index used n spare)
+    (more : lo < n) (kind : kindOf (row ws index lo) ≡ 0) (is : own ≡ row ws index lo) (ρ : RunsOf ws index n (lo + 1) r) (ranges : List Range)
+    (κ : KeptRows ranges text ws ws′ index (lo + 1) spare r kept) where
+  pub section-ready : Ready text ws′ own spare kept
+  section-ready = record {
+    named = rw is (π .table .whole lo more .named);
+    functions = κ .functions .rows .printable;
+    branches = κ .branches .rows .printable;
+    lines = κ .lines .rows .printable;
+    few = (κ .functions .few, κ .branches .few, κ .lines .few);
+  }
+
+  abbrev fs : List Item
+  fs = itemsAt text ws index (lo + 1) (r .functions - (lo + 1))
+
+  abbrev bs : List Item
+  bs = itemsAt text ws index (r .functions) (r .branches - r .functions)
+
+  abbrev ls : List Item
+  ls = itemsAt text ws index (r .branches) (r .lines - r .branches)
+
+  abbrev end : Bytes
+  end = printRecords defaultTag (endOfRecord ∷ [])
+
+  abbrev rest : Bytes
+  rest = filteredFrom ranges text index n ws (r .lines)
+
+  lines-of-items : filteredFrom ranges text index n ws lo
+      ≡ headLines text own
+      ++ (functionLines (functionsLeft ranges fs)
+      ++ (groupLines branch-kind (select (isHeld ranges) bs) ++ (groupLines line-kind (select (isHeld ranges) ls) ++ (end ++ rest))))
+  lines-of-items =
+      ap (λ (l : List Section). printSections defaultTag (map (filterSection ranges) l))
+      (sections-at (π .table) kind more (ρ .functions) (ρ .branches) (ρ .lines))
+      ∙ filtered-lines ranges its fs bs ls F B L (sectionAt (π .table) kind more (ρ .functions) (ρ .branches) (ρ .lines)) refl
+      (map (filterSection ranges) (sections (entriesFrom text ws index n (r .lines))))
+      ∙ ap₂ (λ (o : Row) (l : List Item). headLines text o ++ (functionLines l
+      ++ (groupLines branch-kind (select (isHeld ranges) bs) ++ (groupLines line-kind (select (isHeld ranges) ls) ++ (end ++ rest)))))
+      (sym is) (left-again ranges its fs bs ls F B L)
+    where
+      its : List Item
+      its = items (π .table) kind more (ρ .functions) (ρ .branches) (ρ .lines)
+
+      F : select isFunction its ≡ fs
+      F = items-functions (π .table) kind more (ρ .functions) (ρ .branches) (ρ .lines)
+
+      B : select isBranch its ≡ bs
+      B = items-branches (π .table) kind more (ρ .functions) (ρ .branches) (ρ .lines)
+
+      L : select isLine its ≡ ls
+      L = items-lines (π .table) kind more (ρ .functions) (ρ .branches) (ρ .lines)
+
+  regroup : (a b c d e f : Bytes) → a ++ (b ++ (c ++ (d ++ (e ++ f)))) ≡ (a ++ (b ++ (c ++ (d ++ e)))) ++ f
+  regroup a b c d e f = simp append-assoc
+
+  kept-is : keptLines text ws′ own spare kept
+      ≡ headLines text own
+      ++ (functionLines (functionsLeft ranges fs)
+      ++ (groupLines branch-kind (select (isHeld ranges) bs) ++ (groupLines line-kind (select (isHeld ranges) ls) ++ end)))
+  kept-is = rw (κ .functions .are, κ .branches .are, κ .lines .are)
+
+  pub section-first : filteredFrom ranges text index n ws lo ≡ keptLines text ws′ own spare kept ++ rest
+  section-first =
+      lines-of-items
+      ∙ regroup (headLines text own) (functionLines (functionsLeft ranges fs)) (groupLines branch-kind (select (isHeld ranges) bs))
+      (groupLines line-kind (select (isHeld ranges) ls)) end rest
+      ∙ ap (λ (t : Bytes). t ++ rest) (sym kept-is)
+
+  pub section-room : (write : Bool) (out : Bytes) (at : ℕ) → RoomFor write out at (filteredFrom ranges text index n ws lo)
+      → RoomFor write out at (keptLines text ws′ own spare kept)
+  section-room write out at h = room-first write out at (keptLines text ws′ own spare kept) rest (rw section-first at h)
+
+  pub section-done : {write : Bool} {out out′ : Bytes} {at e : ℕ} → Emitted write out out′ at (keptLines text ws′ own spare kept) e
+      → SectionPrinted (filteredFrom ranges text index n) write ws ws′ out out′ index n lo spare at (record { next = r .lines; at = e })
+  section-done ε = record {
+    lines = keptLines text ws′ own spare kept;
+    first = section-first;
+    emitted = ε;
+    more = omega (arith, ρ .functions .least, ρ .branches .least, ρ .lines .least);
+    most = ρ .lines .most;
+    own = next-own (π .table) (omega arith) (ρ .functions) (ρ .branches) (ρ .lines);
+    spared = κ .spared;
+  }
+
+-- ---- all sections
+
+pub filtered-prints : (ranges : List Range) {text ws : List ℕ} {index used n spare : ℕ} → Spacious text ws index used n spare
+    → Prints (filteredFrom ranges text index n) ws n spare
+unfolding printSections printRecords sections each
+filtered-prints ranges π = record {
+  same = λ ws′ σ lo. ap (λ (e : Report). printSections defaultTag (map (filterSection ranges) (sections e))) (entries-kept π σ lo);
+  none = λ lo h. ap (λ (e : Report). printSections defaultTag (map (filterSection ranges) (sections e))) (entries-none π lo h);
+}

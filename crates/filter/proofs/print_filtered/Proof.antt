@@ -1,0 +1,65 @@
+-- `filter::print_filtered` meets its contract: what was measured is refused or written. Assumes nothing.
+use native.Mathlib.Omega.{arith}
+use borrow.Author.Needs.{needs}
+use denote.Ref.{now}
+use mathlib.Core.Path.{ap}
+use mathlib.Core.List.{List, map}
+use lib.ListN.{take}
+use Rattle.model.specs.declared.Range.{Range}
+use Rattle.model.specs.Report.{Report}
+use Rattle.model.specs.Tags.{defaultTag}
+use Rattle.model.specs.Printing.{sections, printSections}
+use Rattle.model.specs.Filter.{filterSection}
+use Rattle.section.specs.Sections.{entriesAt}
+use Rattle.line_num.specs.Pairs.{rangesIn}
+use Rattle.printing.specs.Printing.{Spacious}
+use Rattle.printing.proofs.TableLaws.{spacious-kept}
+use Rattle.printing.proofs.LoopLaws.{entries-all, Measured, short-answer, short-out, second-room, written-answer, written-out}
+use Rattle.filter.specs.Filtered.{filteredFrom}
+use Rattle.filter.proofs.SectionLaws.{filtered-prints}
+use Rattle.filter.proofs.print_filtered.Statement.{statement}
+use Rattle.filter.proofs.print_filtered.Tie as tie
+
+abbrev spacious : (s : tie.Start)
+    → Spacious (now (s .args .text)) (now (s .args .words)) (s .args .index) (s .args .used) (s .args .n) (s .args .spare)
+spacious s = record { table = s .pre .0 .0; few = s .pre .0 .1; behind = s .pre .1 .0; words = s .pre .1 .1 }
+
+abbrev ranges : tie.Start → List Range
+ranges s = take (s .args .count) (rangesIn (now (s .args .pairs)))
+
+abbrev start : tie.After-filter-sections → tie.Start
+start m = m .before .before .before .before .before .before
+
+-- what the first pass promises
+abbrev measured : (m : tie.After-filter-sections) → let a = start m .args in
+    Measured (filteredFrom (ranges (start m)) (now (a .text)) (a .index) (a .n))
+    (printSections defaultTag (map (filterSection (ranges (start m))) (sections (entriesAt (now (a .text)) (now (a .words)) (a .index) (a .n)))))
+    (now (a .words)) (m .filter-sections .last .1 .0) (now (a .out)) (m .filter-sections .last .1 .1 .1 .1 .1 .1 .1 .1 .0) (a .n) (a .spare)
+    (m .filter-sections .result)
+measured m = let a = start m .args in record {
+  prints = filtered-prints (ranges (start m)) (spacious (start m));
+  is = ap (λ (r : Report). printSections defaultTag (map (filterSection (ranges (start m))) (sections r)))
+      (entries-all (now (a .text)) (now (a .words)) (a .index) (a .n));
+  spared = m .filter-sections .ensures .1;
+  emitted = m .filter-sections .ensures .0;
+  few = omega arith;
+}
+
+pub print-filtered-spec : {M : Type 1} → statement M
+print-filtered-spec =
+    tie.close
+    (tie.spec
+    (λ c κs. let s = c .before .before .before .before .before in (spacious s, (s .pre .0 .2, tt)))
+    (λ c κs. search needs)
+    (λ c. search needs)
+    (λ c. search needs)
+    (λ c. let μ = measured (c .before .before .before .before .before .before) in
+    (short-answer μ (omega arith) (c .too-short .ensures), short-out μ (omega arith)))
+    (λ c κs. let m = c .before .before .before .before .before .before .before in
+    let μ = measured m in
+    (spacious-kept (spacious (start m)) (μ .spared), (start m .pre .0 .2, second-room μ (omega arith))))
+    (λ c. search needs)
+    (λ c. search needs)
+    (λ c. let w = c .before .before .before .before in
+    let μ = measured (w .before .before .before .before .before .before .before .before) in
+    (written-answer μ (omega arith) (w .filter-sections2 .ensures .0), written-out μ (omega arith) (w .filter-sections2 .ensures .0))))

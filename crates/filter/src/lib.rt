@@ -1,0 +1,351 @@
+// A filtered report printed: `LineNum::apply` (document 01, "Filter"). Rows and index stay: of each section, the row numbers of what stays
+// are put into the spare words, and the section is printed from there.
+use model::WriteAnswer;
+use printing::Printed;
+use printing::Runs;
+use store::Row;
+ghost use mathlib.Core.Path.{_≡_};
+ghost use mathlib.Core.Bool.{true};
+ghost use mathlib.Core.List.{List, map};
+ghost use Prim.Native.Nat.{ℕ, _+_, _-_, _≤_, _<_};
+ghost use lib.ListN.{length, take};
+ghost use Rattle.store.specs.Rows.{word, rowAt};
+ghost use Rattle.store.specs.Store.{row};
+ghost use Rattle.model.specs.Calls.{writeAnswer};
+ghost use Rattle.model.specs.Filter.{lineOf, isHeld, startLine, hasStart, endBefore, filterSection};
+ghost use Rattle.model.specs.Limits.{most-entries};
+ghost use Rattle.model.specs.Lists.{select};
+ghost use Rattle.model.specs.Output.{written, outputAfter};
+ghost use Rattle.model.specs.Printing.{sections, printSections};
+ghost use Rattle.model.specs.Ranges.{wellFormedRanges};
+ghost use Rattle.model.specs.Tags.{defaultTag};
+ghost use Rattle.model.specs.Valid.{Fits};
+ghost use Rattle.items.specs.Items.{kindOf, itemOf};
+ghost use Rattle.items.specs.Open.{itemsAt};
+ghost use Rattle.section.specs.Sections.{entriesAt};
+ghost use Rattle.section.specs.Table.{Table};
+ghost use Rattle.sorting.specs.Sorting.{itemsBy};
+ghost use Rattle.emit.specs.Emit.{RoomFor, Emitted, Printable};
+ghost use Rattle.printing.specs.Printing.{Spacious, Spared, RunsOf, FunctionRows, SectionPrinted};
+ghost use Rattle.line_num.specs.Pairs.{rangesIn};
+ghost use Rattle.filter.specs.Keeping.{chosen, keeps, Behind, Chosen};
+ghost use Rattle.filter.specs.Filtered.{filteredFrom, Holding, functionsLeft, KeptRows, Ready, keptLines};
+
+// What a row must meet to stay: a function that has a start; a branch or line whose line is held; a function whose range, up to the next
+// one's start, queries yes.
+enum Rule {
+    Started,
+    Held,
+    UntilNext,
+}
+
+fn has_start(row: Row) -> bool
+    ensures { λ r. ⌜ ((text : List ℕ) → r ≡ hasStart (itemOf text row)) ⌝ }
+{
+    row.tag == items::FUNCTION * 2 + 1
+}
+
+fn start_line(row: Row) -> u32
+    requires { ⌜ ((text : List ℕ) × Fits (itemOf text row)) ⌝ }
+    ensures { λ r. ⌜ ((text : List ℕ) → r ≡ startLine (itemOf text row)) ⌝ }
+{
+    if row.tag != items::FUNCTION * 2 + 1 {
+        return 0;
+    }
+    row.k3 as u32
+}
+
+// The line of a branch or line.
+fn line_of(row: Row) -> u32
+    requires { ⌜ ((text : List ℕ) × Fits (itemOf text row)) ⌝ }
+    ensures { λ r. ⌜ ((text : List ℕ) → r ≡ lineOf (itemOf text row)) ⌝ }
+{
+    if row.tag < items::BRANCH * 2 {
+        return 0;
+    }
+    row.k1 as u32
+}
+
+// "a function ends one before the next start (0 stays 0), the last at 2^32 − 1": the end of the function before the n whose row numbers
+// stand from word `next` on.
+fn end_before(words: &[u64], next: usize, n: usize) -> u32
+    requires { ⌜ ((text : List ℕ) × Printable text (now words) next n) ⌝ }
+    ensures { λ r. ⌜ ((text : List ℕ) → r ≡ endBefore (itemsBy text (now (words .entry)) next n)) ⌝ }
+{
+    if n == 0 {
+        return u32::MAX;
+    }
+    let j = words[next] as usize;
+    let start = start_line(store::read_row(words, j));
+    if start == 0 {
+        return 0;
+    }
+    start - 1
+}
+
+// Whether the first of the n rows whose numbers stand from word `at` on stays.
+fn stays(words: &[u64], pairs: &[[u32; 2]], count: usize, at: usize, n: usize, rule: Rule) -> bool
+    requires { ⌜ ((text : List ℕ) × Printable text (now words) at n) ⌝ }
+    requires { ⌜ (0 < n) × (wellFormedRanges (rangesIn (now pairs)) count ≡ true) ⌝ }
+    ensures { λ r. ⌜ ((text : List ℕ) → r ≡ keeps rule (take count (rangesIn (now (pairs .entry)))) (itemOf text (rowAt (now (words .entry)) (word (now (words .entry)) at))) (itemsBy text (now (words .entry)) (at + 1) (n - 1))) ⌝ }
+{
+    let j = words[at] as usize;
+    let row = store::read_row(words, j);
+    match rule {
+        Rule::Started => has_start(row),
+        Rule::Held => {
+            let line = line_of(row);
+            line_num::holds_at(pairs, count, line, line)
+        }
+        Rule::UntilNext => {
+            let end = end_before(words, at + 1, n - 1);
+            line_num::holds_at(pairs, count, start_line(row), end)
+        }
+    }
+}
+
+// Of the n rows whose numbers stand from word `numbers` on, those that stay: their numbers come to stand there, in the same order.
+fn keep(
+    words: &mut [u64],
+    pairs: &[[u32; 2]],
+    count: usize,
+    numbers: usize,
+    n: usize,
+    rule: Rule,
+) -> usize
+    requires { ⌜ ((text : List ℕ) × Behind text (now words) numbers n) ⌝ }
+    requires { ⌜ wellFormedRanges (rangesIn (now pairs)) count ≡ true ⌝ }
+    ensures { λ r. ⌜ Chosen (chosen rule (take count (rangesIn (now (pairs .entry))))) (now (words .entry)) (now (words .exit)) numbers n numbers r ⌝ }
+{
+    let mut kept = 0;
+    let mut i = 0;
+    while i < n {
+        if stays(words, pairs, count, numbers + i, n - i, rule) {
+            words[numbers + kept] = words[numbers + i];
+            kept += 1;
+            i += 1;
+        } else {
+            i += 1;
+        }
+    }
+    kept
+}
+
+// "Branches and lines stay if their line is held": of n rows, the numbers of those that stay, copied to word `to` on.
+fn keep_held(
+    words: &mut [u64],
+    pairs: &[[u32; 2]],
+    count: usize,
+    from: usize,
+    n: usize,
+    to: usize,
+) -> usize
+    requires { ⌜ ((text : List ℕ) × Behind text (now words) from n) ⌝ }
+    requires { ⌜ (from + n ≤ to) × (to + n ≤ length (now words)) × (wellFormedRanges (rangesIn (now pairs)) count ≡ true) ⌝ }
+    ensures { λ r. ⌜ Chosen (select (isHeld (take count (rangesIn (now (pairs .entry)))))) (now (words .entry)) (now (words .exit)) from n to r ⌝ }
+{
+    store::move_down(words, from, to, n);
+    keep(words, pairs, count, to, n, Rule::Held)
+}
+
+// "Functions without a start go. In printing order, a function ends one before the next start".
+fn keep_functions(
+    text: &[u8],
+    words: &mut [u64],
+    pairs: &[[u32; 2]],
+    count: usize,
+    index: usize,
+    used: usize,
+    from: usize,
+    n: usize,
+    spare: usize,
+) -> usize
+    requires { ⌜ FunctionRows (now text) (now words) index used from n spare × (wellFormedRanges (rangesIn (now pairs)) count ≡ true) ⌝ }
+    ensures most { λ r. ⌜ r ≤ n ⌝ }
+    ensures rows { λ r. ⌜ Holding (now (text .entry)) (now (words .exit)) spare r (functionsLeft (take count (rangesIn (now (pairs .entry)))) (itemsAt (now (text .entry)) (now (words .entry)) index from n)) ⌝ }
+    ensures spared { λ _. ⌜ Spared (now (words .entry)) (now (words .exit)) spare ⌝ }
+{
+    sorting::sort_functions(text, words, index, used, from, n, spare);
+    let started = keep(words, pairs, count, spare, n, Rule::Started);
+    keep(words, pairs, count, spare, started, Rule::UntilNext)
+}
+
+// How many functions, branches and lines stay.
+struct Kept {
+    functions: usize,
+    branches: usize,
+    lines: usize,
+}
+
+// What stays of a section whose functions start at place `from`: the numbers of its functions, branches and lines, one behind the other from
+// word `spare` on.
+fn keep_rows(
+    text: &[u8],
+    words: &mut [u64],
+    pairs: &[[u32; 2]],
+    count: usize,
+    index: usize,
+    used: usize,
+    n: usize,
+    from: usize,
+    runs: Runs,
+    spare: usize,
+) -> Kept
+    requires { ⌜ Spacious (now text) (now words) index used n spare × RunsOf (now words) index n from runs × (wellFormedRanges (rangesIn (now pairs)) count ≡ true) ⌝ }
+    ensures { λ r. ⌜ KeptRows (take count (rangesIn (now (pairs .entry)))) (now (text .entry)) (now (words .entry)) (now (words .exit)) index from spare runs r ⌝ }
+{
+    let f = runs.functions;
+    let b = runs.branches;
+    let m = runs.lines - b;
+    let functions = keep_functions(
+        text,
+        words,
+        pairs,
+        count,
+        index,
+        used,
+        from,
+        f - from,
+        spare,
+    );
+    let first = spare + functions;
+    let branches = keep_held(words, pairs, count, index + f, b - f, first);
+    let then = first + branches;
+    let lines = keep_held(words, pairs, count, index + b, m, then);
+    Kept {
+        functions,
+        branches,
+        lines,
+    }
+}
+
+// The lines of a section of which rows stay. "Emptied sections print TN, SF, end_of_record."
+fn print_kept(
+    text: &[u8],
+    words: &[u64],
+    own: Row,
+    numbers: usize,
+    kept: Kept,
+    out: &mut [u8],
+    at: usize,
+    write: bool,
+) -> usize
+    requires { ⌜ Ready (now text) (now words) own numbers kept ⌝ }
+    requires { ⌜ RoomFor write (now out) at (keptLines (now text) (now words) own numbers kept) ⌝ }
+    ensures { λ r. ⌜ Emitted write (now (out .entry)) (now (out .exit)) at (keptLines (now (text .entry)) (now (words .entry)) own numbers kept) r ⌝ }
+{
+    let f = kept.functions;
+    let b = kept.branches;
+    let l = kept.lines;
+    let first = numbers + f;
+    let then = first + b;
+    let start = emit::emit_head(text, own, out, at, write);
+    let functions = printing::print_numbered(text, words, numbers, f, out, start, write);
+    let branches = emit::emit_group(text, words, items::BRANCH, first, b, out, functions, write);
+    let lines = emit::emit_group(text, words, items::LINE, then, l, out, branches, write);
+    emit::emit_end(text, out, lines, write)
+}
+
+// The section whose own row stands at place lo.
+fn filter_section(
+    text: &[u8],
+    words: &mut [u64],
+    pairs: &[[u32; 2]],
+    count: usize,
+    index: usize,
+    used: usize,
+    n: usize,
+    lo: usize,
+    spare: usize,
+    out: &mut [u8],
+    at: usize,
+    write: bool,
+) -> Printed
+    requires { ⌜ Spacious (now text) (now words) index used n spare × (lo < n) × (kindOf (row (now words) index lo) ≡ 0) ⌝ }
+    requires { ⌜ (wellFormedRanges (rangesIn (now pairs)) count ≡ true) × RoomFor write (now out) at (filteredFrom (take count (rangesIn (now pairs))) (now text) index n (now words) lo) ⌝ }
+    ensures { λ r. ⌜ SectionPrinted (filteredFrom (take count (rangesIn (now (pairs .entry)))) (now (text .entry)) index n) write (now (words .entry)) (now (words .exit)) (now (out .entry)) (now (out .exit)) index n lo spare at r ⌝ }
+{
+    let own = store::get(words, index, used, lo);
+    let runs = printing::find_runs(words, index, used, n, lo + 1);
+    let next = runs.lines;
+    let kept = keep_rows(
+        text,
+        words,
+        pairs,
+        count,
+        index,
+        used,
+        n,
+        lo + 1,
+        runs,
+        spare,
+    );
+    let end = print_kept(text, words, own, spare, kept, out, at, write);
+    Printed { next, at: end }
+}
+
+// All sections, from the output's start on.
+fn filter_sections(
+    text: &[u8],
+    words: &mut [u64],
+    pairs: &[[u32; 2]],
+    count: usize,
+    index: usize,
+    used: usize,
+    n: usize,
+    spare: usize,
+    out: &mut [u8],
+    write: bool,
+) -> usize
+    requires { ⌜ Spacious (now text) (now words) index used n spare ⌝ }
+    requires { ⌜ (wellFormedRanges (rangesIn (now pairs)) count ≡ true) × RoomFor write (now out) 0 (filteredFrom (take count (rangesIn (now pairs))) (now text) index n (now words) 0) ⌝ }
+    ensures { λ r. ⌜ Emitted write (now (out .entry)) (now (out .exit)) 0 (filteredFrom (take count (rangesIn (now (pairs .entry)))) (now (text .entry)) index n (now (words .entry)) 0) r ⌝ }
+    ensures { λ _. ⌜ Spared (now (words .entry)) (now (words .exit)) spare ⌝ }
+{
+    let mut lo = 0;
+    let mut at = 0;
+    while lo < n {
+        let done = filter_section(
+            text,
+            words,
+            pairs,
+            count,
+            index,
+            used,
+            n,
+            lo,
+            spare,
+            out,
+            at,
+            write,
+        );
+        lo = done.next;
+        at = done.at;
+    }
+    at
+}
+
+// Prints the report of the first n rows, filtered by the first `count` pairs; the output and `spare` as for `printing::print_report`.
+pub fn print_filtered(
+    text: &[u8],
+    words: &mut [u64],
+    pairs: &[[u32; 2]],
+    count: usize,
+    index: usize,
+    used: usize,
+    n: usize,
+    spare: usize,
+    out: &mut [u8],
+) -> WriteAnswer
+    requires { ⌜ Table (now text) (now words) index used n × (n ≤ most-entries) × (wellFormedRanges (rangesIn (now pairs)) count ≡ true) ⌝ }
+    requires { ⌜ (index + used ≤ spare) × (spare + n + n ≤ length (now words)) ⌝ }
+    ensures { λ r. ⌜ r ≡ writeAnswer (written (length (now (out .entry))) (printSections defaultTag (map (filterSection (take count (rangesIn (now (pairs .entry))))) (sections (entriesAt (now (text .entry)) (now (words .entry)) index n))))) ⌝ }
+    ensures { λ _. ⌜ now (out .exit) ≡ outputAfter (written (length (now (out .entry))) (printSections defaultTag (map (filterSection (take count (rangesIn (now (pairs .entry))))) (sections (entriesAt (now (text .entry)) (now (words .entry)) index n))))) (now (out .entry)) ⌝ }
+{
+    let needed = filter_sections(text, words, pairs, count, index, used, n, spare, out, false);
+    if out.len() < needed {
+        return printing::too_short(needed);
+    }
+    let len = filter_sections(text, words, pairs, count, index, used, n, spare, out, true);
+    WriteAnswer::Written(len)
+}

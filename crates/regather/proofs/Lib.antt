@@ -1,0 +1,4 @@
+pub mod JoinedItems
+pub mod Rejoined
+pub mod Parts
+pub mod Regather

@@ -1,0 +1,18 @@
+//! Links the port, an archive that `rt staticlib exports` writes.
+//!
+//! It is found where LCOV_PORT says (as seen from the repository's root), by default `target/staticlib/libexports.a`.
+
+use std::env;
+use std::path::PathBuf;
+
+fn main() {
+    let root = PathBuf::from(env::var_os("CARGO_MANIFEST_DIR").unwrap()).join("../..");
+    let named = env::var_os("LCOV_PORT").unwrap_or_else(|| "target/staticlib/libexports.a".into());
+    let archive = root.join(named);
+
+    println!("cargo:rerun-if-env-changed=LCOV_PORT");
+    println!("cargo:rerun-if-changed={}", archive.display());
+    for callers in ["bins", "examples"] {
+        println!("cargo:rustc-link-arg-{callers}={}", archive.display());
+    }
+}
