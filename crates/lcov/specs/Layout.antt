@@ -1,5 +1,5 @@
--- The scratch of the calls that read texts, counted in entries: `limit` rows that are joined, their index and as many spare words; then
--- the same for the text that is read. Assumes nothing.
+-- The scratch of the calls that read texts, counted in entries: `limit` rows that are joined, their index and twice as many spare words;
+-- then the same for the text that is read. Assumes nothing.
 use Prim.Native.Nat.{ℕ, _+_, _*_, _≤_}
 use mathlib.Core.List.{List}
 use lib.ListN.{length}
@@ -16,7 +16,7 @@ spare-at limit = index-at limit + limit
 
 -- where the words for the text that is read start
 abbrev pub base-at : ℕ → ℕ
-base-at limit = spare-at limit + limit
+base-at limit = spare-at limit + limit + limit
 
 -- the words are enough for the limit
 pub record Space (ws : List ℕ) (limit : ℕ) : Type 0 where

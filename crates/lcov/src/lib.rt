@@ -69,7 +69,7 @@ fn base_at(limit: usize) -> usize
     requires { ⌜ limit ≤ most-entries ⌝ }
     ensures { λ r. ⌜ r ≡ base-at limit ⌝ }
 {
-    spare_at(limit) + limit
+    spare_at(limit) + limit + limit
 }
 
 // A refusal, in the i-th text.

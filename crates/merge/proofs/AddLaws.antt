@@ -1,15 +1,15 @@
 -- A row added at the place of its key. Assumes nothing.
-use Prim.Native.Nat.{ℕ, zero, suc, _+_, _-_, _≤_, _<_, Ordering, Ordering·lt, Ordering·eq, Ordering·gt}
+use Prim.Native.Nat.{ℕ, zero, suc, _+_, _≤_, _<_, Ordering, Ordering·lt, Ordering·eq, Ordering·gt}
 use native.Mathlib.Omega.{arith}
 use mathlib.Core.Path.{_≡_, refl, sym, ap, _∙_}
 use mathlib.Core.Bool.{true}
-use mathlib.Core.List.{List, _∷_, _++_}
-use lib.ListN.{length, set, take, drop, length-append, length-take, length-drop}
+use mathlib.Core.List.{List, _∷_}
+use lib.ListN.{length, set}
 use Rattle.store.specs.declared.Row.{Row}
-use Rattle.store.specs.Places.{listed, Same, Put, Brought}
+use Rattle.store.specs.Places.{listed, Same, Put}
 use Rattle.store.specs.Store.{row, Store}
-use Rattle.store.proofs.PlaceLaws.{by-eq, by-lt}
-use Rattle.store.proofs.ListedLaws.{length-listed, listed-insert, listed-set}
+use Rattle.store.proofs.PlaceLaws.{by-eq}
+use Rattle.store.proofs.ListedLaws.{listed-cong, listed-set}
 use Rattle.map.specs.Result.{Result, accepted, refused, mapAccepted}
 use Rattle.map.specs.Keyed.{add}
 use Rattle.map.proofs.Adding.{add-sorted}
@@ -29,22 +29,12 @@ use Rattle.merge.specs.declared.Walk.{Walk}
 use Rattle.merge.specs.declared.join.Joining.{Joining}
 use Rattle.merge.specs.declared.join.Joining.the-variants.{One, Refused}
 use Rattle.merge.specs.Joining.{Joins}
-use Rattle.merge.specs.Placing.{Ranked, compareEntries, Passed, Seated}
-use Rattle.merge.specs.Walking.{Within, added, grew, stayed, Stepped}
+use Rattle.merge.specs.Placing.{compareEntries, Seated}
+use Rattle.merge.specs.Walking.{newAt, Within, Room, Grown, grew, stayed, Ready, added, known, fresh, left, Stepped}
 
 -- ---- `add` by the place of the key
 
 module _ {R E K : Type 0} (key : E → K) (cmp : K → K → Ordering) (combine : E → E → Result R E) (e : E) where
-  add-insert : (f : ℕ → E) (n i : ℕ) → i ≤ n → ((k : ℕ) → k < i → cmp (key e) (key (f k)) ≡ Ordering·gt) → (i < n → cmp (key e) (key (f i)) ≡ Ordering·lt)
-      → add key cmp combine e (listed f n) ≡ accepted (take i (listed f n) ++ e ∷ drop i (listed f n))
-  unfolding listed
-  add-insert f zero zero h below here = refl
-  add-insert f zero (suc i) h below here = absurd (omega arith)
-  add-insert f (suc n) zero h below here = rw (here (omega arith))
-  add-insert f (suc n) (suc i) h below here =
-      rw (below 0 (omega arith))
-      (ap (mapAccepted (λ ys. f 0 ∷ ys)) (add-insert (λ k. f (suc k)) n i (omega arith) (λ k l. below (suc k) (omega arith)) (λ l. here (omega arith))))
-
   add-known : (f : ℕ → E) (n i : ℕ) → i < n → ((k : ℕ) → k < i → cmp (key e) (key (f k)) ≡ Ordering·gt) → cmp (key e) (key (f i)) ≡ Ordering·eq
       → add key cmp combine e (listed f n) ≡ mapAccepted (λ y. set (listed f n) i y) (combine (f i) e)
   unfolding listed
@@ -62,7 +52,8 @@ module _ {R E K : Type 0} (key : E → K) (cmp : K → K → Ordering) (combine 
 
 -- ---- rows of one key are of one kind
 
-pub same-kind : (text : Bytes) (x y : Row) → Whole text x → Whole text y → compareEntries (entryOf text y) (entryOf text x) ≡ Ordering·eq → kindOf x ≡ kindOf y
+pub same-kind : (text : Bytes) (x y : Row) → Whole text x → Whole text y → compareEntries (entryOf text y) (entryOf text x) ≡ Ordering·eq
+    → kindOf x ≡ kindOf y
 unfolding entryKey
 same-kind text x y wx wy e =
     let keys : itemKey (itemOf text y) ≡ itemKey (itemOf text x) = ap (λ (k : Key). k .1) (keys-order .equal e) in
@@ -74,12 +65,22 @@ same-kind text x y wx wy e =
 pub seated-as : (text ws : List ℕ) (index n : ℕ) (key : Row) (r q : Found) → r ≡ q → Seated text ws index n key r → Seated text ws index n key q
 seated-as text ws index n key r q z s = rw z at s
 
-pub joins-as : {text : Bytes} {mode : Mode} {old place new : Row} {r q : Joining} → old ≡ place → r ≡ q → Joins text mode old new r → Joins text mode place new q
+pub joins-as : {text : Bytes} {mode : Mode} {old place new : Row} {r q : Joining} → old ≡ place → r ≡ q → Joins text mode old new r
+    → Joins text mode place new q
 joins-as {text} {mode} {old} {place} {new} {r} {q} x z j = rw x at (rw z at j)
 
 -- ---- what `add_row` owes
 
-module _ (text ws : List ℕ) (index limit : ℕ) (walk : Walk) (r : Row) (mode : Mode) (ω : Within text ws index limit walk) where
+-- rows that are the same from n on
+module _ (text ws ws′ : List ℕ) (index n p : ℕ) (same : Same (row ws index) (row ws′ index) n (n + p)) where
+  same-new : (j : ℕ) → j < p → row ws′ index (n + j) ≡ row ws index (n + j)
+  same-new j l = same (n + j) (omega arith) (omega arith)
+
+  new-ascend : ((i j : ℕ) → i < j → j < p → compareEntries (newAt text ws index n i) (newAt text ws index n j) ≡ Ordering·lt)
+      → (i j : ℕ) → i < j → j < p → compareEntries (newAt text ws′ index n i) (newAt text ws′ index n j) ≡ Ordering·lt
+  new-ascend up i j l h = rw (same-new i (omega arith), same-new j h) (up i j l h)
+
+module _ {text ws : List ℕ} {index limit : ℕ} {walk : Walk} {r : Row} (mode : Mode) (ρ : Ready text ws index limit walk r) where
   abbrev e : Entry
   e = entryOf text r
 
@@ -89,55 +90,75 @@ module _ (text ws : List ℕ) (index limit : ℕ) (walk : Walk) (r : Row) (mode 
   abbrev n : ℕ
   n = walk .n
 
+  abbrev p : ℕ
+  p = walk .new
+
   abbrev joined : Report
   joined = listed f n
 
-  greater : (i : ℕ) → Passed text ws index r i → (k : ℕ) → k < i → compareEntries e (f k) ≡ Ordering·gt
-  greater i p k l = keys-order .greater (p k l)
+  abbrev ω : Within text ws index limit walk
+  ω = ρ .joined
 
-  -- the joined entries with one more, in other words
-  ranked : (ws′ : List ℕ) (n′ : ℕ) → Store ws′ index n′ → ((k : ℕ) → k < n′ → Whole text (row ws′ index k)) → added mode e joined ≡ accepted (entriesAt text ws′ index n′)
-      → Ranked text ws′ index n′
-  ranked ws′ n′ σ w p = record {
-    store = σ;
-    whole = w;
-    sorted = add-sorted entryKey compareKeys (combineEntries mode) keys-order (entries-keyed mode) e joined (entriesAt text ws′ index n′) (ω .ranked .sorted) p;
-  }
+  -- a row that comes after this one comes after those that are passed and after the new ones
+  newer-on : (ws′ : List ℕ) → Same (row ws index) (row ws′ index) n (n + p) → (later : Row) → compareEntries e (entryOf text later) ≡ Ordering·lt
+      → (j : ℕ) → j < p → compareEntries (newAt text ws′ index n j) (entryOf text later) ≡ Ordering·lt
+  newer-on ws′ same later l j h =
+      ap (λ (y : Row). compareEntries (entryOf text y) (entryOf text later)) (same-new text ws ws′ index n p same j h)
+      ∙ keys-order .trans (ρ .ahead .newer j h) l
+
+  pub room : Room ws index limit walk
+  room = record { store = ω .ranked .store; rows = ω .rows; words = ω .words; most = ω .most }
 
   -- ---- the key stands at place i
 
   module _ (i : ℕ) (s : Seated text ws index n r (At i)) where
     at-place : added mode e joined ≡ mapAccepted (λ y. set joined i y) (combineEntries mode (f i) e)
-    at-place = add-known entryKey compareKeys (combineEntries mode) e f n i (s .0) (greater i (s .1)) (s .2)
+    at-place = add-known entryKey compareKeys (combineEntries mode) e f n i (s .0) (λ k l. keys-order .greater (s .1 k l)) (s .2)
 
     pub added-refused : (fault : Fault) → Joins text mode (row ws index i) r (Refused fault) → added mode e joined ≡ refuse fault
     added-refused fault j = at-place ∙ ap (mapAccepted (λ y. set joined i y)) (sym (j .is))
 
-    pub added-known : {ws′ : List ℕ} (both : Row) → Joins text mode (row ws index i) r (One both) → Store ws′ index n
-        → Put (row ws index) (row ws′ index) n i both → length ws′ ≡ length ws
-        → Stepped text ws ws′ index limit walk r mode (record { n = n; from = i + 1; full = walk .full })
+    pub added-known : {ws′ : List ℕ} (both : Row) → Joins text mode (row ws index i) r (One both) → Store ws′ index (n + p)
+        → Put (row ws index) (row ws′ index) (n + p) i both → length ws′ ≡ length ws
+        → Stepped text ws ws′ index limit walk r mode (record { n = n; new = p; from = i + 1; full = walk .full })
     added-known {ws′} both j σ π len =
         record {
           joined = record {
-            ranked = ranked ws′ n σ
-                (λ k l. by-eq k i
-                (λ x. rw x (rw (π .there) (j .whole)))
-                (λ x. rw (π .others k l x) (ω .ranked .whole k l)))
-                is;
+            ranked = record {
+              store = σ;
+              room = omega arith;
+              whole = λ k l. by-eq k i
+                  (λ x. rw x (rw (π .there) (j .whole)))
+                  (λ x. rw (π .others k (omega arith) x) (ω .ranked .whole k l));
+              sorted = add-sorted entryKey compareKeys (combineEntries mode) keys-order (entries-keyed mode) e joined (entriesAt text ws′ index n)
+                  (ω .ranked .sorted) is;
+            };
+            fresh = λ k l. rw (same-new text ws ws′ index n p news k l) (ω .fresh k l);
+            ascend = new-ascend text ws ws′ index n p news (ω .ascend);
             rows = ω .rows;
             words = omega (arith, ω .words);
             most = ω .most;
             from = omega (arith, s .0);
           };
-          passed = λ later l k h. by-eq k i
-              (λ x. rw x (ap (λ (y : Key). compareKeys y (entryKey (entryOf text later))) key-is ∙ l))
-              (λ x. ap (λ (y : Row). compareEntries (entryOf text y) (entryOf text later)) (π .others k (omega (arith, s .0)) x)
-              ∙ keys-order .trans (s .1 k (omega arith)) l);
-          grown = grew is refl;
+          same = refl;
+          ahead = λ later l. record {
+            passed = λ k h. by-eq k i
+                (λ x. rw x (ap (λ (y : Key). compareKeys y (entryKey (entryOf text later))) key-is ∙ l))
+                (λ x. ap (λ (y : Row). compareEntries (entryOf text y) (entryOf text later)) (π .others k (omega (arith, s .0)) x)
+                ∙ keys-order .trans (s .1 k (omega arith)) l);
+            newer = newer-on ws′ news later l;
+          };
+          taken = known refl refl is
+              (λ k l. by-eq k i
+              (λ x. rw x (key-is ∙ keys-order .equal (s .2)))
+              (λ x. ap (λ (y : Row). entryKey (entryOf text y)) (π .others k (omega arith) x)))
+              news;
         }
       where
         rows-are : entriesAt text ws′ index n ≡ set joined i (entryOf text both)
-        rows-are = listed-set (entryAt text ws′ index) f n i (entryOf text both) (s .0) (ap (entryOf text) (π .there)) (λ k l x. ap (entryOf text) (π .others k l x))
+        rows-are =
+            listed-set (entryAt text ws′ index) f n i (entryOf text both) (s .0) (ap (entryOf text) (π .there))
+            (λ k l x. ap (entryOf text) (π .others k (omega arith) x))
 
         is : added mode e joined ≡ accepted (entriesAt text ws′ index n)
         is = at-place ∙ ap (mapAccepted (λ y. set joined i y)) (sym (j .is)) ∙ ap accepted (sym rows-are)
@@ -148,66 +169,70 @@ module _ (text ws : List ℕ) (index limit : ℕ) (walk : Walk) (r : Row) (mode 
             ∙ entries-keyed mode .keeps (sym (keys-order .equal (s .2))) (sym (j .is))
             ∙ sym (keys-order .equal (s .2))
 
+        news : Same (row ws index) (row ws′ index) n (n + p)
+        news k l h = π .others k h (omega (arith, s .0))
+
   -- ---- the key is to go to place i
 
   module _ (i : ℕ) (s : Seated text ws index n r (Insert i)) where
-    abbrev longer : Report
-    longer = take i joined ++ e ∷ drop i joined
-
-    one-more : added mode e joined ≡ accepted longer
-    one-more = add-insert entryKey compareKeys (combineEntries mode) e f n i (s .0) (greater i (s .1)) (s .2)
-
-    length-longer : length longer ≡ suc n
-    length-longer = simp (length-append, length-take, length-drop, length-listed) (omega (arith, s .0))
-
-    pub left-out : limit ≤ n → Stepped text ws ws index limit walk r mode (record { n = n; from = i; full = true })
+    left-out : limit ≤ n + p → Stepped text ws ws index limit walk r mode (record { n = n; new = p; from = i; full = true })
     left-out h = record {
-      joined = record { ranked = ω .ranked; rows = ω .rows; words = ω .words; most = ω .most; from = s .0 };
-      passed = λ later l k g. keys-order .trans (s .1 k g) l;
-      grown = stayed longer one-more (omega (arith, length-longer)) refl refl;
+      joined = record { ranked = ω .ranked; fresh = ω .fresh; ascend = ω .ascend; rows = ω .rows; words = ω .words; most = ω .most; from = s .0 };
+      same = refl;
+      ahead = λ later l. record { passed = λ k g. keys-order .trans (s .1 k g) l; newer = newer-on ws (λ k a b. refl) later l };
+      taken = left refl refl h s refl;
     }
 
-    pub added-new : (ws₁ ws₂ ws₃ : List ℕ) → n < limit → Whole text r → Same (row ws index) (row ws₁ index) 0 n
-        → Put (row ws₁ index) (row ws₂ index) (n + 1) n r → Store ws₃ index (n + 1) → Brought (row ws₂ index) (row ws₃ index) (n + 1) i n 1 → length ws₃ ≡ length ws
-        → Stepped text ws ws₃ index limit walk r mode (record { n = n + 1; from = i + 1; full = walk .full })
-    added-new ws₁ ws₂ ws₃ h w γ π σ β len =
+    added-new : (ws₂ : List ℕ) → n + p < limit → Whole text r → Same (row ws index) (row ws₂ index) 0 (n + p) → row ws₂ index (n + p) ≡ r
+        → Store ws₂ index (n + p + 1) → length ws₂ ≡ length ws
+        → Stepped text ws ws₂ index limit walk r mode (record { n = n; new = p + 1; from = i; full = walk .full })
+    added-new ws₂ h w old there σ len =
         record {
           joined = record {
-            ranked = ranked ws₃ (n + 1) σ
-                (λ k l. by-lt k i
-                (λ x. rw (below k x) (ω .ranked .whole k (omega (arith, s .0))))
-                (λ x. by-eq k i
-                (λ y. rw y (rw here w))
-                (λ y. rw (up k (k - 1) (omega arith) (omega arith) (omega arith)) (ω .ranked .whole (k - 1) (omega arith)))))
-                is;
+            ranked = record {
+              store = rw (let z : n + (p + 1) ≡ n + p + 1 = omega arith in z) σ;
+              room = omega arith;
+              whole = λ k l. rw (old k (omega arith) (omega arith)) (ω .ranked .whole k l);
+              sorted = rw entries (ω .ranked .sorted);
+            };
+            fresh = λ j l. by-eq j p
+                (λ x. rw (x, there) w)
+                (λ x. rw (same-new text ws ws₂ index n p news j (omega arith)) (ω .fresh j (omega arith)));
+            ascend = λ a b l g. by-eq b p
+                (λ x. rw x (rw (there) (rw (same-new text ws ws₂ index n p news a (omega arith)) (ρ .ahead .newer a (omega arith)))))
+                (λ x. new-ascend text ws ws₂ index n p news (ω .ascend) a b l (omega arith));
             rows = ω .rows;
             words = omega (arith, ω .words);
             most = omega arith;
-            from = omega (arith, s .0);
+            from = s .0;
           };
-          passed = λ later l k g. by-lt k i
-              (λ x. ap (λ (y : Row). compareEntries (entryOf text y) (entryOf text later)) (below k x) ∙ keys-order .trans (s .1 k x) l)
-              (λ x. let z : k ≡ i = omega arith in rw z (ap (λ (y : Row). compareEntries (entryOf text y) (entryOf text later)) here ∙ l));
-          grown = grew is refl;
+          same = refl;
+          ahead = λ later l. record {
+            passed = λ k g.
+                ap (λ (y : Row). compareEntries (entryOf text y) (entryOf text later)) (old k (omega arith) (omega (arith, s .0)))
+                ∙ keys-order .trans (s .1 k g) l;
+            newer = λ j g. by-eq j p
+                (λ x. rw x (ap (λ (y : Row). compareEntries (entryOf text y) (entryOf text later)) (there) ∙ l))
+                (λ x. newer-on ws₂ news later l j (omega arith));
+          };
+          taken = fresh refl refl s old (there);
         }
       where
-        old : (k : ℕ) → k < n → row ws₂ index k ≡ row ws index k
-        old k l = π .others k (omega arith) (omega arith) ∙ γ k (omega arith) l
+        news : Same (row ws index) (row ws₂ index) n (n + p)
+        news k a b = old k (omega arith) b
 
-        below : (k : ℕ) → k < i → row ws₃ index k ≡ row ws index k
-        below k l = β .below k (omega arith) l ∙ old k (omega (arith, s .0))
+        entries : entriesAt text ws₂ index n ≡ joined
+        entries = listed-cong (entryAt text ws₂ index) f n (λ k l. ap (entryOf text) (old k (omega arith) (omega arith)))
 
-        here : row ws₃ index i ≡ r
-        here = β .there i n (omega arith) (omega arith) (omega arith) ∙ π .there
+    pub added-grown : (ws′ : List ℕ) (next : Walk) → Whole text r → length ws′ ≡ length ws → Grown ws ws′ index limit walk r i next
+        → Stepped text ws ws′ index limit walk r mode next
+    added-grown ws′ next w len (grew e h σ old there) = rw e (added-new ws′ h w old there σ len)
+    added-grown ws′ next w len (stayed e h same) = rw (e, same) (left-out h)
 
-        up : (k m : ℕ) → i < k → k ≤ n → m + 1 ≡ k → row ws₃ index k ≡ row ws index m
-        up k m l o q = β .up k m (omega arith) (omega (arith, s .0)) (omega arith) ∙ old m (omega arith)
+-- ---- what `add_new` owes
 
-        rows-are : entriesAt text ws₃ index (n + 1) ≡ longer
-        rows-are =
-            ap (entriesAt text ws₃ index) (let z : n + 1 ≡ suc n = omega arith in z)
-            ∙ listed-insert (entryAt text ws₃ index) f n i e (s .0) (λ k l. ap (entryOf text) (below k l)) (ap (entryOf text) here)
-            (λ k l m. ap (entryOf text) (up (suc k) k (omega arith) (omega arith) (omega arith)))
-
-        is : added mode e joined ≡ accepted (entriesAt text ws₃ index (n + 1))
-        is = one-more ∙ ap accepted (sym rows-are)
+module _ {ws ws₂ : List ℕ} {index limit : ℕ} {walk : Walk} {r : Row} (i : ℕ) where
+  pub grown-row : (ws₁ : List ℕ) → walk .n + walk .new < limit → Same (row ws index) (row ws₁ index) 0 (walk .n + walk .new)
+      → Put (row ws₁ index) (row ws₂ index) (walk .n + walk .new + 1) (walk .n + walk .new) r → Store ws₂ index (walk .n + walk .new + 1)
+      → Grown ws ws₂ index limit walk r i (record { n = walk .n; new = walk .new + 1; from = i; full = walk .full })
+  grown-row ws₁ h γ π σ = grew refl h σ (λ k a b. π .others k (omega arith) (omega arith) ∙ γ k a b) (π .there)

@@ -43,7 +43,7 @@ whole-as e w = rw e w
 
 -- ---- which entries come before a key
 
-module _ {text ws : List ℕ} {index n : ℕ} (key : Row) (ρ : Ranked text ws index n) where
+module _ {text ws : List ℕ} {index used n : ℕ} (key : Row) (ρ : Ranked text ws index used n) where
   pub before-falls : Falling (Before text ws index key) n
   before-falls k j l h t =
       by-eq k j
@@ -70,7 +70,7 @@ module _ (text ws : List ℕ) (index : ℕ) (key : Row) where
 
 -- ---- the answers of the searches
 
-module _ {text ws : List ℕ} {index n : ℕ} (key : Row) (ρ : Ranked text ws index n) where
+module _ {text ws : List ℕ} {index used n : ℕ} (key : Row) (ρ : Ranked text ws index used n) where
   -- an entry that comes before the key is passed with all before it
   pub passed-up : (at : ℕ) → at < n → Before text ws index key at ≡ true → Passed text ws index key (at + 1)
   passed-up at h t k l = is-lt _ (before-falls key ρ k at (omega arith) h t)

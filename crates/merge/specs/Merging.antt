@@ -14,12 +14,12 @@ use Rattle.section.specs.Table.{Table}
 use Rattle.merge.specs.declared.Joined.{Joined}
 use Rattle.merge.specs.declared.Joined.the-variants.{Entries, Refused}
 
--- the joined table has n rows, and room for `limit`; the table read has m entries
+-- the joined table has n rows, and room for `limit` and for as many spare words twice; the table read has m entries
 pub record Tables (text ws : List ℕ) (base index limit n used m : ℕ) : Type 0 where
   pub into : Table text (take base ws) index n n
   pub other : Table text (drop base ws) index used m
   pub rows : limit * row-words ≤ index
-  pub words : index + limit ≤ base
+  pub words : index + limit + limit + limit ≤ base
   pub whole : base ≤ length ws
   pub most : n ≤ limit
 

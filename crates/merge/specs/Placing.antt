@@ -13,9 +13,10 @@ use Rattle.items.specs.declared.Found.{Found}
 use Rattle.items.specs.declared.Found.the-variants.{At, Insert}
 use Rattle.section.specs.Sections.{entryOf, entryAt, entriesAt, Whole}
 
--- the n rows are entries, in ascending order of their keys
-pub record Ranked (text ws : List ℕ) (index n : ℕ) : Type 0 where
-  pub store : Store ws index n
+-- the first n of the used rows are entries, in ascending order of their keys
+pub record Ranked (text ws : List ℕ) (index used n : ℕ) : Type 0 where
+  pub store : Store ws index used
+  pub room : n ≤ used
   pub whole : (k : ℕ) → k < n → Whole text (row ws index k)
   pub sorted : Sorted entryKey compareKeys (entriesAt text ws index n)
 

@@ -1,6 +1,9 @@
 // A text's report merged into the joined one (document 01, "Checked merge"): "key by key in order .. new entries are taken over", those of
 // a known key joined. "Then E is tested on what is joined so far." Both reports are tables in one lent slice of words: the joined one
 // before word `base`, the one that was read from there on.
+//
+// The walk leaves the joined entries where they stand: new ones are put behind them, and the place of each among them is noted in the spare
+// words behind the index. At the end the new ones are woven among the others in one pass.
 mod join;
 mod place;
 
@@ -10,8 +13,12 @@ use model::Fault;
 use model::Mode;
 use store::Row;
 ghost use mathlib.Core.Path.{_≡_};
+ghost use Prim.Native.Nat.{_+_, _≤_};
+ghost use lib.ListN.{length, take};
+ghost use Rattle.store.specs.Store.{Store};
+ghost use Rattle.weaving.specs.Woven.{Rising};
 ghost use Rattle.section.specs.Sections.{Whole};
-ghost use Rattle.merge.specs.Walking.{Ready, Adding, endedWalk};
+ghost use Rattle.merge.specs.Walking.{Room, Grown, Ready, Adding, Noting, spareWord, Settled, endedOf};
 ghost use Rattle.merge.specs.Merging.{Tables, Merged};
 
 // The number of entries that are now joined, or why there are none.
@@ -20,10 +27,11 @@ pub enum Joined {
     Refused(Fault),
 }
 
-// How many entries are joined, and before which place they all come before what is still to be merged; `full` when there was no row for
-// a new one.
+// How many entries were joined, how many are new, and before which place of the joined ones all come before what is still to be merged;
+// `full` when there was no row for a new one.
 struct Walk {
     n: usize,
+    new: usize,
     from: usize,
     full: bool,
 }
@@ -33,8 +41,34 @@ enum Added {
     Refused(Fault),
 }
 
-// One row is merged into the joined table. A new key takes a new row and is brought to its place; where there is no row for it, it is
-// left out.
+// The row's key is new, and goes to place i. It takes a new row, behind all others; where there is no row for it, it is left out.
+fn add_new(words: &mut [u64], index: usize, limit: usize, walk: Walk, row: Row, i: usize) -> Walk
+    requires { ⌜ Room (now words) index limit walk ⌝ }
+    ensures { λ next. ⌜ Grown (now (words .entry)) (now (words .exit)) index limit walk row i next ⌝ }
+{
+    let n = walk.n;
+    let new = walk.new;
+    let used = n + new;
+    if limit <= used {
+        return Walk {
+            n,
+            new,
+            from: i,
+            full: true,
+        };
+    }
+    let full = walk.full;
+    store::grow(words, index, used);
+    store::put(words, index, used + 1, used, row);
+    Walk {
+        n,
+        new: new + 1,
+        from: i,
+        full,
+    }
+}
+
+// One row is merged into the joined table.
 fn add_row(
     text: &[u8],
     words: &mut [u64],
@@ -48,16 +82,19 @@ fn add_row(
     ensures { λ r. ⌜ Adding (now (text .entry)) (now (words .entry)) (now (words .exit)) index limit walk row mode r ⌝ }
 {
     let n = walk.n;
+    let new = walk.new;
+    let used = n + new;
     let full = walk.full;
-    let found = place::find_entry(text, words, index, n, walk.from, row);
+    let found = place::find_entry(text, words, index, used, n, walk.from, row);
     match found {
         Found::At(i) => {
-            let old = store::get(words, index, n, i);
+            let old = store::get(words, index, used, i);
             match join::join_rows(text, old, row, mode) {
                 Joining::One(both) => {
-                    store::put(words, index, n, i, both);
+                    store::put(words, index, used, i, both);
                     return Added::Next(Walk {
                         n,
+                        new,
                         from: i + 1,
                         full,
                     });
@@ -68,33 +105,63 @@ fn add_row(
             }
         }
         Found::Insert(i) => {
-            if limit <= n {
-                return Added::Next(Walk {
-                    n,
-                    from: i,
-                    full: true,
-                });
+            return Added::Next(add_new(words, index, limit, walk, row, i));
+        }
+    }
+}
+
+// One row is merged, and the place of a new key among the joined ones is noted: the walk goes on there.
+fn step(
+    text: &[u8],
+    words: &mut [u64],
+    index: usize,
+    limit: usize,
+    walk: Walk,
+    row: Row,
+    mode: Mode,
+) -> Added
+    requires { ⌜ Ready (now text) (take (index + limit) (now words)) index limit walk row × Whole (now text) row ⌝ }
+    requires { ⌜ index + limit + limit ≤ length (now words) ⌝ }
+    ensures { λ r. ⌜ Adding (now (text .entry)) (take (index + limit) (now (words .entry))) (take (index + limit) (now (words .exit))) index limit walk row mode r ⌝ }
+    ensures { λ r. ⌜ Noting (spareWord (now (words .entry)) (index + limit)) (spareWord (now (words .exit)) (index + limit)) walk r ⌝ }
+{
+    let spare = index + limit;
+    let new = walk.new;
+    match add_row(text, &mut words[..spare], index, limit, walk, row, mode) {
+        Added::Refused(fault) => {
+            return Added::Refused(fault);
+        }
+        Added::Next(next) => {
+            if new < next.new {
+                words[spare + new] = next.from as u64;
             }
-            store::grow(words, index, n);
-            store::put(words, index, n + 1, n, row);
-            store::bring(words, index, n + 1, i, n);
-            return Added::Next(Walk {
-                n: n + 1,
-                from: i + 1,
-                full,
-            });
+            return Added::Next(next);
+        }
+    }
+}
+
+// The new rows are brought to their places. Nothing moves where all of them go behind the n.
+fn settle(words: &mut [u64], index: usize, spare: usize, n: usize, new: usize)
+    requires { ⌜ Store (now words) index (n + new) × Rising (spareWord (now words) spare) n new ⌝ }
+    requires { ⌜ (index + (n + new) ≤ spare) × (spare + new + new ≤ length (now words)) ⌝ }
+    ensures { λ _. ⌜ Settled (now (words .entry)) (now (words .exit)) index spare n new ⌝ }
+{
+    if 0 < new {
+        let first = words[spare] as usize;
+        if first < n {
+            weaving::weave(words, index, n + new, 0, n, new, spare);
         }
     }
 }
 
 // The entries are counted when the whole text is merged: "11 to 13 in walk order .., then 10".
-fn ended(walk: Walk) -> Joined
-    ensures { λ r. ⌜ r ≡ endedWalk walk ⌝ }
+fn ended(full: bool, n: usize) -> Joined
+    ensures { λ r. ⌜ r ≡ endedOf full n ⌝ }
 {
-    if walk.full {
+    if full {
         return Joined::Refused(Fault::TooManyEntries);
     }
-    Joined::Entries(walk.n)
+    Joined::Entries(n)
 }
 
 // Merges the m entries of the table that starts at word `base` into the n joined ones before it.
@@ -114,13 +181,14 @@ pub fn merge(
 {
     let mut walk = Walk {
         n,
+        new: 0,
         from: 0,
         full: false,
     };
     let mut k = 0;
     while k < m {
         let row = store::get(&words[base..], index, used, k);
-        match add_row(text, &mut words[..base], index, limit, walk, row, mode) {
+        match step(text, &mut words[..base], index, limit, walk, row, mode) {
             Added::Refused(fault) => {
                 return Joined::Refused(fault);
             }
@@ -130,5 +198,6 @@ pub fn merge(
             }
         }
     }
-    ended(walk)
+    settle(&mut words[..base], index, index + limit, walk.n, walk.new);
+    ended(walk.full, walk.n + walk.new)
 }

@@ -1,4 +1,4 @@
-// The place of a key among entries that stand in ascending order of their keys.
+// The place of a key among entries that stand in ascending order of their keys: the first n of the used rows.
 use items::Found;
 use order::Order;
 use store::Row;
@@ -30,15 +30,23 @@ struct Span {
 
 // Steps that double, from a place on before which all entries come before the key: two tables that are walked together have their keys
 // near each other.
-fn gallop(text: &[u8], words: &[u64], index: usize, n: usize, from: usize, key: Row) -> Span
-    requires { ⌜ Ranked (now text) (now words) index n × Whole (now text) key × (from ≤ n) × Passed (now text) (now words) index key from ⌝ }
+fn gallop(
+    text: &[u8],
+    words: &[u64],
+    index: usize,
+    used: usize,
+    n: usize,
+    from: usize,
+    key: Row,
+) -> Span
+    requires { ⌜ Ranked (now text) (now words) index used n × Whole (now text) key × (from ≤ n) × Passed (now text) (now words) index key from ⌝ }
     ensures { λ r. ⌜ Spanned (Before (now (text .entry)) (now (words .entry)) index key) n (r .lo) (r .hi) ⌝ }
 {
     let mut lo = from;
     let mut step = 0;
     while step < n - lo {
         let at = lo + step;
-        let other = store::get(words, index, n, at);
+        let other = store::get(words, index, used, at);
         if order::is_less(compare_entries(text, other, key)) {
             lo = at + 1;
             step = step + step + 1;
@@ -50,16 +58,24 @@ fn gallop(text: &[u8], words: &[u64], index: usize, n: usize, from: usize, key: 
 }
 
 // How many of the n entries come before the key, by halving.
-fn bound_entry(text: &[u8], words: &[u64], index: usize, n: usize, from: usize, key: Row) -> usize
-    requires { ⌜ Ranked (now text) (now words) index n × Whole (now text) key × (from ≤ n) × Passed (now text) (now words) index key from ⌝ }
+fn bound_entry(
+    text: &[u8],
+    words: &[u64],
+    index: usize,
+    used: usize,
+    n: usize,
+    from: usize,
+    key: Row,
+) -> usize
+    requires { ⌜ Ranked (now text) (now words) index used n × Whole (now text) key × (from ≤ n) × Passed (now text) (now words) index key from ⌝ }
     ensures { λ r. ⌜ Cut (Before (now (text .entry)) (now (words .entry)) index key) n r ⌝ }
 {
-    let span = gallop(text, words, index, n, from, key);
+    let span = gallop(text, words, index, used, n, from, key);
     let mut lo = span.lo;
     let mut hi = span.hi;
     while lo < hi {
         let mid = lo + (hi - lo) / 2;
-        let other = store::get(words, index, n, mid);
+        let other = store::get(words, index, used, mid);
         if order::is_less(compare_entries(text, other, key)) {
             lo = mid + 1;
         } else {
@@ -70,15 +86,23 @@ fn bound_entry(text: &[u8], words: &[u64], index: usize, n: usize, from: usize, 
 }
 
 // The key's place among the n entries, those before place `from` coming before it.
-fn find_later(text: &[u8], words: &[u64], index: usize, n: usize, from: usize, key: Row) -> Found
-    requires { ⌜ Ranked (now text) (now words) index n × Whole (now text) key × (from ≤ n) × Passed (now text) (now words) index key from ⌝ }
+fn find_later(
+    text: &[u8],
+    words: &[u64],
+    index: usize,
+    used: usize,
+    n: usize,
+    from: usize,
+    key: Row,
+) -> Found
+    requires { ⌜ Ranked (now text) (now words) index used n × Whole (now text) key × (from ≤ n) × Passed (now text) (now words) index key from ⌝ }
     ensures { λ r. ⌜ Seated (now (text .entry)) (now (words .entry)) index n key r ⌝ }
 {
-    let i = bound_entry(text, words, index, n, from, key);
+    let i = bound_entry(text, words, index, used, n, from, key);
     if n <= i {
         return Found::Insert(i);
     }
-    let here = store::get(words, index, n, i);
+    let here = store::get(words, index, used, i);
     if order::is_equal(compare_entries(text, key, here)) {
         return Found::At(i);
     }
@@ -90,17 +114,18 @@ pub fn find_entry(
     text: &[u8],
     words: &[u64],
     index: usize,
+    used: usize,
     n: usize,
     from: usize,
     key: Row,
 ) -> Found
-    requires { ⌜ Ranked (now text) (now words) index n × Whole (now text) key × (from ≤ n) × Passed (now text) (now words) index key from ⌝ }
+    requires { ⌜ Ranked (now text) (now words) index used n × Whole (now text) key × (from ≤ n) × Passed (now text) (now words) index key from ⌝ }
     ensures { λ r. ⌜ Seated (now (text .entry)) (now (words .entry)) index n key r ⌝ }
 {
     if n <= from {
         return Found::Insert(from);
     }
-    let first = store::get(words, index, n, from);
+    let first = store::get(words, index, used, from);
     let order = compare_entries(text, key, first);
     if order::is_less(order) {
         return Found::Insert(from);
@@ -108,5 +133,5 @@ pub fn find_entry(
     if order::is_equal(order) {
         return Found::At(from);
     }
-    find_later(text, words, index, n, from + 1, key)
+    find_later(text, words, index, used, n, from + 1, key)
 }

@@ -32,6 +32,9 @@ use Rattle.text.specs.declared.Number.{Number}
 use Rattle.text.specs.declared.Number.the-variants.{Last, More, Fault as Bad}
 use Rattle.text.specs.Scan.{followed, numberIn, nextOf, valueOf, NumberRead}
 use Rattle.text.proofs.Number.{the-type}
+use Rattle.digits.specs.declared.Short.{Short}
+use Rattle.digits.specs.declared.Short.the-variants as S
+use Rattle.digits.specs.Word.{ShortRead}
 use Rattle.record.specs.Answers.{Answers, refusal}
 use Rattle.record.specs.Fields.{numberRefusal, inLine, NumberField, partFrom, checksumFrom}
 
@@ -198,6 +201,25 @@ module _ {max : ℕ} (start : ℕ) {rest : Bytes} {got : Number} (seen : NumberR
       go (Last v) e h = record { is = ap (inLine start) (sym e ∙ seen .is); long = omega arith; most = rw e at (seen .most) }
       go (Bad f) e h = record { is = ap (inLine start) (sym e ∙ seen .is); long = omega arith; most = omega arith }
       go (More v n) e h = absurd (⊎-elim (λ z. omega arith) (λ z. omega arith) h)
+
+-- ---- a short number
+
+pub short-part : (line : Bytes) (at : ℕ) (short : Short) → ShortRead (drop at line) short → ShortRead (part line at) short
+short-part line at short h = rw (to-end line at) h
+
+module _ {rest : Bytes} (start : ℕ) (short : Short) (told : ShortRead rest short) where
+  pub short-last : (max v : ℕ) → 99999999 ≤ max → short ≡ S.Last v → NumberField max start rest (Last v)
+  short-last max v k e =
+      let seen : NumberRead max rest (Last v) = rw e at (told .is max k) in
+      record { is = ap (inLine start) (seen .is); long = omega arith; most = seen .most }
+
+  pub short-more : (max v n : ℕ) → 99999999 ≤ max → short ≡ S.More v n → NumberField max start rest (More v (start + n))
+  short-more max v n k e = number-there start (rw e at (told .is max k)) v n refl
+
+  pub short-fits : (v n : ℕ) → short ≡ S.More v n → start + length rest < 2 ^ 64 → Fits w64 (start + n)
+  short-fits v n e h =
+      let seen : NumberRead 99999999 rest (More v n) = rw e at (told .is 99999999 (omega arith)) in
+      number-fits start seen v n refl h
 
 -- the part from a position on starts and ends in the line
 pub part-fits : (line : Bytes) (at : ℕ) → at ≤ length line → length line * 1 < 2 ^ 63 → at + length (part line at) < 2 ^ 64

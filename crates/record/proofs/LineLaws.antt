@@ -33,6 +33,10 @@ use Rattle.model.specs.Parts.{partOf, takenIn, checksumIn, recordIn}
 use Rattle.text.specs.declared.Number.{Number}
 use Rattle.text.specs.declared.Number.the-variants.{Last, More, Fault as Bad}
 use Rattle.text.specs.Scan.{numberIn, NumberRead}
+use Rattle.model.specs.Number.{readNumber, readDigits}
+use Rattle.digits.specs.declared.Short.{Short}
+use Rattle.digits.specs.declared.Short.the-variants as S
+use Rattle.digits.specs.Word.{ShortRead}
 use Rattle.model.proofs.KeyOrder.{bytes-same}
 use Rattle.text.proofs.Number.{the-type}
 use Rattle.text.proofs.ByteLaws.{same-cons}
@@ -252,30 +256,51 @@ module _ (l b c : ℕ) (rest : Bytes) where
           (rw (dash-none body (45 ∷ 44 ∷ xs) here refl) (past-last body 5 (branchData l b c none) xs (fifth body (45 ∷ 44 ∷ xs) here)))
 
   -- a number
-  module _ (d : Bool) (d-is : d ≡ sameBytes rest (ascii "-")) (no-d : d ≡ false) (m : Bool) (m-is : m ≡ sameBytes (take 2 rest) (ascii "-,")) (no-m : m ≡ false) where
+  module _ (plain : sameBytes (before comma rest) (ascii "-") ≡ false) (got : Number) (seen : NumberRead u64-max rest got) where
     number : (body : Bytes) → fromField 4 body ≡ some rest → takenField u64-max 4 body ≡ (numberField u64-max 4 body >>= λ taken. accepted (some taken))
-    number body here = number-some body rest here (no-dash rest (sym d-is ∙ no-d) (sym m-is ∙ no-m))
+    number body here = number-some body rest here plain
 
-    module _ (got : Number) (seen : NumberRead u64-max rest got) where
-      seen-whole : NumberField u64-max 0 (part rest 0) got
-      seen-whole = rw (to-end rest 0) (record { is = seen .is ∙ sym (from-zero (numberIn u64-max rest)); long = omega (arith, seen .long); most = seen .most })
+    seen-whole : NumberField u64-max 0 (part rest 0) got
+    seen-whole = rw (to-end rest 0) (record { is = seen .is ∙ sym (from-zero (numberIn u64-max rest)); long = omega (arith, seen .long); most = seen .most })
 
-      pub taken-last : (v : ℕ) → got ≡ Last v → TakenRead l b c rest (Read (Lent.BranchData l b c (Tk.Given v)))
-      unfolding recordIn takenIn
-      taken-last v e = record { is = λ body here. go body here }
-        where
-          go : (body : Bytes) → fromField 4 body ≡ some rest → Ends body (Read (Lent.BranchData l b c (Tk.Given v)))
-          go body here =
-              rw (number body here, last-value (whole body rest here) seen-whole v e, at-last body 5 (branchData l b c (some v)) (no-field (whole body rest here) seen-whole v e))
-              (read (Lent.BranchData l b c (Tk.Given v)) (branchData l b c (some v)) (λ tail. refl))
+    last-there : (v : ℕ) → got ≡ Last v → TakenRead l b c rest (Read (Lent.BranchData l b c (Tk.Given v)))
+    unfolding recordIn takenIn
+    last-there v e = record { is = λ body here. go body here }
+      where
+        go : (body : Bytes) → fromField 4 body ≡ some rest → Ends body (Read (Lent.BranchData l b c (Tk.Given v)))
+        go body here =
+            rw (number body here, last-value (whole body rest here) seen-whole v e, at-last body 5 (branchData l b c (some v)) (no-field (whole body rest here) seen-whole v e))
+            (read (Lent.BranchData l b c (Tk.Given v)) (branchData l b c (some v)) (λ tail. refl))
 
-      pub taken-up : (r : LineAnswer) → NotLast got → r ≡ numberRefusal 4 got → TakenRead l b c rest r
-      taken-up r other q = record { is = λ body here. go body here }
-        where
-          go : (body : Bytes) → fromField 4 body ≡ some rest → Ends body r
-          go body here =
-              rw (number body here, bind-assoc (numberField u64-max 4 body) (λ t. accepted (some t)) (λ taken. lastBefore 5 body (branchData l b c taken)))
-              (last-up (whole body rest here) seen-whole (λ n. branchData l b c (some n)) r other q)
+    up-there : (r : LineAnswer) → NotLast got → r ≡ numberRefusal 4 got → TakenRead l b c rest r
+    up-there r other q = record { is = λ body here. go body here }
+      where
+        go : (body : Bytes) → fromField 4 body ≡ some rest → Ends body r
+        go body here =
+            rw (number body here, bind-assoc (numberField u64-max 4 body) (λ t. accepted (some t)) (λ taken. lastBefore 5 body (branchData l b c taken)))
+            (last-up (whole body rest here) seen-whole (λ n. branchData l b c (some n)) r other q)
+
+  -- a short number is not "-"
+  pub taken-short : (short : Short) (v : ℕ) → ShortRead rest short → short ≡ S.Last v → TakenRead l b c rest (Read (Lent.BranchData l b c (Tk.Given v)))
+  unfolding numberIn readNumber readDigits
+  taken-short short v h e = last-there (go (sameBytes (before comma rest) (ascii "-")) refl) (Last v) seen v refl
+    where
+      seen : NumberRead u64-max rest (Last v)
+      seen = rw e at (h .is u64-max (omega arith))
+
+      go : (d : Bool) → sameBytes (before comma rest) (ascii "-") ≡ d → d ≡ false
+      go false q = refl
+      go true q = impossible (cc (rw (bytes-same .same-eq (before comma rest) (ascii "-") q) at (seen .is)))
+
+  module _ (d : Bool) (d-is : d ≡ sameBytes rest (ascii "-")) (no-d : d ≡ false) (m : Bool) (m-is : m ≡ sameBytes (take 2 rest) (ascii "-,")) (no-m : m ≡ false) (got : Number) (seen : NumberRead u64-max rest got) where
+    plain : sameBytes (before comma rest) (ascii "-") ≡ false
+    plain = no-dash rest (sym d-is ∙ no-d) (sym m-is ∙ no-m)
+
+    pub taken-last : (v : ℕ) → got ≡ Last v → TakenRead l b c rest (Read (Lent.BranchData l b c (Tk.Given v)))
+    taken-last v e = last-there plain got seen v e
+
+    pub taken-up : (r : LineAnswer) → NotLast got → r ≡ numberRefusal 4 got → TakenRead l b c rest r
+    taken-up r other q = up-there plain got seen r other q
 
 -- ---- whatever follows the bytes that were read
 

@@ -2,7 +2,9 @@
 ghost use mathlib.Core.Path.{_≡_};
 ghost use Prim.Native.Nat.{_+_, _^_, _≤_, _<_};
 ghost use lib.ListN.{length};
+ghost use Rattle.digits.specs.Word.{ShortRead};
 ghost use Rattle.record.specs.Fields.{refusedAt, numberRefusal, NumberField, partFrom, checksumFrom};
+use digits::Short;
 use model::Checksum;
 use model::Fault;
 use model::LineAnswer;
@@ -35,8 +37,8 @@ pub(crate) fn number_refusal(got: Number, field: u32) -> LineAnswer
     }
 }
 
-// A number up to max. The part rest starts at a position of the line, and so does what follows the number's comma.
-pub(crate) fn number_field(start: usize, rest: &[u8], max: u64) -> Number
+// A number up to max that is not short: read digit by digit.
+fn long_field(start: usize, rest: &[u8], max: u64) -> Number
     requires { ⌜ start + length (now rest) < 2 ^ 64 ⌝ }
     ensures { λ r. ⌜ NumberField max start (now (rest .entry)) r ⌝ }
 {
@@ -46,6 +48,24 @@ pub(crate) fn number_field(start: usize, rest: &[u8], max: u64) -> Number
     };
     let next = start + next;
     Number::More { value, next }
+}
+
+// A number up to max; short tells it if it is short. The part rest starts at a position of the line, and so does what follows the
+// number's comma. The caller asks for short, since the compiler inlines two functions of this size and not one of twice the size.
+pub(crate) fn number_field(start: usize, rest: &[u8], short: Short, max: u64) -> Number
+    requires { ⌜ start + length (now rest) < 2 ^ 64 ⌝ }
+    requires { ⌜ ShortRead (now rest) short ⌝ }
+    requires { ⌜ 99999999 ≤ max ⌝ }
+    ensures { λ r. ⌜ NumberField max start (now (rest .entry)) r ⌝ }
+{
+    match short {
+        Short::Last(value) => Number::Last(value),
+        Short::More { value, next } => {
+            let next = start + next;
+            Number::More { value, next }
+        }
+        Short::Unknown => long_field(start, rest, max),
+    }
 }
 
 // A text, which is all that is left, commas included.

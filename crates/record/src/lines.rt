@@ -5,6 +5,7 @@ ghost use Prim.Native.Nat.{_≤_};
 ghost use lib.ListN.{length, drop};
 ghost use Rattle.model.specs.Line.{readBody, readOne};
 ghost use Rattle.model.specs.declared.Kind.the-variants as Kind;
+ghost use Rattle.digits.specs.Word.{ShortRead};
 ghost use Rattle.record.specs.Answers.{Answers};
 ghost use Rattle.record.specs.Lines.{TakenRead, countLent, countMade, CountOf};
 use super::fields::checksum_field;
@@ -12,6 +13,7 @@ use super::fields::number_field;
 use super::fields::number_refusal;
 use super::fields::refused;
 use super::fields::text_field;
+use digits::Short;
 use model::Checksum;
 use model::Fault;
 use model::LineAnswer;
@@ -43,7 +45,8 @@ pub(crate) fn read_function_name(line: &[u8], at: usize) -> LineAnswer
     requires { ⌜ at ≤ length (now line) ⌝ }
     ensures { λ r. ⌜ Answers (now (line .entry)) r (readBody Kind.FunctionName (drop at (now (line .entry)))) ⌝ }
 {
-    let first = number_field(at, &line[at..], MAX_U32);
+    let short = digits::short_number(line, at);
+    let first = number_field(at, &line[at..], short, MAX_U32);
     let Number::More { value, next } = first else {
         return number_refusal(first, 1);
     };
@@ -57,7 +60,8 @@ pub(crate) fn read_function_data(line: &[u8], at: usize) -> LineAnswer
     requires { ⌜ at ≤ length (now line) ⌝ }
     ensures { λ r. ⌜ Answers (now (line .entry)) r (readBody Kind.FunctionData (drop at (now (line .entry)))) ⌝ }
 {
-    let first = number_field(at, &line[at..], MAX_U64);
+    let short = digits::short_number(line, at);
+    let first = number_field(at, &line[at..], short, MAX_U64);
     let Number::More { value: count, next } = first else {
         return number_refusal(first, 1);
     };
@@ -65,10 +69,20 @@ pub(crate) fn read_function_data(line: &[u8], at: usize) -> LineAnswer
     LineAnswer::Read(Record::FunctionData { count, name })
 }
 
-// The end of a BRDA body: a taken count, or "-" for none.
-fn read_taken(line: u32, block: u32, branch: u32, rest: &[u8]) -> LineAnswer
+// The end of a BRDA body: a taken count, which short tells if it is short, or "-" for none.
+fn read_taken(line: u32, block: u32, branch: u32, short: Short, rest: &[u8]) -> LineAnswer
+    requires { ⌜ ShortRead (now rest) short ⌝ }
     ensures { λ r. ⌜ TakenRead line block branch (now (rest .entry)) r ⌝ }
 {
+    if let Short::Last(count) = short {
+        let taken = Taken::Given(count);
+        return LineAnswer::Read(Record::BranchData {
+            line,
+            block,
+            branch,
+            taken,
+        });
+    }
     if text::same(rest, b"-") {
         let taken = Taken::Absent;
         return LineAnswer::Read(Record::BranchData {
@@ -99,7 +113,8 @@ pub(crate) fn read_branch_data(line: &[u8], at: usize) -> LineAnswer
     requires { ⌜ at ≤ length (now line) ⌝ }
     ensures { λ r. ⌜ Answers (now (line .entry)) r (readBody Kind.BranchData (drop at (now (line .entry)))) ⌝ }
 {
-    let first = number_field(at, &line[at..], MAX_U32);
+    let short = digits::short_number(line, at);
+    let first = number_field(at, &line[at..], short, MAX_U32);
     let Number::More {
         value: number,
         next,
@@ -107,11 +122,13 @@ pub(crate) fn read_branch_data(line: &[u8], at: usize) -> LineAnswer
     else {
         return number_refusal(first, 1);
     };
-    let second = number_field(next, &line[next..], MAX_U32);
+    let short = digits::digit_number(line, next);
+    let second = number_field(next, &line[next..], short, MAX_U32);
     let Number::More { value: block, next } = second else {
         return number_refusal(second, 2);
     };
-    let third = number_field(next, &line[next..], MAX_U32);
+    let short = digits::digit_number(line, next);
+    let third = number_field(next, &line[next..], short, MAX_U32);
     let Number::More {
         value: branch,
         next,
@@ -119,7 +136,14 @@ pub(crate) fn read_branch_data(line: &[u8], at: usize) -> LineAnswer
     else {
         return number_refusal(third, 3);
     };
-    read_taken(number as u32, block as u32, branch as u32, &line[next..])
+    let short = digits::short_number(line, next);
+    read_taken(
+        number as u32,
+        block as u32,
+        branch as u32,
+        short,
+        &line[next..],
+    )
 }
 
 // DA: a line number, a count and perhaps a checksum.
@@ -127,12 +151,14 @@ pub(crate) fn read_line_data(line: &[u8], at: usize) -> LineAnswer
     requires { ⌜ at ≤ length (now line) ⌝ }
     ensures { λ r. ⌜ Answers (now (line .entry)) r (readBody Kind.LineData (drop at (now (line .entry)))) ⌝ }
 {
-    let first = number_field(at, &line[at..], MAX_U32);
+    let short = digits::short_number(line, at);
+    let first = number_field(at, &line[at..], short, MAX_U32);
     let Number::More { value, next } = first else {
         return number_refusal(first, 1);
     };
     let number = value as u32;
-    let second = number_field(next, &line[next..], MAX_U64);
+    let short = digits::short_number(line, next);
+    let second = number_field(next, &line[next..], short, MAX_U64);
     match second {
         Number::Last(count) => LineAnswer::Read(Record::LineData {
             line: number,
@@ -170,7 +196,8 @@ pub(crate) fn read_count(kind: Count, line: &[u8], at: usize) -> LineAnswer
     requires { ⌜ at ≤ length (now line) ⌝ }
     ensures { λ r. ⌜ Answers (now (line .entry)) r (readOne (countMade kind) (drop at (now (line .entry)))) ⌝ }
 {
-    let first = number_field(at, &line[at..], MAX_U32);
+    let short = digits::short_number(line, at);
+    let first = number_field(at, &line[at..], short, MAX_U32);
     let Number::Last(value) = first else {
         return number_refusal(first, 1);
     };

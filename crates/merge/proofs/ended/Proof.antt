@@ -1,5 +1,5 @@
 -- `merge::ended` meets its contract. Assumes nothing.
-use Rattle.merge.proofs.WalkLaws.{ended-full, ended-fits}
+use Rattle.merge.proofs.EndLaws.{ended-full, ended-fits}
 use borrow.Author.Needs.{needs}
 use Rattle.merge.proofs.ended.Statement.{statement}
 use Rattle.merge.proofs.ended.Tie as tie

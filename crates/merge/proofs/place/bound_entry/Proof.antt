@@ -9,10 +9,10 @@ use Rattle.merge.proofs.place.bound_entry.Statement.{statement}
 use Rattle.merge.proofs.place.bound_entry.Tie as tie
 
 abbrev Inv-loop : tie.InvT-loop
-Inv-loop text words index n from key lo₀ hi₀ lo hi = Halved (Before text words index key) n lo hi
+Inv-loop text words index used n from key lo₀ hi₀ lo hi = Halved (Before text words index key) n lo hi
 
 abbrev μ-loop : tie.MeasureT-loop
-μ-loop text words index n from key lo₀ hi₀ lo hi = hi - lo
+μ-loop text words index used n from key lo₀ hi₀ lo hi = hi - lo
 
 abbrev start : tie.At-loop Inv-loop μ-loop → tie.Start Inv-loop μ-loop
 start l = l .before .before .before .before

@@ -9,10 +9,10 @@ use Rattle.merge.proofs.place.gallop.Statement.{statement}
 use Rattle.merge.proofs.place.gallop.Tie as tie
 
 abbrev Inv-loop : tie.InvT-loop
-Inv-loop text words index n from key lo₀ step₀ lo step = (lo ≤ n) × Passed text words index key lo
+Inv-loop text words index used n from key lo₀ step₀ lo step = (lo ≤ n) × Passed text words index key lo
 
 abbrev μ-loop : tie.MeasureT-loop
-μ-loop text words index n from key lo₀ step₀ lo step = n - lo
+μ-loop text words index used n from key lo₀ step₀ lo step = n - lo
 
 abbrev start : tie.At-loop Inv-loop μ-loop → tie.Start Inv-loop μ-loop
 start l = l .before .before .before

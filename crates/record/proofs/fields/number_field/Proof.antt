@@ -1,5 +1,5 @@
 use borrow.Author.Needs.{needs}
-use Rattle.record.proofs.FieldLaws.{number-there, number-fits, number-other}
+use Rattle.record.proofs.FieldLaws.{short-last, short-more, short-fits}
 use Rattle.record.proofs.fields.number_field.Statement.{statement}
 use Rattle.record.proofs.fields.number_field.Tie as tie
 
@@ -7,8 +7,11 @@ pub number-field-spec : {M : Type 1} → statement M
 number-field-spec =
     tie.close
     (tie.spec
-    (λ c κs. search needs)
     (λ c. search needs)
-    (λ c. search (number-other, needs))
-    (λ c. search (number-fits, needs))
-    (λ c. search (number-there, needs)))
+    (λ c. search needs)
+    (λ c. search (short-fits, needs))
+    (λ c. search needs)
+    (λ c κs. search needs)
+    (λ c. search (short-last, needs))
+    (λ c. search (short-more, needs))
+    (λ c. search needs))

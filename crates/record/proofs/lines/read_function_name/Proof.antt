@@ -4,7 +4,7 @@ use mathlib.Core.Path.{ap}
 use native.Mathlib.Omega.{arith}
 use Rattle.text.specs.Scan.{nextOf}
 use lib.ListN.{length-take, length-drop}
-use Rattle.record.proofs.FieldLaws.{first-field}
+use Rattle.record.proofs.FieldLaws.{first-field, short-part}
 use Rattle.record.proofs.LineLaws.{line-laws, more-fits, more-up, asks-text}
 use Rattle.record.proofs.lines.read_function_name.Statement.{statement}
 use Rattle.record.proofs.lines.read_function_name.Tie as tie
@@ -14,10 +14,11 @@ unfolding readBody
 read-function-name-spec =
     tie.close
     (tie.spec
+    (λ c κs. search needs)
     (λ c. search needs)
     (λ c. search needs)
     (λ c. search needs)
-    (λ c κs. simp (length-take, length-drop) (omega arith))
+    (λ c κs. (simp (length-take, length-drop) (omega arith), (search (short-part, needs), omega arith)))
     (λ c. search needs)
     (λ c κs. search needs)
     (λ c. more-up (search (first-field, needs)) (c .before .before .number-field .ensures) _ _ (search needs) (search needs) (asks-text _ _ _))

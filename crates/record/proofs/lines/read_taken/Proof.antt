@@ -1,5 +1,5 @@
 use borrow.Author.Needs.{needs}
-use Rattle.record.proofs.LineLaws.{taken-dash, taken-more, taken-up, taken-last}
+use Rattle.record.proofs.LineLaws.{taken-short, taken-dash, taken-more, taken-up, taken-last}
 use Rattle.record.proofs.lines.read_taken.Statement.{statement}
 use Rattle.record.proofs.lines.read_taken.Tie as tie
 
@@ -7,6 +7,8 @@ pub read-taken-spec : {M : Type 1} → statement M
 read-taken-spec =
     tie.close
     (tie.spec
+    (λ c. search needs)
+    (λ c. search (taken-short, needs))
     (λ c. search needs)
     (λ c κs. search needs)
     (λ c. search (taken-dash, needs))

@@ -1,0 +1,4 @@
+pub mod WovenLaws
+pub mod WeavingLaws
+pub mod SeatLaws
+pub mod OrderLaws
