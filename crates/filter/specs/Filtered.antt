@@ -14,7 +14,7 @@ use Rattle.model.specs.Printing.{sections, comparePrinted, printRecords, printS
 use Rattle.model.specs.Filter.{isHeld, hasStart, heldFunctions, filterSection}
 use Rattle.items.specs.Items.{branch-kind, line-kind}
 use Rattle.items.specs.Open.{itemsAt}
-use Rattle.section.specs.Sections.{Named}
+use Rattle.closing.specs.Sections.{Named}
 use Rattle.sorting.specs.Sorting.{itemsBy}
 use Rattle.emit.specs.Emit.{Printable}
 use Rattle.printing.specs.declared.Runs.{Runs}

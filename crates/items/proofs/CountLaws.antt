@@ -13,7 +13,7 @@ use Rattle.model.specs.Answer.{accepted, refuse, _>>=_}
 use Rattle.model.specs.Report.{Item, sectionItem, functionItem, branchItem, lineItem, countOf, sum}
 use Rattle.model.specs.Reading.{addCalls}
 use Rattle.items.specs.Items.{part, kindOf, function-kind, byKind, ifGiven, itemOf, Inner}
-use Rattle.items.specs.Entering.{Adds, combineOf}
+use Rattle.items.specs.Combining.{Adds, combineOf}
 
 abbrev pub withCount : Row → ℕ → Row
 withCount r n = record {

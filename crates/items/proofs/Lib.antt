@@ -1,5 +1,4 @@
 pub mod CompareLaws
 pub mod SearchLaws
 pub mod CountLaws
-pub mod EnterLaws
 pub mod RowLaws

@@ -93,7 +93,7 @@ module _ (f : ℕ → Item) (e : Item) where
 -- ---- the place
 
 module _ (e : Item) where
-  place-insert : (f : ℕ → Item) (n i : ℕ) → i ≤ n → ((k : ℕ) → k < i → compareItems e (f k) ≡ Ordering·gt) → (i < n → compareItems e (f i) ≡ Ordering·lt)
+  pub place-insert : (f : ℕ → Item) (n i : ℕ) → i ≤ n → ((k : ℕ) → k < i → compareItems e (f k) ≡ Ordering·gt) → (i < n → compareItems e (f i) ≡ Ordering·lt)
       → place e (listed f n) ≡ Insert i
   unfolding listed place
   place-insert f zero zero h below here = refl
@@ -102,7 +102,7 @@ module _ (e : Item) where
   place-insert f (suc n) (suc i) h below here =
       rw (below 0 (omega arith)) (ap next (place-insert (λ k. f (suc k)) n i (omega arith) (λ k l. below (suc k) (omega arith)) (λ l. here (omega arith))))
 
-  place-at : (f : ℕ → Item) (n i : ℕ) → i < n → ((k : ℕ) → k < i → compareItems e (f k) ≡ Ordering·gt) → compareItems e (f i) ≡ Ordering·eq
+  pub place-at : (f : ℕ → Item) (n i : ℕ) → i < n → ((k : ℕ) → k < i → compareItems e (f k) ≡ Ordering·gt) → compareItems e (f i) ≡ Ordering·eq
       → place e (listed f n) ≡ At i
   unfolding listed place
   place-at f zero i h below here = absurd (omega arith)

@@ -1,3 +1,3 @@
 pub mod Items
 pub mod Open
-pub mod Entering
+pub mod Combining

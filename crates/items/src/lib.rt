@@ -1,7 +1,6 @@
 // The items of the open section (document 01, "Sections"): rows in the order of an index, ascending by key. A row's names are parts of
 // the lent text, so a row means an item only together with the text.
 use model::Checksum;
-use model::Fault;
 use model::Part;
 use model::Taken;
 use order::Order;
@@ -19,7 +18,7 @@ ghost use Rattle.order.specs.Orders.{orderOf};
 ghost use Rattle.store.specs.Places.{Cut};
 ghost use Rattle.items.specs.Items.{part, itemOf, Good, Inner, partIn, PartInside, checksumPart, ChecksumInside, itemRow, Makes};
 ghost use Rattle.items.specs.Open.{itemFrom, Open, Placed};
-ghost use Rattle.items.specs.Entering.{Adds, combineOf, seenOne, InnerOne, Entering};
+ghost use Rattle.items.specs.Combining.{Adds, combineOf, seenOne, InnerOne};
 
 // The kinds of a row; a section's own row is the first. The tag is twice the kind, and one more where the start line, the taken count or
 // the checksum is given.
@@ -231,50 +230,4 @@ pub fn combine(old: Row, row: Row, adds: bool) -> Combined
     let mut both = old;
     both.count = a + b;
     Combined::One(both)
-}
-
-// The number of items in the open section, or why there is none.
-pub enum Entered {
-    Items(usize),
-    Refused(Fault),
-}
-
-// A row entered among the n items from place `at` on, the last in the index's order but for free rows. A new key takes the first free
-// row and is brought forward to its place.
-pub fn enter(
-    text: &[u8],
-    words: &mut [u64],
-    index: usize,
-    used: usize,
-    at: usize,
-    n: usize,
-    row: Row,
-    adds: bool,
-) -> Entered
-    requires { ⌜ Open (now text) (now words) index used at n × Inner (now text) row × Adds adds row ⌝ }
-    ensures { λ r. ⌜ Entering (now (text .entry)) (now (words .entry)) (now (words .exit)) index used at n row adds r ⌝ }
-{
-    let found = find_item(text, words, index, used, at, n, row);
-    match found {
-        Found::At(i) => {
-            let old = store::get(words, index, used, at + i);
-            match combine(old, row, adds) {
-                Combined::One(both) => {
-                    store::put(words, index, used, at + i, both);
-                    return Entered::Items(n);
-                }
-                Combined::Overflow => {
-                    return Entered::Refused(Fault::CallOverflow);
-                }
-            }
-        }
-        Found::Insert(i) => {
-            if used <= at + n {
-                return Entered::Refused(Fault::TooManyEntries);
-            }
-            store::put(words, index, used, at + n, row);
-            store::bring(words, index, used, at + i, at + n);
-            return Entered::Items(n + 1);
-        }
-    }
 }

@@ -14,7 +14,7 @@ use Rattle.model.specs.Report.{Report}
 use Rattle.model.specs.Reading.{readText}
 use Rattle.model.specs.Bundle.{textAt}
 use Rattle.model.proofs.Read.{readText-valid}
-use Rattle.section.specs.Sections.{entriesAt}
+use Rattle.closing.specs.Sections.{entriesAt}
 use Rattle.section.specs.Table.{Table}
 use Rattle.section.specs.Reading.{Room}
 use Rattle.reader.specs.declared.TextAnswer.{TextAnswer}

@@ -24,7 +24,7 @@ use Rattle.model.specs.Output.{written, outputAfter}
 use Rattle.model.specs.Calls.{writeAnswer}
 use Rattle.model.specs.Bundle.{wellFormed, texts}
 use Rattle.model.specs.Gather.{entryLimit, readAndPrint, gatherTexts, gather}
-use Rattle.section.specs.Sections.{entriesAt}
+use Rattle.closing.specs.Sections.{entriesAt}
 use Rattle.section.specs.Table.{Table}
 use Rattle.section.specs.Reading.{Room}
 use Rattle.reader.specs.declared.TextAnswer.{TextAnswer}

@@ -21,7 +21,7 @@ use Rattle.model.specs.Limits.{most-texts}
 use Rattle.model.specs.Bundle.{textCount, textAt, texts, wellFormed}
 use Rattle.model.specs.Gather.{gatherText, gatherTexts}
 use Rattle.bundle.proofs.BundleLaws.{well-few}
-use Rattle.section.specs.Sections.{entriesAt}
+use Rattle.closing.specs.Sections.{entriesAt}
 use Rattle.section.specs.Table.{Table}
 use Rattle.reader.specs.declared.TextAnswer.{TextAnswer}
 use Rattle.reader.specs.declared.TextAnswer.the-variants as T

@@ -16,7 +16,7 @@ use Rattle.model.specs.Bytes.{Bytes}
 use Rattle.model.specs.Report.{Report, Item, sectionItem, functionItem, branchItem, lineItem}
 use Rattle.model.specs.Valid.{Valid}
 use Rattle.items.specs.Items.{part, kindOf, byKind, ifGiven, function-kind, line-kind, itemOf, Good}
-use Rattle.section.specs.Sections.{entryOf, entryAt, entriesAt, Named, Whole}
+use Rattle.closing.specs.Sections.{entryOf, entryAt, entriesAt, Named, Whole}
 use Rattle.section.specs.Table.{Table}
 use Rattle.model.proofs.Read.{empty-valid}
 use Rattle.store.proofs.WordLaws.{row-cong}

@@ -11,7 +11,7 @@ use Rattle.model.specs.Tags.{defaultTag}
 use Rattle.model.specs.Report.{Report}
 use Rattle.model.specs.Reading.{readText}
 use Rattle.model.specs.Bundle.{textAt}
-use Rattle.section.specs.Sections.{entriesAt}
+use Rattle.closing.specs.Sections.{entriesAt}
 use Rattle.section.specs.Table.{Table}
 use Rattle.reader.specs.declared.TextAnswer.{TextAnswer}
 use Rattle.reader.specs.declared.TextAnswer.the-variants as T

@@ -24,7 +24,7 @@ use Rattle.items.specs.declared.Found.{Found}
 use Rattle.items.specs.declared.Found.the-variants.{At, Insert}
 use Rattle.items.specs.Items.{kindOf, itemOf}
 use Rattle.items.proofs.CompareLaws.{key-of}
-use Rattle.section.specs.Sections.{entryOf, entryAt, entriesAt, Whole}
+use Rattle.closing.specs.Sections.{entryOf, entryAt, entriesAt, Whole}
 use Rattle.merge.specs.declared.Walk.{Walk}
 use Rattle.merge.specs.declared.join.Joining.{Joining}
 use Rattle.merge.specs.declared.join.Joining.the-variants.{One, Refused}

@@ -23,9 +23,9 @@ use Rattle.model.specs.Report.{Report, entryKey, compareKeys, combineEntries, m
 use Rattle.model.proofs.KeyOrder.{keys-order}
 use Rattle.model.proofs.Entries.{entries-keyed}
 use Rattle.model.proofs.MergeValid.{merge-valid}
-use Rattle.section.specs.Sections.{entryOf, entryAt, entriesAt, Whole}
+use Rattle.closing.specs.Sections.{entryOf, entryAt, entriesAt, Whole}
 use Rattle.section.specs.Table.{Table}
-use Rattle.items.proofs.EnterLaws.{within-fits, within-past}
+use Rattle.entering.proofs.EnterLaws.{within-fits, within-past}
 use Rattle.merge.specs.declared.Joined.{Joined}
 use Rattle.merge.specs.declared.Joined.the-variants.{Entries, Refused}
 use Rattle.merge.specs.declared.Walk.{Walk}

@@ -35,7 +35,7 @@ use Rattle.model.specs.Report.{
 }
 use Rattle.items.specs.Items.{part, kindOf, function-kind, branch-kind, line-kind, ifGiven, itemOf, Good}
 use Rattle.items.proofs.CountLaws.{function-item}
-use Rattle.section.specs.Sections.{entryOf, Whole}
+use Rattle.closing.specs.Sections.{entryOf, Whole}
 use Rattle.merge.specs.declared.join.Choice.{Choice}
 use Rattle.merge.specs.declared.join.Choice.the-variants.{Earlier, Later, Neither}
 use Rattle.merge.specs.declared.join.Joining.{Joining}

@@ -18,7 +18,7 @@ use Rattle.model.specs.Report.{Entry, sectionKey, entryKey, compareItems, compa
 use Rattle.model.proofs.KeyOrder.{keys-order}
 use Rattle.items.specs.declared.Found.the-variants.{At, Insert}
 use Rattle.items.proofs.SearchLaws.{is-lt, sorted-at}
-use Rattle.section.specs.Sections.{entryOf, entryAt, Whole}
+use Rattle.closing.specs.Sections.{entryOf, entryAt, Whole}
 use Rattle.merge.specs.Placing.{Ranked, compareEntries, Before, Passed, Spanned, Seated}
 
 -- ---- entries compared

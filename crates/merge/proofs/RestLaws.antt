@@ -15,7 +15,7 @@ use Rattle.map.specs.Keyed.{Sorted, find}
 use Rattle.map.proofs.Members.{sorted-right}
 use Rattle.model.specs.Report.{Entry, Report, Key, entryKey, compareKeys}
 use Rattle.model.proofs.KeyOrder.{keys-order}
-use Rattle.section.specs.Sections.{entryOf, entryAt, entriesAt}
+use Rattle.closing.specs.Sections.{entryOf, entryAt, entriesAt}
 use Rattle.items.proofs.SearchLaws.{sorted-at}
 use Rattle.items.specs.declared.Found.the-variants.{Insert}
 use Rattle.merge.specs.Placing.{Ranked, Seated, compareEntries}

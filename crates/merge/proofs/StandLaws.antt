@@ -25,7 +25,7 @@ use Rattle.model.specs.Answer.{Answer, refuse}
 use Rattle.model.specs.Report.{Entry, Report, entryKey, compareKeys, combineEntries, merge, within}
 use Rattle.model.proofs.KeyOrder.{keys-order}
 use Rattle.model.proofs.Entries.{entries-keyed}
-use Rattle.items.proofs.EnterLaws.{within-fits, within-past}
+use Rattle.entering.proofs.EnterLaws.{within-fits, within-past}
 use Rattle.merge.specs.Walking.{added}
 
 abbrev pub counted : ℕ → Answer Report → Answer Report

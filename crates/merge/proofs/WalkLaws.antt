@@ -20,7 +20,7 @@ use Rattle.model.specs.declared.Mode.{Mode}
 use Rattle.model.specs.Answer.{Answer, refuse, unplaced}
 use Rattle.model.specs.Report.{Entry, Report, entryKey, compareKeys, merge}
 use Rattle.model.proofs.KeyOrder.{keys-order}
-use Rattle.section.specs.Sections.{entryOf, entryAt, entriesAt, Whole}
+use Rattle.closing.specs.Sections.{entryOf, entryAt, entriesAt, Whole}
 use Rattle.section.specs.Table.{Table}
 use Rattle.items.proofs.SearchLaws.{sorted-at}
 use Rattle.merge.specs.declared.Joined.the-variants.{Refused}

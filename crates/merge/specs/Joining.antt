@@ -12,7 +12,7 @@ use Rattle.model.specs.Bytes.{Bytes}
 use Rattle.model.specs.Limits.{u64-max}
 use Rattle.model.specs.Answer.{Answer, accepted, refuse}
 use Rattle.model.specs.Report.{Entry, combineEntries}
-use Rattle.section.specs.Sections.{entryOf, Whole}
+use Rattle.closing.specs.Sections.{entryOf, Whole}
 use Rattle.merge.specs.declared.join.Choice.{Choice}
 use Rattle.merge.specs.declared.join.Choice.the-variants.{Earlier, Later, Neither}
 use Rattle.merge.specs.declared.join.Joining.{Joining}

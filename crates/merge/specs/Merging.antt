@@ -9,7 +9,7 @@ use Rattle.model.specs.declared.Mode.{Mode}
 use Rattle.model.specs.Bytes.{Bytes}
 use Rattle.model.specs.Answer.{Answer, accepted, _>>=_, refuse}
 use Rattle.model.specs.Report.{Report, merge, within}
-use Rattle.section.specs.Sections.{entriesAt}
+use Rattle.closing.specs.Sections.{entriesAt}
 use Rattle.section.specs.Table.{Table}
 use Rattle.merge.specs.declared.Joined.{Joined}
 use Rattle.merge.specs.declared.Joined.the-variants.{Entries, Refused}

@@ -11,7 +11,7 @@ use Rattle.model.specs.Bytes.{Bytes}
 use Rattle.model.specs.Report.{Entry, entryKey, compareKeys}
 use Rattle.items.specs.declared.Found.{Found}
 use Rattle.items.specs.declared.Found.the-variants.{At, Insert}
-use Rattle.section.specs.Sections.{entryOf, entryAt, entriesAt, Whole}
+use Rattle.closing.specs.Sections.{entryOf, entryAt, entriesAt, Whole}
 
 -- the first n of the used rows are entries, in ascending order of their keys
 pub record Ranked (text ws : List ℕ) (index used n : ℕ) : Type 0 where

@@ -17,7 +17,7 @@ use Rattle.model.specs.Bytes.{Bytes}
 use Rattle.model.specs.Answer.{Answer, accepted, refuse}
 use Rattle.model.specs.Report.{Entry, Report, entryKey, compareKeys, combineEntries}
 use Rattle.items.specs.declared.Found.the-variants.{Insert}
-use Rattle.section.specs.Sections.{entryOf, entryAt, entriesAt, Whole}
+use Rattle.closing.specs.Sections.{entryOf, entryAt, entriesAt, Whole}
 use Rattle.merge.specs.declared.Joined.{Joined}
 use Rattle.merge.specs.declared.Joined.the-variants as J
 use Rattle.merge.specs.declared.Walk.{Walk}

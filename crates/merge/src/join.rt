@@ -10,7 +10,7 @@ ghost use Prim.Native.Nat.{ℕ, _+_, _%_, min};
 ghost use Rattle.model.specs.Limits.{u64-max};
 ghost use Rattle.model.specs.Bytes.{sameBytes};
 ghost use Rattle.items.specs.Items.{part, kindOf, function-kind, branch-kind, line-kind, Good};
-ghost use Rattle.section.specs.Sections.{Whole};
+ghost use Rattle.closing.specs.Sections.{Whole};
 ghost use Rattle.merge.specs.Joining.{choiceOf, summed, Joins};
 
 // Which of two start lines or checksums stays.

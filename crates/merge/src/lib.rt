@@ -17,7 +17,7 @@ ghost use Prim.Native.Nat.{_+_, _≤_};
 ghost use lib.ListN.{length, take};
 ghost use Rattle.store.specs.Store.{Store};
 ghost use Rattle.weaving.specs.Woven.{Rising};
-ghost use Rattle.section.specs.Sections.{Whole};
+ghost use Rattle.closing.specs.Sections.{Whole};
 ghost use Rattle.merge.specs.Walking.{Room, Grown, Ready, Adding, Noting, spareWord, Settled, endedOf};
 ghost use Rattle.merge.specs.Merging.{Tables, Merged};
 

@@ -7,7 +7,7 @@ ghost use Prim.Native.Nat.{_≤_};
 ghost use Rattle.model.specs.Report.{entryKey, compareKeys};
 ghost use Rattle.order.specs.Orders.{orderOf};
 ghost use Rattle.store.specs.Places.{Cut};
-ghost use Rattle.section.specs.Sections.{entryOf, Whole};
+ghost use Rattle.closing.specs.Sections.{entryOf, Whole};
 ghost use Rattle.merge.specs.Placing.{Ranked, Before, Passed, Spanned, Seated};
 
 // By section, then by item.
@@ -15,7 +15,7 @@ pub fn compare_entries(text: &[u8], x: Row, y: Row) -> Order
     requires { ⌜ Whole (now text) x × Whole (now text) y ⌝ }
     ensures { λ r. ⌜ orderOf r ≡ compareKeys (entryKey (entryOf (now (text .entry)) x)) (entryKey (entryOf (now (text .entry)) y)) ⌝ }
 {
-    let sections = section::closing::compare_sections(text, x, y);
+    let sections = closing::compare_sections(text, x, y);
     if order::is_equal(sections) {
         return items::compare_items(text, x, y);
     }

@@ -19,7 +19,7 @@ use Rattle.model.specs.Lists.{each}
 use Rattle.model.specs.Report.{Item, sectionItem, functionItem, branchItem, lineItem, Entry, Report, SectionKey, itemKey, entryKey, compareKeys, inSection}
 use Rattle.model.proofs.Blocks.{SortedEntries, Block, blockEntries, blocksEntries, blocks-of, sorted-items}
 use Rattle.items.specs.Items.{kindOf, function-kind, branch-kind, line-kind, byKind, itemOf}
-use Rattle.section.specs.Sections.{entryAt, entriesAt}
+use Rattle.closing.specs.Sections.{entryAt, entriesAt}
 use Rattle.section.specs.Table.{Table}
 use Rattle.printing.specs.Printing.{RunOf}
 

@@ -23,7 +23,7 @@ use Rattle.model.specs.Output.{written, outputAfter}
 use Rattle.model.specs.Tags.{defaultTag}
 use Rattle.model.specs.Printing.{sections, printRecords, printSections, printReport}
 use Rattle.items.specs.Items.{kindOf}
-use Rattle.section.specs.Sections.{entryAt, entriesAt}
+use Rattle.closing.specs.Sections.{entryAt, entriesAt}
 use Rattle.emit.specs.Emit.{RoomFor, Emitted}
 use Rattle.emit.proofs.EmitLaws.{room-as}
 use Rattle.printing.specs.declared.Printed.{Printed}

@@ -39,9 +39,9 @@ use Rattle.model.specs.Printing.{
 use Rattle.model.proofs.ListLaws.{All, select-all, select-none}
 use Rattle.items.specs.Items.{kindOf, function-kind, branch-kind, line-kind, itemOf}
 use Rattle.items.specs.Open.{itemAt, itemFrom, itemsAt}
-use Rattle.section.specs.Sections.{testOf, pathOf, entryAt}
+use Rattle.closing.specs.Sections.{testOf, pathOf, entryAt}
 use Rattle.section.specs.Table.{Table}
-use Rattle.section.proofs.ReplaceLaws.{all-listed}
+use Rattle.closing.proofs.ReplaceLaws.{all-listed}
 use Rattle.emit.proofs.PassLaws.{lines-append}
 use Rattle.printing.specs.Printing.{entriesFrom, printedFrom, RunOf, functionLines}
 use Rattle.printing.proofs.OrderLaws.{select-append}

@@ -12,7 +12,7 @@ use Rattle.store.proofs.WordLaws.{row-cong}
 use Rattle.model.specs.Valid.{Fits}
 use Rattle.items.specs.Items.{function-kind, itemOf, Good}
 use Rattle.items.specs.Open.{itemFrom, itemsAt}
-use Rattle.section.specs.Sections.{entryOf, entryAt, entriesAt}
+use Rattle.closing.specs.Sections.{entryOf, entryAt, entriesAt}
 use Rattle.section.specs.Table.{Table}
 use Rattle.sorting.specs.Sorting.{itemsBy, InPrintOrder}
 use Rattle.emit.specs.Emit.{Printable}

@@ -17,7 +17,7 @@ use Rattle.model.specs.Tags.{defaultTag}
 use Rattle.model.specs.Report.{Item, Report}
 use Rattle.model.specs.Printing.{startRecord, group, printRecords, printReport}
 use Rattle.items.specs.Items.{kindOf, function-kind, branch-kind, line-kind}
-use Rattle.section.specs.Sections.{testOf, pathOf, entryAt}
+use Rattle.closing.specs.Sections.{testOf, pathOf, entryAt}
 use Rattle.section.specs.Table.{Table}
 use Rattle.sorting.specs.Sorting.{itemsBy, Functions}
 use Rattle.emit.specs.Emit.{foundOf, hitOf, Emitted, Printable}

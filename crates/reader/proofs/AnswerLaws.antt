@@ -1,7 +1,9 @@
 -- Answers by the case that was met. Assumes nothing.
 use Prim.Native.Nat.{ℕ}
-use mathlib.Core.Path.{_≡_}
+use mathlib.Core.Path.{_≡_, sym, _∙_}
 use mathlib.Core.Bool.{true, false}
+use mathlib.Core.List.{List}
+use Rattle.map.proofs.Results.{impossible}
 use Rattle.model.specs.declared.Fault.{Fault}
 use Rattle.model.specs.declared.Fault.the-variants.{UnknownRecord, UnexpectedEof}
 use Rattle.model.specs.declared.Record.{Record}
@@ -11,9 +13,10 @@ use Rattle.model.specs.declared.LineAnswer.the-variants as A
 use Rattle.section.specs.declared.State.{State}
 use Rattle.section.specs.declared.Step.{Step}
 use Rattle.section.specs.declared.Step.the-variants as S
+use Rattle.section.specs.Reading.{AllSettled}
 use Rattle.reader.specs.declared.LineStep.the-variants as L
 use Rattle.reader.specs.declared.TextAnswer.the-variants as T
-use Rattle.reader.specs.Reader.{atLine, faultAt, refusedLine, refusedStep, endedText}
+use Rattle.reader.specs.Reader.{atLine, faultAt, refusedLine, refusedStep, Ended}
 
 module _ (number : ℕ) (r : Refusal) where
   pub line-is-refused : (got : LineAnswer) (q : Refusal) → got ≡ A.Refused q → r ≡ atLine number q → L.Refused r ≡ refusedLine number got
@@ -28,8 +31,12 @@ module _ (number : ℕ) (r : Refusal) where
   pub step-is-next : (done : Step) (st : State) → done ≡ S.Next st → r ≡ faultAt number UnknownRecord → L.Refused r ≡ refusedStep number done
   step-is-next done st e h = rw (e, h)
 
-  pub ended-inside : (st : State) → st .inside ≡ true → r ≡ faultAt number UnexpectedEof → T.Refused r ≡ endedText st number
-  ended-inside st i h = rw (i, h)
+-- ---- the text's end
 
-pub ended-outside : (st : State) (number : ℕ) → st .inside ≡ false → T.Read (st .kept) (st .used) ≡ endedText st number
-ended-outside st number i = rw i
+pub ended-inside : {text ws : List ℕ} {index number : ℕ} {st : State} {r : Refusal} → st .inside ≡ true → r ≡ faultAt number UnexpectedEof
+    → Ended text ws ws index st number (T.Refused r)
+ended-inside i h = record { is = rw (i, h); settled = λ o. let z : true ≡ false = sym i ∙ o in impossible cc }
+
+pub ended-outside : {text ws ws′ : List ℕ} {index number : ℕ} {st : State} → st .inside ≡ false → AllSettled text ws ws′ index st
+    → Ended text ws ws′ index st number (T.Read (st .kept) (st .used))
+ended-outside i σ = record { is = rw i; settled = λ o. σ }

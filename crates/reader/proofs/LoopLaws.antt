@@ -24,7 +24,6 @@ use Rattle.model.specs.Reading.{State as ModelState, outside, effect, step, lin
 use Rattle.section.specs.declared.State.{State}
 use Rattle.section.specs.declared.Step.{Step}
 use Rattle.section.specs.declared.Step.the-variants.{Next, Refused}
-use Rattle.section.specs.Sections.{entriesAt}
 use Rattle.section.specs.Reading.{stateOf, Valid, counted, seenStep, ValidStep, StepOf}
 use Rattle.reader.specs.Reader.{leftAt, Progress, atLine, faultAt}
 use Rattle.reader.proofs.CutLaws.{lines-none, lines-cut}
@@ -56,7 +55,7 @@ module _ (text ws : List ℕ) (index limit at number : ℕ) (st : State) where
     unfolding readLines
     done-inside i = sym ended ∙ rw i
 
-    pub done-outside : st .inside ≡ false → answer ≡ accepted (entriesAt text ws index (st .kept))
+    pub done-outside : st .inside ≡ false → answer ≡ accepted (here .kept)
     unfolding readLines
     done-outside i = sym ended ∙ rw i
 

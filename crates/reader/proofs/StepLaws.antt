@@ -23,7 +23,7 @@ use Rattle.model.specs.Report.{Item}
 use Rattle.model.specs.Parts.{partOf, checksumIn, recordIn}
 use Rattle.model.specs.Reading.{State as ModelState, enterItem, ignored, effect}
 use Rattle.items.specs.Items.{partIn, PartInside, checksumPart, itemOf}
-use Rattle.items.specs.Entering.{combineOf, Adds}
+use Rattle.items.specs.Combining.{combineOf, Adds}
 use Rattle.section.specs.declared.State.{State}
 use Rattle.section.specs.declared.Step.{Step}
 use Rattle.section.specs.Reading.{stateOf, counted, StepOf, StepBy}

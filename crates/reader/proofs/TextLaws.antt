@@ -1,13 +1,14 @@
 -- The whole text: the loop's start, its turns and its end. Assumes nothing.
 use Prim.Native.Nat.{ℕ, _+_, _-_, _*_, _^_, _≤_, _<_}
 use native.Mathlib.Omega.{arith}
-use mathlib.Core.Path.{_≡_, refl, sym, _∙_}
+use mathlib.Core.Path.{_≡_, refl, sym, ap, _∙_}
 use mathlib.Core.Bool.{Bool, true, false}
 use mathlib.Core.List.{List, []}
 use lib.ListN.{length}
 use mir.Val.{Fits}
 use mir.Syntax.{w64}
 use Rattle.model.specs.declared.Refusal.{Refusal}
+use Rattle.model.specs.Answer.{accepted}
 use Rattle.model.specs.Reading.{outside}
 use Rattle.section.specs.declared.State.{State}
 use Rattle.section.specs.Reading.{Room, stateOf, Valid}
@@ -15,7 +16,7 @@ use Rattle.reader.specs.declared.LineStep.{LineStep}
 use Rattle.reader.specs.declared.LineStep.the-variants as L
 use Rattle.reader.specs.declared.TextAnswer.{TextAnswer}
 use Rattle.reader.specs.declared.TextAnswer.the-variants as T
-use Rattle.reader.specs.Reader.{leftAt, Progress, AfterLine, LineDone, endedText, TextRead}
+use Rattle.reader.specs.Reader.{leftAt, Progress, AfterLine, LineDone, Ended, TextRead}
 use Rattle.reader.proofs.LoopLaws.{start-progress, done-inside, done-outside}
 
 -- before the first line
@@ -52,11 +53,15 @@ pub number-fits : (text ws : List ℕ) (index limit from at number : ℕ) (st : 
 number-fits text ws index limit from at number st p h b = record { fits = omega (arith, p .few) }
 
 -- past the last line
-pub text-done : (text ws : List ℕ) (index limit from at number : ℕ) (st : State) (r : TextAnswer) → Progress text ws index limit from at number st
-    → length text ≤ at → r ≡ endedText st number → TextRead text ws index limit from r
-text-done text ws index limit from at number st r p end e = go (st .inside) refl
+pub text-done : (text ws ws′ : List ℕ) (index limit from at number : ℕ) (st : State) (r : TextAnswer) → Progress text ws index limit from at number st
+    → length text ≤ at → Ended text ws ws′ index st number r → TextRead text ws′ index limit from r
+text-done text ws ws′ index limit from at number st r p end ε = go (st .inside) refl
   where
-    go : (b : Bool) → st .inside ≡ b → TextRead text ws index limit from r
-    go true i = rw (e, i) (record { is = sym (done-inside text ws index limit at number st end i) ∙ p .left; held = tt })
+    go : (b : Bool) → st .inside ≡ b → TextRead text ws′ index limit from r
+    go true i = rw (ε .is, i) (record { is = sym (done-inside text ws index limit at number st end i) ∙ p .left; held = tt })
     go false i =
-        rw (e, i) (record { is = sym (done-outside text ws index limit at number st end i) ∙ p .left; held = (p .valid .sections, p .valid .space .most) })
+        let σ = ε .settled i in
+        rw (ε .is, i) (record {
+          is = ap accepted (σ .entries) ∙ sym (done-outside text ws index limit at number st end i) ∙ p .left;
+          held = (σ .sections, p .valid .space .most);
+        })

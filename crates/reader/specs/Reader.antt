@@ -1,7 +1,7 @@
 -- A text read line by line: what holds between two lines, and the answer read back from the words. Assumes nothing.
 use Prim.Native.Nat.{ℕ, _+_, _≤_, _<_}
 use mathlib.Core.Path.{_≡_}
-use mathlib.Core.Bool.{cond}
+use mathlib.Core.Bool.{false, cond}
 use mathlib.Core.List.{List}
 use lib.ListN.{length, drop}
 use Rattle.model.specs.declared.Fault.{Fault}
@@ -17,8 +17,8 @@ use Rattle.model.specs.Reading.{lines, readLines, readText}
 use Rattle.section.specs.declared.State.{State}
 use Rattle.section.specs.declared.Step.{Step}
 use Rattle.section.specs.declared.Step.the-variants as S
-use Rattle.section.specs.Sections.{entriesAt, Sections}
-use Rattle.section.specs.Reading.{stateOf, Valid}
+use Rattle.closing.specs.Sections.{entriesAt, Sections}
+use Rattle.section.specs.Reading.{stateOf, Valid, AllSettled}
 use Rattle.reader.specs.declared.LineStep.{LineStep}
 use Rattle.reader.specs.declared.LineStep.the-variants as L
 use Rattle.reader.specs.declared.TextAnswer.{TextAnswer}
@@ -53,6 +53,11 @@ refusedStep number (S.Next st) = L.Refused (faultAt number UnknownRecord)
 -- at the text's end no section may be open
 abbrev pub endedText : State → ℕ → TextAnswer
 endedText st number = cond (st .inside) (T.Refused (faultAt number UnexpectedEof)) (T.Read (st .kept) (st .used))
+
+-- where none is, all that is kept is settled
+pub record Ended (text ws ws′ : List ℕ) (index : ℕ) (st : State) (number : ℕ) (r : TextAnswer) : Type 0 where
+  pub is : r ≡ endedText st number
+  pub settled : st .inside ≡ false → AllSettled text ws ws′ index st
 
 -- after a line: the next one starts at `next`, and what is left gives the same answer; or that is the refusal
 abbrev pub AfterLine : Bytes → List ℕ → ℕ → ℕ → ℕ → ℕ → Answer Report → LineStep → Type 0

@@ -11,7 +11,7 @@ ghost use mathlib.Core.Path.{_≡_};
 ghost use Prim.Native.Nat.{_≤_, _<_};
 ghost use lib.ListN.{length};
 ghost use Rattle.section.specs.Reading.{Room, Valid};
-ghost use Rattle.reader.specs.Reader.{atLine, faultAt, refusedLine, refusedStep, endedText, LineDone, TextRead};
+ghost use Rattle.reader.specs.Reader.{atLine, faultAt, refusedLine, refusedStep, LineDone, Ended, TextRead};
 
 // The state after a line and where the next line starts, or why the text is refused.
 enum LineStep {
@@ -97,14 +97,23 @@ fn read_line_at(
     LineStep::Next { state: after, next }
 }
 
-// The text's end: a section must not be open.
-fn ended(state: State, number: u64) -> TextAnswer
-    ensures { λ r. ⌜ r ≡ endedText state number ⌝ }
+// The text's end: a section must not be open, and the late ones are settled.
+fn ended(
+    text: &[u8],
+    words: &mut [u64],
+    index: usize,
+    limit: usize,
+    state: State,
+    number: u64,
+) -> TextAnswer
+    requires { ⌜ Valid (now text) (now words) index limit state ⌝ }
+    ensures { λ r. ⌜ Ended (now (text .entry)) (now (words .entry)) (now (words .exit)) index state number r ⌝ }
 {
     let inside = state.inside;
     if inside {
         return TextAnswer::Refused(fault_at(number, Fault::UnexpectedEof));
     }
+    section::settle_late(text, words, index, limit, state);
     TextAnswer::Read {
         kept: state.kept,
         used: state.used,
@@ -139,5 +148,5 @@ pub fn read_lines(
             }
         }
     }
-    ended(state, number)
+    ended(text, words, index, limit, state, number)
 }

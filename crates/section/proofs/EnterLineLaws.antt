@@ -9,7 +9,8 @@ use borrow.Author.Tests.{leb-true, leb-false}
 use lib.Dec.{leb}
 use lib.ListN.{length}
 use Rattle.store.specs.declared.Row.{Row}
-use Rattle.store.proofs.ListedLaws.{length-listed}
+use Rattle.store.specs.Places.{Same}
+use Rattle.store.specs.Store.{row}
 use Rattle.map.specs.Result.{Result, accepted, refused, bind, mapAccepted}
 use Rattle.map.specs.Keyed.{byOrder, add}
 use Rattle.map.proofs.Results.{accepted-inj, not-accepted, not-refused, mapAccepted-accepted, bind-accepted}
@@ -20,17 +21,18 @@ use Rattle.model.specs.Bytes.{compareBytes}
 use Rattle.model.specs.Answer.{Answer, refuse, unplaced}
 use Rattle.model.specs.Report.{Item, itemKey, within}
 use Rattle.model.specs.Reading.{State as ModelState, entries, open-section, enterItem}
-use Rattle.items.specs.declared.Entered.{Entered}
-use Rattle.items.specs.declared.Entered.the-variants.{Items, Refused as NotEntered}
 use Rattle.items.specs.Items.{itemOf}
-use Rattle.items.specs.Open.{itemFrom, itemsAt, Open}
-use Rattle.items.specs.Entering.{combineOf, Entering}
-use Rattle.items.proofs.EnterLaws.{within-fits, within-past}
+use Rattle.items.specs.Combining.{combineOf}
+use Rattle.entering.specs.declared.Entered.{Entered}
+use Rattle.entering.specs.declared.Entered.the-variants.{Items, Refused as NotEntered}
+use Rattle.entering.specs.Parts.{allAt, Parted}
+use Rattle.entering.specs.Entering.{Entering}
+use Rattle.entering.proofs.EnterLaws.{within-fits, within-past, parts-length}
 use Rattle.section.specs.declared.State.{State}
 use Rattle.section.specs.declared.Step.the-variants.{Next, Refused}
-use Rattle.section.specs.Sections.{entryAt, entriesAt}
-use Rattle.section.specs.Reading.{Ready, insideOf, stateOf, Valid, counted, StepOf}
-use Rattle.section.proofs.StateLaws.{same-entries, same-sections, by-inside, withUsed, more-valid, more-state, step-as}
+use Rattle.closing.specs.Late.{keptAt}
+use Rattle.section.specs.Reading.{Ready, insideOf, settledOf, stateOf, Valid, counted, StepOf}
+use Rattle.section.proofs.StateLaws.{kept-size, same-kept, same-sections, by-inside, withUsed, more-valid, more-state, step-as}
 
 -- ---- counts
 
@@ -41,7 +43,8 @@ module _ {R E K : Type 0} (key : E → K) (cmp : K → K → Ordering) (combine 
   add-most e (x ∷ xs) n p = go (cmp (key e) (key x)) p (λ ys q. add-most e xs ys q)
     where
       go : (o : Ordering)
-          → byOrder o (accepted (e ∷ x ∷ xs)) (mapAccepted (λ y. y ∷ xs) (combine x e)) (mapAccepted (λ ys. x ∷ ys) (add key cmp combine e xs)) ≡ accepted n
+          → byOrder o (accepted (e ∷ x ∷ xs)) (mapAccepted (λ y. y ∷ xs) (combine x e))
+          (mapAccepted (λ ys. x ∷ ys) (add key cmp combine e xs)) ≡ accepted n
           → ((ys : List E) → add key cmp combine e xs ≡ accepted ys → length ys ≤ suc (length xs)) → length n ≤ suc (length (x ∷ xs))
       go Ordering·lt q r = rw (← (accepted-inj q)) (omega arith)
       go Ordering·eq q r =
@@ -64,7 +67,8 @@ module _ {A : Type 0} where
   unfolding within
   within-refused limit n a {r} p = go (leb n limit) refl p
     where
-      go : (t : Bool) → leb n limit ≡ t → _≡_ {A = Answer A} (cond t (accepted a) (refuse TooManyEntries)) (refused r) → (r ≡ unplaced TooManyEntries) × (limit < n)
+      go : (t : Bool) → leb n limit ≡ t → _≡_ {A = Answer A} (cond t (accepted a) (refuse TooManyEntries)) (refused r)
+          → (r ≡ unplaced TooManyEntries) × (limit < n)
       go true e q = absurd (not-refused q)
       go false e q = (cc, leb-false n limit e)
 
@@ -73,11 +77,11 @@ pub count-open : (s : ModelState) (path : List ℕ) (l : List Item) → entries 
 unfolding entries open-section
 count-open s path l = refl
 
--- ---- the answer of `items::enter` is the step's
+-- ---- the answer of `entering::enter` is the step's
 
 -- the answer as a match has it
-pub entering-as : {text ws ws′ : List ℕ} {index used at n : ℕ} {r : Row} {adds : Bool} {a b : Entered} → a ≡ b → Entering text ws ws′ index used at n r adds a
-    → Entering text ws ws′ index used at n r adds b
+pub entering-as : {text ws ws′ : List ℕ} {index used spare at n p : ℕ} {r : Row} {adds : Bool} {a b : Entered} → a ≡ b
+    → Entering text ws ws′ index used spare at n p r adds a → Entering text ws ws′ index used spare at n p r adds b
 entering-as e ε = rw e at ε
 
 module _ {text ws : List ℕ} {index limit : ℕ} {st : State} (ζ : Valid text ws index limit st) (h : st .kept < st .used) (r : Row) (adds : Bool) where
@@ -97,7 +101,7 @@ module _ {text ws : List ℕ} {index limit : ℕ} {st : State} (ζ : Valid text 
   answer-accepted : (l : List Item) → added ≡ accepted l → answer ≡ within limit (st .kept + 1 + length l) (open-section S (S .path) l)
   unfolding enterItem
   answer-accepted l p =
-      let size : length (S .kept) ≡ st .kept = length-listed (entryAt text ws index) (st .kept) in
+      let size : length (S .kept) ≡ st .kept = kept-size ζ in
       let n : entries (open-section S (S .path) l) ≡ st .kept + 1 + length l = count-open S (S .path) l ∙ omega (arith, size) in
       rw p (ap (λ (k : ℕ). within limit k (open-section S (S .path) l)) n)
 
@@ -105,30 +109,36 @@ module _ {text ws : List ℕ} {index limit : ℕ} {st : State} (ζ : Valid text 
   unfolding enterItem
   answer-refused p = rw p
 
-  pub entered-next : {ws′ : List ℕ} (m : ℕ) → Entering text ws ws′ index (st .used) (st .kept + 1) (st .items) r adds (Items m) → length ws′ ≡ length ws
-      → StepOf text ws′ index limit answer (Next (insideOf st (st .used) m (st .path)))
+  pub entered-next : {ws′ : List ℕ} (m k : ℕ) → Entering text ws ws′ index (st .used) (index + limit) (st .kept + 1) (st .items)
+      (st .recent) r adds (Items m k)
+      → length ws′ ≡ length ws → StepOf text ws′ index limit answer (Next (insideOf st (st .used) m k (st .path)))
   unfolding open-section
-  entered-next {ws′} m ε len = go (bind-accepted added inRows (sym (ε .items)))
+  entered-next {ws′} m k ε len = go (bind-accepted added inRows (sym (ε .items)))
     where
-      kept : entriesAt text ws′ index (st .kept) ≡ S .kept
-      kept = same-entries text ws ws′ index (st .kept) (λ k p q. ε .others k p (omega arith))
+      others : Same (row ws index) (row ws′ index) 0 (st .kept)
+      others j p q = ε .others j p (omega arith)
 
-      go : (l : List Item) × (added ≡ accepted l) × (inRows l ≡ accepted (itemsAt text ws′ index (st .kept + 1) m))
-          → StepOf text ws′ index limit answer (Next (insideOf st (st .used) m (st .path)))
+      kept : keptAt text ws′ index (settledOf st) (st .late) ≡ S .kept
+      kept = same-kept ws′ ζ others
+
+      go : (l : List Item) × (added ≡ accepted l) × (inRows l ≡ accepted (allAt text ws′ index (st .kept + 1) m k))
+          → StepOf text ws′ index limit answer (Next (insideOf st (st .used) m k (st .path)))
       go (l, a, w) =
           let (fits, same) = within-accepted (st .used) (st .kept + 1 + length l) l w in
           record {
             is =
                 (λ i. accepted (record { kept = kept i; test = S .test; inside = true; path = S .path; items = sym same i }))
-                ∙ sym (answer-accepted l a ∙ within-fits limit (st .kept + 1 + length l) (open-section S (S .path) l) (omega (arith, ζ .space .most)));
+                ∙ sym (answer-accepted l a ∙ within-fits limit (st .kept + 1 + length l) (open-section S (S .path) l)
+                (omega (arith, ζ .space .most)));
             valid = record {
               space = record {
                 room = record { rows = ζ .space .room .rows; words = omega (arith, ζ .space .room .words) };
-                store = ε .still .store;
+                store = ε .still .settled .store;
+                late = ζ .space .late;
                 kept = ζ .space .kept;
                 most = ζ .space .most;
               };
-              sections = same-sections text ws ws′ index (st .used) (st .kept) (ζ .sections) (ε .still .store) (ζ .space .kept) (λ k p q. ε .others k p (omega arith));
+              sections = same-sections ws′ ζ others (st .used) (ε .still .settled .store) (ζ .space .kept);
               open-items = λ q. ε .still;
               opened = h;
               test = ζ .test;
@@ -136,18 +146,19 @@ module _ {text ws : List ℕ} {index limit : ℕ} {st : State} (ζ : Valid text 
             };
           }
 
-  pub entered-refused : {ws′ : List ℕ} (fault : Fault) → Entering text ws ws′ index (st .used) (st .kept + 1) (st .items) r adds (NotEntered fault)
-      → (st .kept + 1 + st .items < st .used) ⊎ (st .used ≡ limit) → StepOf text ws′ index limit answer (Refused fault)
+  pub entered-refused : {ws′ : List ℕ} (fault : Fault) → Entering text ws ws′ index (st .used) (index + limit) (st .kept + 1) (st .items)
+      (st .recent) r adds (NotEntered fault)
+      → (st .kept + 1 + st .items + st .recent < st .used) ⊎ (st .used ≡ limit) → StepOf text ws′ index limit answer (Refused fault)
   entered-refused fault ε free = record { is = go added refl (ε .items); valid = tt }
     where
       -- the rows end only at the limit
       full : (l : List Item) → added ≡ accepted l → st .used < st .kept + 1 + length l → limit < st .kept + 1 + length l
       full l a m = by-free free
         where
-          by-free : (st .kept + 1 + st .items < st .used) ⊎ (st .used ≡ limit) → limit < st .kept + 1 + length l
+          by-free : (st .kept + 1 + st .items + st .recent < st .used) ⊎ (st .used ≡ limit) → limit < st .kept + 1 + length l
           by-free (inl q) =
               let most = add-most itemKey compareBytes (combineOf adds) (itemOf text r) (S .items) l a in
-              let size : length (S .items) ≡ st .items = length-listed (itemFrom text ws index (st .kept + 1)) (st .items) in
+              let size : length (S .items) ≡ st .items + st .recent = parts-length (ζ .open-items h) in
               absurd (omega arith)
           by-free (inr q) = omega arith
 
@@ -175,37 +186,43 @@ entered-none {text} {ws} {ws′} {index} {limit} {own} {st} ζ r adds ρ h = rec
     one : (st .kept < own) ⊎ (own ≡ limit) → S .items ≡ [] → refuse TooManyEntries ≡ counted limit (enterItem (combineOf adds) (itemOf text r) S)
     one (inl q) e = absurd (omega arith)
     one (inr q) e =
-        let size : length (S .kept) ≡ st .kept = length-listed (entryAt text ws index) (st .kept) in
+        let size : length (S .kept) ≡ st .kept = kept-size ζ in
         let next = open-section S (S .path) (itemOf text r ∷ []) in
         let n : entries next ≡ length (S .kept) + 2 = count-open S (S .path) (itemOf text r ∷ []) in
         sym (ap (counted limit) (enter-first (combineOf adds) (itemOf text r) S e) ∙ within-past limit (entries next) next (omega arith))
 
 -- ---- what `enter_line` owes, once there are rows for the section itself and for one item more
 
-module _ {text ws ws₁ : List ℕ} {index limit own : ℕ} {st : State} (ζ : Valid text ws index limit st) (ρ : Ready ws ws₁ index (st .used) limit (st .kept) own)
+module _ {text ws ws₁ : List ℕ} {index limit own : ℕ} {st : State} (ζ : Valid text ws index limit st)
+    (ρ : Ready ws ws₁ index (st .used) limit (st .kept) own)
     (len : length ws₁ ≡ length ws) (h : st .kept < own) where
-  pub own-room : st .kept + 1 + st .items ≤ own
-  own-room = more-valid ζ ρ len .open-items h .room
+  pub own-room : st .kept + 1 + st .items + st .recent ≤ own
+  own-room = more-valid ζ ρ len .open-items h .recent .room
 
-  module _ {ws₂ : List ℕ} {used : ℕ} (ρ′ : Ready ws₁ ws₂ index own limit (st .kept + 1 + st .items) used) (len′ : length ws₂ ≡ length ws₁) where
+  module _ {ws₂ : List ℕ} {used : ℕ} (ρ′ : Ready ws₁ ws₂ index own limit (st .kept + 1 + st .items + st .recent) used)
+      (len′ : length ws₂ ≡ length ws₁) where
     there : Valid text ws₂ index limit (withUsed st used)
     there = more-valid (more-valid ζ ρ len) ρ′ len′
 
     own-there : st .kept < used
     own-there = omega (arith, ρ′ .more)
 
-    pub line-open : Open text ws₂ index used (st .kept + 1) (st .items)
+    pub line-open : Parted text ws₂ index used (index + limit) (st .kept + 1) (st .items) (st .recent)
     line-open = there .open-items own-there
 
     module _ (r : Row) (adds : Bool) where
       same-answer : counted limit (enterItem (combineOf adds) (itemOf text r) (stateOf text ws₂ index (withUsed st used)))
           ≡ counted limit (enterItem (combineOf adds) (itemOf text r) (stateOf text ws index st))
-      same-answer = ap (λ (s : ModelState). counted limit (enterItem (combineOf adds) (itemOf text r) s)) (more-state (more-valid ζ ρ len) ρ′ ∙ more-state ζ ρ)
+      same-answer = ap (λ (s : ModelState). counted limit (enterItem (combineOf adds) (itemOf text r) s))
+          (more-state (more-valid ζ ρ len) ρ′ ∙ more-state ζ ρ)
 
-      pub line-next : {ws₃ : List ℕ} (m : ℕ) → Entering text ws₂ ws₃ index used (st .kept + 1) (st .items) r adds (Items m) → length ws₃ ≡ length ws₂
-          → StepOf text ws₃ index limit (counted limit (enterItem (combineOf adds) (itemOf text r) (stateOf text ws index st))) (Next (insideOf st used m (st .path)))
-      line-next m ε len″ = step-as same-answer (entered-next there own-there r adds m ε len″)
+      pub line-next : {ws₃ : List ℕ} (m k : ℕ) → Entering text ws₂ ws₃ index used (index + limit) (st .kept + 1) (st .items) (st .recent) r adds
+          (Items m k) → length ws₃ ≡ length ws₂
+          → StepOf text ws₃ index limit (counted limit (enterItem (combineOf adds) (itemOf text r) (stateOf text ws index st)))
+          (Next (insideOf st used m k (st .path)))
+      line-next m k ε len″ = step-as same-answer (entered-next there own-there r adds m k ε len″)
 
-      pub line-refused : {ws₃ : List ℕ} (fault : Fault) → Entering text ws₂ ws₃ index used (st .kept + 1) (st .items) r adds (NotEntered fault)
+      pub line-refused : {ws₃ : List ℕ} (fault : Fault) → Entering text ws₂ ws₃ index used (index + limit) (st .kept + 1) (st .items)
+          (st .recent) r adds (NotEntered fault)
           → StepOf text ws₃ index limit (counted limit (enterItem (combineOf adds) (itemOf text r) (stateOf text ws index st))) (Refused fault)
       line-refused fault ε = step-as same-answer (entered-refused there own-there r adds fault ε (ρ′ .free))

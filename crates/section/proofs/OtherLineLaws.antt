@@ -3,29 +3,32 @@ use mathlib.Core.Path.{_≡_, refl, sym, ap, ap₂, _∙_}
 use mathlib.Core.Logic.{_≢_, _⊎_, inl, inr}
 use mathlib.Core.Bool.{true, false}
 use mathlib.Core.List.{List}
-use Prim.Native.Nat.{ℕ, suc, _+_, _≤_, _<_}
+use Prim.Native.Nat.{ℕ, suc, _+_, _-_, _≤_, _<_}
 use native.Mathlib.Omega.{arith}
 use lib.ListN.{length}
 use Rattle.store.specs.declared.Row.{Row}
-use Rattle.store.specs.Places.{listed}
-use Rattle.store.proofs.ListedLaws.{length-listed}
+use Rattle.store.specs.Places.{listed, Same}
+use Rattle.store.specs.Store.{row}
 use Rattle.map.specs.Result.{accepted}
 use Rattle.model.specs.declared.Part.{Part}
 use Rattle.model.specs.declared.Fault.the-variants.{UnexpectedRecord, TooManyEntries}
 use Rattle.model.specs.Bytes.{Bytes}
 use Rattle.model.specs.Answer.{Answer}
-use Rattle.model.specs.Report.{Report, within}
+use Rattle.model.specs.Report.{Item, Report, within}
 use Rattle.model.specs.Record.{testName, sourceFile, endOfRecord}
 use Rattle.model.specs.Reading.{State as ModelState, outside, open-section, entries, keepSection, effect}
 use Rattle.items.specs.Items.{partIn, PartInside}
-use Rattle.items.specs.Open.{itemFrom, itemsAt}
-use Rattle.items.proofs.EnterLaws.{within-fits, within-past}
+use Rattle.items.specs.Open.{itemsAt, Open}
+use Rattle.entering.specs.Parts.{union, allAt, Settled}
+use Rattle.entering.proofs.EnterLaws.{within-fits, within-past, parts-length}
 use Rattle.section.specs.declared.State.{State}
 use Rattle.section.specs.declared.Step.the-variants.{Next, Refused}
-use Rattle.section.specs.Sections.{testOf, pathOf, entryAt, entriesAt, Sections}
-use Rattle.section.specs.Closing.{Closed}
-use Rattle.section.specs.Reading.{Room, Ready, insideOf, outsideOf, stateOf, Valid, counted, StepOf}
-use Rattle.section.proofs.StateLaws.{by-inside, more-valid, more-state, inside-valid, outside-valid}
+use Rattle.closing.specs.declared.Parts.{Parts}
+use Rattle.closing.specs.Sections.{testOf, pathOf, entriesFrom}
+use Rattle.closing.specs.Late.{keptAt, InParts, Settled as AllLate, Closed}
+use Rattle.closing.proofs.LateLaws.{kept-length, early-sections, early-entries}
+use Rattle.section.specs.Reading.{Room, Ready, insideOf, outsideOf, settledOf, stateOf, Valid, counted, StepOf, AllSettled}
+use Rattle.section.proofs.StateLaws.{kept-rows, kept-size, same-kept, same-sections, no-items, by-inside, more-valid, more-state, inside-valid, outside-valid}
 use Rattle.section.proofs.EnterLineLaws.{count-open}
 
 -- ---- a step to the outside
@@ -33,18 +36,18 @@ use Rattle.section.proofs.EnterLineLaws.{count-open}
 abbrev none : Part
 none = record { start = 0; len = 0 }
 
-next-outside : {text ws : List ℕ} {index limit : ℕ} (kept used : ℕ) (test : Part) (report : Report) → entriesAt text ws index kept ≡ report
-    → Room ws index limit → used ≤ limit → Sections text ws index used kept → PartInside text test
-    → StepOf text ws index limit (counted limit (accepted (outside report (partIn text test)))) (Next (outsideOf kept used test))
-unfolding outside entries listed
-next-outside {text} {ws} {index} {limit} kept used test report e ρ m σ i =
-    let size : length (entriesAt text ws index kept) ≡ kept = length-listed (entryAt text ws index) kept in
-    let same : length report ≡ kept = ap length (sym e) ∙ size in
+next-outside : {text ws : List ℕ} {index limit : ℕ} (kept late used : ℕ) (test : Part) (report : Report)
+    → keptAt text ws index (kept - late) late ≡ report
+    → Room ws index limit → used ≤ limit → late ≤ kept → InParts text ws index used (kept - late) late → PartInside text test
+    → StepOf text ws index limit (counted limit (accepted (outside report (partIn text test)))) (Next (outsideOf kept late used test))
+unfolding outside entries union listed
+next-outside {text} {ws} {index} {limit} kept late used test report e ρ m l σ i =
+    let same : length report ≡ kept - late + late = ap length (sym e) ∙ kept-length σ in
     record {
       is =
           ap (λ (x : Report). accepted (outside x (partIn text test))) e
-          ∙ sym (within-fits limit (length report + 0) (outside report (partIn text test)) (omega (arith, σ .room)));
-      valid = outside-valid ρ m σ i;
+          ∙ sym (within-fits limit (length report + 0) (outside report (partIn text test)) (omega (arith, σ .behind .room)));
+      valid = outside-valid ρ m l σ i;
     }
 
 -- ---- TN
@@ -56,14 +59,16 @@ module _ {text ws : List ℕ} {index limit : ℕ} (st : State) where
   test-inside name e = record { is = rw e; valid = tt }
 
   pub test-outside : {name : Part} → Valid text ws index limit st → PartInside text name → st .inside ≡ false
-      → StepOf text ws index limit (counted limit (effect (testName (partIn text name)) (stateOf text ws index st))) (Next (outsideOf (st .kept) (st .used) name))
+      → StepOf text ws index limit (counted limit (effect (testName (partIn text name)) (stateOf text ws index st)))
+      (Next (outsideOf (st .kept) (st .late) (st .used) name))
   unfolding effect
   test-outside {name} ζ i e =
-      rw e (next-outside (st .kept) (st .used) name (entriesAt text ws index (st .kept)) refl (ζ .space .room) (ζ .space .most) (ζ .sections) i)
+      rw e (next-outside (st .kept) (st .late) (st .used) name _ refl (ζ .space .room) (ζ .space .most) (ζ .space .late) (ζ .sections) i)
 
 -- ---- SF, found and hit lines
 
-module _ {text ws ws′ : List ℕ} {index limit own : ℕ} {st : State} (path : Part) (ζ : Valid text ws index limit st) (ρ : Ready ws ws′ index (st .used) limit (st .kept) own) where
+module _ {text ws ws′ : List ℕ} {index limit own : ℕ} {st : State} (path : Part) (ζ : Valid text ws index limit st)
+    (ρ : Ready ws ws′ index (st .used) limit (st .kept) own) where
   abbrev S : ModelState
   S = stateOf text ws index st
 
@@ -73,49 +78,88 @@ module _ {text ws ws′ : List ℕ} {index limit own : ℕ} {st : State} (path :
   abbrev answer : Answer ModelState
   answer = counted limit (effect (sourceFile (partIn text path)) S)
 
-  is-opened : answer ≡ within limit (st .kept + suc (st .items)) opened
+  is-opened : answer ≡ within limit (st .kept + suc (st .items + st .recent)) opened
   unfolding effect
   is-opened =
-      let size : length (S .kept) ≡ st .kept = length-listed (entryAt text ws index) (st .kept) in
-      let number : length (S .items) ≡ st .items = length-listed (itemFrom text ws index (st .kept + 1)) (st .items) in
+      let size : length (S .kept) ≡ st .kept = kept-size ζ in
+      let number : length (S .items) ≡ st .items + st .recent = by-inside ζ (λ o. parts-length (ζ .open-items o)) (λ z e. ap length e ∙ sym z) in
       ap (λ (n : ℕ). within limit n opened) (count-open S (partIn text path) (S .items) ∙ omega (arith, size, number))
 
   pub open-full : own ≤ st .kept → StepOf text ws′ index limit answer (Refused TooManyEntries)
-  open-full h = record { is = sym (is-opened ∙ within-past limit (st .kept + suc (st .items)) opened (full (ρ .free))); valid = tt }
+  open-full h = record { is = sym (is-opened ∙ within-past limit (st .kept + suc (st .items + st .recent)) opened (full (ρ .free))); valid = tt }
     where
-      full : (st .kept < own) ⊎ (own ≡ limit) → limit < st .kept + suc (st .items)
+      full : (st .kept < own) ⊎ (own ≡ limit) → limit < st .kept + suc (st .items + st .recent)
       full (inl q) = absurd (omega arith)
       full (inr q) = omega arith
 
-  pub open-next : st .kept < own → length ws′ ≡ length ws → PartInside text path → StepOf text ws′ index limit answer (Next (insideOf st own (st .items) path))
+  pub open-next : st .kept < own → length ws′ ≡ length ws → PartInside text path → StepOf text ws′ index limit answer
+      (Next (insideOf st own (st .items) (st .recent) path))
   unfolding open-section
   open-next h len i =
       let ζ′ = more-valid ζ ρ len in
       record {
         is =
             ap (λ (s : ModelState). accepted (open-section s (partIn text path) (s .items))) (more-state ζ ρ)
-            ∙ sym (is-opened ∙ within-fits limit (st .kept + suc (st .items)) opened (omega (arith, ζ′ .open-items h .room, ρ .most)));
+            ∙ sym (is-opened ∙ within-fits limit (st .kept + suc (st .items + st .recent)) opened
+            (omega (arith, ζ′ .open-items h .recent .room, ρ .most)));
         valid = inside-valid ζ′ h i;
       }
 
 -- ---- end_of_record
 
 -- a state with items is inside
-pub items-inside : {text ws : List ℕ} {index limit : ℕ} {st : State} → Valid text ws index limit st → st .items ≢ 0 → st .kept < st .used
+pub items-inside : {text ws : List ℕ} {index limit : ℕ} {st : State} → Valid text ws index limit st → st .items + st .recent ≢ 0 → st .kept < st .used
 items-inside ζ h = by-inside ζ (λ o. o) (λ z e. absurd (h z))
 
 module _ {text ws : List ℕ} {index limit : ℕ} {st : State} (ζ : Valid text ws index limit st) where
-  pub end-empty : st .items ≡ 0 → StepOf text ws index limit (counted limit (effect endOfRecord (stateOf text ws index st))) (Next (outsideOf (st .kept) (st .used) none))
-  unfolding effect keepSection listed
+  pub end-empty : st .items + st .recent ≡ 0
+      → StepOf text ws index limit (counted limit (effect endOfRecord (stateOf text ws index st)))
+      (Next (outsideOf (st .kept) (st .late) (st .used) none))
+  unfolding effect keepSection
   end-empty z =
-      rw z
-      (next-outside (st .kept) (st .used) none (entriesAt text ws index (st .kept)) refl (ζ .space .room) (ζ .space .most) (ζ .sections) (omega arith))
+      rw (no-items text ws index (st .kept + 1) (st .items) (st .recent) z)
+      (next-outside (st .kept) (st .late) (st .used) none _ refl (ζ .space .room) (ζ .space .most) (ζ .space .late) (ζ .sections) (omega arith))
 
-  pub end-kept : {ws′ : List ℕ} (key : Row) (kept : ℕ) → testOf text key ≡ partIn text (st .test) → pathOf text key ≡ partIn text (st .path)
-      → length ws′ ≡ length ws → Closed text ws ws′ index (st .used) (st .kept) (st .items) key kept
-      → StepOf text ws′ index limit (counted limit (effect endOfRecord (stateOf text ws index st))) (Next (outsideOf kept (st .used) none))
-  unfolding effect
-  end-kept key kept t p len κ =
-      next-outside kept (st .used) none _
-      (κ .entries ∙ ap₂ (λ (a b : Bytes). keepSection a b (itemsAt text ws index (st .kept + 1) (st .items)) (entriesAt text ws index (st .kept))) t p)
-      (record { rows = ζ .space .room .rows; words = omega (arith, ζ .space .room .words) }) (ζ .space .most) (κ .sections) (omega arith)
+  -- the recent items have come among the settled, and then the section is kept
+  module _ {ws₁ : List ℕ} (ς : Settled text ws ws₁ index (st .used) (st .kept + 1) (st .items) (st .recent)) where
+    older : Same (row ws index) (row ws₁ index) 0 (st .kept)
+    older k p q = ς .others k p (omega arith)
+
+    pub settled-sections : InParts text ws₁ index (st .used) (settledOf st) (st .late)
+    settled-sections = same-sections ws₁ ζ older (st .used) (ς .still .store) (ζ .space .kept)
+
+    first : settledOf st + st .late + 1 ≡ st .kept + 1
+    first = omega (arith, kept-rows ζ)
+
+    pub settled-open : Open text ws₁ index (st .used) (settledOf st + st .late + 1) (st .items + st .recent)
+    settled-open = rw first (ς .still)
+
+    pub end-kept : {ws₂ : List ℕ} (key : Row) (r : Parts) → testOf text key ≡ partIn text (st .test) → pathOf text key ≡ partIn text (st .path)
+        → length ws₂ ≡ length ws → Closed text ws₁ ws₂ index (st .used) (settledOf st) (st .late) (st .items + st .recent) key r
+        → StepOf text ws₂ index limit (counted limit (effect endOfRecord (stateOf text ws index st)))
+        (Next (outsideOf (r .settled + r .late) (r .late) (st .used) none))
+    unfolding effect
+    end-kept {ws₂} key r t p len κ =
+        next-outside (r .settled + r .late) (r .late) (st .used) none _
+        (ap (λ (n : ℕ). keptAt text ws₂ index n (r .late)) some
+        ∙ κ .entries
+        ∙ ap₂ (λ (a b : Bytes). keepSection a b (itemsAt text ws₁ index (settledOf st + st .late + 1) (st .items + st .recent))
+        (keptAt text ws₁ index (settledOf st) (st .late))) t p
+        ∙ ap₂ (λ (x : List Item) (y : Report). keepSection (partIn text (st .test)) (partIn text (st .path)) x y)
+        (ap (λ (k : ℕ). itemsAt text ws₁ index k (st .items + st .recent)) first ∙ ς .items) (same-kept ws₁ ζ older))
+        (record { rows = ζ .space .room .rows; words = omega (arith, ζ .space .room .words) }) (ζ .space .most) (omega arith)
+        (rw some (κ .sections)) (omega arith)
+      where
+        some : r .settled + r .late - r .late ≡ r .settled
+        some = omega arith
+
+-- ---- the end of the text
+
+pub late-settled : {text ws ws′ : List ℕ} {index limit : ℕ} {st : State} → Valid text ws index limit st
+    → AllLate text ws ws′ index (st .used) (settledOf st) (st .late) → AllSettled text ws ws′ index st
+late-settled {text} {ws} {ws′} {index} {limit} {st} ζ σ =
+    let e : st .kept ≡ settledOf st + st .late = omega (arith, kept-rows ζ) in
+    record {
+      entries = early-entries text ws′ index (st .kept) ∙ ap (entriesFrom text ws′ index 0) e ∙ σ .entries;
+      sections = early-sections (rw e (σ .sections));
+    }

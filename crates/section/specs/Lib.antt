@@ -1,4 +1,2 @@
-pub mod Sections
-pub mod Closing
 pub mod Reading
 pub mod Table

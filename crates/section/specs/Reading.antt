@@ -1,12 +1,12 @@
 -- The state between two lines, read back from the words. Assumes nothing.
-use Prim.Native.Nat.{ℕ, _+_, _*_, _≤_, _<_}
+use Prim.Native.Nat.{ℕ, _+_, _-_, _*_, _≤_, _<_}
 use mathlib.Core.Path.{_≡_}
 use mathlib.Core.Logic.{_⊎_}
 use mathlib.Core.Bool.{Bool, true, false}
 use mathlib.Core.List.{List}
 use lib.ListN.{length}
 use Rattle.store.specs.Places.{Same}
-use Rattle.store.specs.Rows.{row-words}
+use Rattle.store.specs.Rows.{row-words, Kept}
 use Rattle.store.specs.Store.{row, Store}
 use Rattle.model.specs.declared.Part.{Part}
 use Rattle.model.specs.Bytes.{Bytes}
@@ -14,62 +14,79 @@ use Rattle.model.specs.Answer.{Answer, accepted, _>>=_, refuse}
 use Rattle.model.specs.Report.{within}
 use Rattle.model.specs.Reading.{State as ModelState, entries}
 use Rattle.items.specs.Items.{partIn, PartInside}
-use Rattle.items.specs.Open.{itemsAt, Open}
+use Rattle.entering.specs.Parts.{allAt, Parted}
 use Rattle.section.specs.declared.State.{State}
 use Rattle.section.specs.declared.Step.{Step}
 use Rattle.section.specs.declared.Step.the-variants.{Next, Refused}
-use Rattle.section.specs.Sections.{entriesAt, Sections}
+use Rattle.closing.specs.Sections.{entriesAt, Sections}
+use Rattle.closing.specs.Late.{keptAt, InParts}
 
 -- ---- the words
 
--- the words for `limit` rows, their index, and as many spare words behind it
+-- the words for `limit` rows, their index, and twice as many spare words behind it
 pub record Room (ws : List ℕ) (index limit : ℕ) : Type 0 where
   pub rows : limit * row-words ≤ index
-  pub words : index + limit + limit ≤ length ws
+  pub words : index + limit + limit + limit ≤ length ws
 
--- there is a row at the place, or no more may be had
+-- there is a row at the place, or no more may be had; the spare words stay
 pub record Ready (ws ws′ : List ℕ) (index used limit place r : ℕ) : Type 0 where
   pub store : Store ws′ index r
   pub more : used ≤ r
   pub most : r ≤ limit
   pub rows : Same (row ws index) (row ws′ index) 0 used
   pub free : (place < r) ⊎ (r ≡ limit)
+  pub spare : Kept ws ws′ 0 (index + limit)
 
 -- ---- states
 
-abbrev pub insideOf : State → ℕ → ℕ → Part → State
-insideOf st used items path = record { kept = st .kept; used = used; items = items; inside = true; test = st .test; path = path }
+abbrev pub insideOf : State → ℕ → ℕ → ℕ → Part → State
+insideOf st used items recent path = record
+    { kept = st .kept; late = st .late; used = used; items = items; recent = recent; inside = true; test = st .test; path = path }
 
-abbrev pub outsideOf : ℕ → ℕ → Part → State
-outsideOf kept used test = record { kept = kept; used = used; items = 0; inside = false; test = test; path = record { start = 0; len = 0 } }
+abbrev pub outsideOf : ℕ → ℕ → ℕ → Part → State
+outsideOf kept late used test = record {
+  kept = kept;
+  late = late;
+  used = used;
+  items = 0;
+  recent = 0;
+  inside = false;
+  test = test;
+  path = record { start = 0; len = 0 };
+}
+
+-- how many of the kept entries are settled
+abbrev pub settledOf : State → ℕ
+settledOf st = st .kept - st .late
 
 -- the model's state that the words are
 abbrev pub stateOf : Bytes → List ℕ → ℕ → State → ModelState
 stateOf text ws index st = record {
-  kept = entriesAt text ws index (st .kept);
+  kept = keptAt text ws index (settledOf st) (st .late);
   test = partIn text (st .test);
   inside = st .inside;
   path = partIn text (st .path);
-  items = itemsAt text ws index (st .kept + 1) (st .items);
+  items = allAt text ws index (st .kept + 1) (st .items) (st .recent);
 }
 
 -- inside, the section's own row has a place; outside, nothing is open
 abbrev pub Opened : Bool → State → Type 0
 Opened true st = st .kept < st .used
-Opened false st = st .items ≡ 0
+Opened false st = st .items + st .recent ≡ 0
 
 -- the words have room for the state
 pub record Space (ws : List ℕ) (index limit : ℕ) (st : State) : Type 0 where
   pub room : Room ws index limit
   pub store : Store ws index (st .used)
+  pub late : st .late ≤ st .kept
   pub kept : st .kept ≤ st .used
   pub most : st .used ≤ limit
 
 -- the words hold the state
 pub record Valid (text ws : List ℕ) (index limit : ℕ) (st : State) : Type 0 where
   pub space : Space ws index limit st
-  pub sections : Sections text ws index (st .used) (st .kept)
-  pub open-items : st .kept < st .used → Open text ws index (st .used) (st .kept + 1) (st .items)
+  pub sections : InParts text ws index (st .used) (settledOf st) (st .late)
+  pub open-items : st .kept < st .used → Parted text ws index (st .used) (index + limit) (st .kept + 1) (st .items) (st .recent)
   pub opened : Opened (st .inside) st
   pub test : PartInside text (st .test)
   pub path : PartInside text (st .path)
@@ -96,3 +113,10 @@ pub record StepOf (text ws′ : List ℕ) (index limit : ℕ) (answer : Answer M
 -- the step is an effect on the state that the words ws hold, and the words ws′ hold what comes of it
 abbrev pub StepBy : (ModelState → Answer ModelState) → List ℕ → List ℕ → List ℕ → ℕ → ℕ → State → Step → Type 0
 StepBy effect text ws ws′ index limit st r = StepOf text ws′ index limit (counted limit (effect (stateOf text ws index st))) r
+
+-- ---- the end of the text
+
+-- the kept entries are the first rows, in order
+pub record AllSettled (text ws ws′ : List ℕ) (index : ℕ) (st : State) : Type 0 where
+  pub entries : entriesAt text ws′ index (st .kept) ≡ stateOf text ws index st .kept
+  pub sections : Sections text ws′ index (st .used) (st .kept)

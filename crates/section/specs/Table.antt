@@ -3,7 +3,7 @@ use Prim.Native.Nat.{ℕ, _≤_, _<_}
 use mathlib.Core.List.{List}
 use Rattle.store.specs.Store.{row, Store}
 use Rattle.model.specs.Valid.{Valid}
-use Rattle.section.specs.Sections.{entriesAt, Whole}
+use Rattle.closing.specs.Sections.{entriesAt, Whole}
 
 -- the first n of the used rows are the report `entriesAt text ws index n`
 pub record Table (text ws : List ℕ) (index used n : ℕ) : Type 0 where

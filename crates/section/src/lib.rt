@@ -1,7 +1,9 @@
 // One text read section by section (document 01, "Sections"): the state between two lines, and what a record does to it. Each step
 // answers the model's next state, read back from the words, or the fault; entries are counted after the record took effect.
-pub mod closing;
-
+use closing::late::close;
+use closing::late::settle;
+use entering::Entered;
+use entering::enter;
 use model::Fault;
 use model::Part;
 use store::Row;
@@ -12,14 +14,17 @@ ghost use Rattle.model.specs.Record.{testName, sourceFile, endOfRecord};
 ghost use Rattle.model.specs.Reading.{outside, enterItem, effect};
 ghost use Rattle.store.specs.Store.{Store};
 ghost use Rattle.items.specs.Items.{partIn, PartInside, itemOf, Inner};
-ghost use Rattle.items.specs.Entering.{Adds, combineOf};
-ghost use Rattle.section.specs.Reading.{Room, Ready, insideOf, outsideOf, stateOf, Space, Valid, StepBy};
+ghost use Rattle.items.specs.Combining.{Adds, combineOf};
+ghost use Rattle.section.specs.Reading.{Room, Ready, insideOf, outsideOf, stateOf, Space, Valid, StepBy, AllSettled};
 
-// How many entries are kept, how many rows are in use, and how many items the open section has; the last test name and path.
+// How many entries are kept, and how many of them are late ones behind the settled; how many rows are in use; how many items of the open
+// section are settled and how many recent; the last test name and path.
 pub struct State {
     pub kept: usize,
+    pub late: usize,
     pub used: usize,
     pub items: usize,
+    pub recent: usize,
     pub inside: bool,
     pub test: Part,
     pub path: Part,
@@ -31,14 +36,16 @@ pub enum Step {
 }
 
 // A section is open.
-fn inside(state: State, used: usize, items: usize, path: Part) -> State
-    ensures { λ r. ⌜ r ≡ insideOf state used items path ⌝ }
+fn inside(state: State, used: usize, items: usize, recent: usize, path: Part) -> State
+    ensures { λ r. ⌜ r ≡ insideOf state used items recent path ⌝ }
 {
     let test = state.test;
     State {
         kept: state.kept,
+        late: state.late,
         used: used,
         items: items,
+        recent: recent,
         inside: true,
         test: test,
         path: path,
@@ -46,14 +53,16 @@ fn inside(state: State, used: usize, items: usize, path: Part) -> State
 }
 
 // No section is open.
-fn outside(kept: usize, used: usize, test: Part) -> State
-    ensures { λ r. ⌜ r ≡ outsideOf kept used test ⌝ }
+fn outside(kept: usize, late: usize, used: usize, test: Part) -> State
+    ensures { λ r. ⌜ r ≡ outsideOf kept late used test ⌝ }
 {
     let none = Part { start: 0, len: 0 };
     State {
         kept: kept,
+        late: late,
         used: used,
         items: 0,
+        recent: 0,
         inside: false,
         test: test,
         path: none,
@@ -66,7 +75,7 @@ pub fn start() -> State
     ensures state { λ r. ⌜ ((text words : List ℕ) (index : ℕ) → stateOf text words index r ≡ outside [] []) ⌝ }
 {
     let none = Part { start: 0, len: 0 };
-    outside(0, 0, none)
+    outside(0, 0, 0, none)
 }
 
 // One row more, if all are in use up to `place` and the limit allows it. Answers the number of rows in use.
@@ -99,17 +108,19 @@ pub fn enter_line(
 {
     let kept = state.kept;
     let n = state.items;
+    let p = state.recent;
     let path = state.path;
     let own = ready(words, index, state.used, limit, kept);
     if own <= kept {
         return Step::Refused(Fault::TooManyEntries);
     }
-    let used = ready(words, index, own, limit, kept + 1 + n);
-    match items::enter(text, words, index, used, kept + 1, n, row, adds) {
-        items::Entered::Items(m) => {
-            return Step::Next(inside(state, used, m, path));
+    let used = ready(words, index, own, limit, kept + 1 + n + p);
+    let spare = index + limit;
+    match enter(text, words, index, used, spare, kept + 1, n, p, row, adds) {
+        Entered::Items(settled, recent) => {
+            return Step::Next(inside(state, used, settled, recent, path));
         }
-        items::Entered::Refused(fault) => {
+        Entered::Refused(fault) => {
             return Step::Refused(fault);
         }
     }
@@ -123,7 +134,7 @@ pub fn test_line(state: State, name: Part) -> Step
     if inside {
         return Step::Refused(Fault::UnexpectedRecord);
     }
-    Step::Next(outside(state.kept, state.used, name))
+    Step::Next(outside(state.kept, state.late, state.used, name))
 }
 
 // SF, and the found and hit lines, which open the section and keep its path.
@@ -136,19 +147,25 @@ pub fn open_line(words: &mut [u64], index: usize, limit: usize, state: State, pa
     if used <= kept {
         return Step::Refused(Fault::TooManyEntries);
     }
-    Step::Next(inside(state, used, state.items, path))
+    Step::Next(inside(state, used, state.items, state.recent, path))
 }
 
-// end_of_record: the open section is kept, unless nothing is in it.
+// end_of_record: the open section is kept, its recent items among the settled, unless nothing is in it.
 pub fn end_line(text: &[u8], words: &mut [u64], index: usize, limit: usize, state: State) -> Step
     requires { ⌜ Valid (now text) (now words) index limit state ⌝ }
     ensures { λ r. ⌜ StepBy (effect endOfRecord) (now (text .entry)) (now (words .entry)) (now (words .exit)) index limit state r ⌝ }
 {
     let none = Part { start: 0, len: 0 };
     let n = state.items;
-    if n == 0 {
-        return Step::Next(outside(state.kept, state.used, none));
+    let p = state.recent;
+    let kept = state.kept;
+    let late = state.late;
+    let used = state.used;
+    if n + p == 0 {
+        return Step::Next(outside(kept, late, used, none));
     }
+    let spare = index + limit;
+    weaving::weave(words, index, used, kept + 1, n, p, spare);
     let test = state.test;
     let path = state.path;
     let key = Row {
@@ -162,15 +179,28 @@ pub fn end_line(text: &[u8], words: &mut [u64], index: usize, limit: usize, stat
         k3: 0,
         count: 0,
     };
-    let kept = closing::close(
+    let after = close(
         text,
         words,
         index,
-        state.used,
-        index + limit,
-        state.kept,
-        n,
+        used,
+        spare,
+        kept - late,
+        late,
+        n + p,
         key,
     );
-    Step::Next(outside(kept, state.used, none))
+    Step::Next(outside(after.settled + after.late, after.late, used, none))
+}
+
+// The end of the text: all kept entries are settled.
+pub fn settle_late(text: &[u8], words: &mut [u64], index: usize, limit: usize, state: State)
+    requires { ⌜ Valid (now text) (now words) index limit state ⌝ }
+    ensures { λ _. ⌜ AllSettled (now (text .entry)) (now (words .entry)) (now (words .exit)) index state ⌝ }
+{
+    let kept = state.kept;
+    let late = state.late;
+    let used = state.used;
+    let spare = index + limit;
+    settle(text, words, index, used, spare, kept - late, late);
 }

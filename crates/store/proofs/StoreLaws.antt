@@ -19,6 +19,25 @@ renumbered : {ws ws′ : List ℕ} {index used lo hi : ℕ} → Store ws index u
 unfolding row
 renumbered {ws} {ws′} {index} σ κ h k m l e = ap (rowAt ws′) e ∙ same-row κ (number ws index m) (omega (arith, σ .numbers .below m l, σ .rows-end))
 
+-- ---- words behind the index are written
+
+module _ {ws ws′ : List ℕ} {index used lo hi : ℕ} (σ : Store ws index used) (κ : Kept ws ws′ lo hi) (h : index + used ≤ lo) where
+  behind : (k : ℕ) → k < used → number ws′ index k ≡ number ws index k
+  behind k l = κ .below (index + k) (omega arith)
+
+  pub behind-store : length ws′ ≡ length ws → Store ws′ index used
+  behind-store e = record {
+    rows-end = σ .rows-end;
+    index-end = omega (arith, σ .index-end);
+    numbers = record {
+      below = λ k p. rw (behind k p) (σ .numbers .below k p);
+      once = λ k m p q x. σ .numbers .once k m p q (sym (behind k p) ∙ x ∙ behind m q);
+    };
+  }
+
+  pub behind-rows : Same (row ws index) (row ws′ index) 0 used
+  behind-rows k l p = renumbered σ κ (omega arith) k k p (behind k p)
+
 -- ---- one more number at the end
 
 module _ {ws : List ℕ} (index used : ℕ) (σ : Store ws index used) (h : (used + 1) * row-words ≤ index) (l : index + used < length ws) where
@@ -47,11 +66,11 @@ module _ {ws : List ℕ} (index used : ℕ) (σ : Store ws index used) (h : (use
     };
   }
 
+  pub grown-kept : Kept ws (set ws (index + used) used) (index + used) (index + used + 1)
+  grown-kept = record { below = λ j i. getD-set-other ws (index + used) j used 0 (omega arith); above = λ j i. getD-set-other ws (index + used) j used 0 (omega arith) }
+
   pub grown-rows : Same (row ws index) (row (set ws (index + used) used) index) 0 used
-  grown-rows k p q = renumbered σ kept (omega arith) k k q (older k q)
-    where
-      kept : Kept ws (set ws (index + used) used) (index + used) (index + used + 1)
-      kept = record { below = λ j i. getD-set-other ws (index + used) j used 0 (omega arith); above = λ j i. getD-set-other ws (index + used) j used 0 (omega arith) }
+  grown-rows k p q = renumbered σ grown-kept (omega arith) k k q (older k q)
 
 -- ---- a row is written, and the numbers stay
 

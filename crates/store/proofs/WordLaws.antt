@@ -11,6 +11,10 @@ use Rattle.store.specs.declared.Row.{Row}
 use Rattle.store.specs.Rows.{row-words, word, wordsOf, rowFrom, rowAt, Kept, Moved, Written}
 use Rattle.store.proofs.PlaceLaws.{by-eq, by-lt}
 
+-- what is kept outside some words is kept outside more
+pub kept-wider : {ws ws′ : List ℕ} {lo hi lo′ hi′ : ℕ} → Kept ws ws′ lo hi → lo′ ≤ lo → hi ≤ hi′ → Kept ws ws′ lo′ hi′
+kept-wider κ l h = record { below = λ j p. κ .below j (omega arith); above = λ j p. κ .above j (omega arith) }
+
 -- ---- words that are moved
 
 pub moved-none : (ws : List ℕ) (from to : ℕ) → Moved ws ws from to 0

@@ -1,12 +1,13 @@
 // Rows in a lent slice of words, and an index of row numbers that says their order: "`BTreeMap` becomes sorted entries in scratch"
 // (document 01). Row j starts at word j * ROW_WORDS. The index starts at word `index`, past the rows, and its first `used` words are
-// the row numbers below `used`, each once. So a row changes its place by moving words of the index, and rows never move.
+// the row numbers below `used`, each once. So a row changes its place by moving words of the index, and rows never move. Words behind
+// these are spare: `grow`, `put` and `bring` leave them as they are.
 ghost use mathlib.Core.Path.{_≡_};
 ghost use mathlib.Core.Logic.{_⊎_};
 ghost use Prim.Native.Nat.{_+_, _*_, _≤_, _<_};
 ghost use lib.ListN.{length};
 ghost use Rattle.store.specs.Places.{Same, Put, Brought, Turned};
-ghost use Rattle.store.specs.Rows.{row-words, rowAt, Moved, Written};
+ghost use Rattle.store.specs.Rows.{row-words, rowAt, Kept, Moved, Written};
 ghost use Rattle.store.specs.Store.{Store, row};
 
 // The words of a row: `row-words` in specs/Rows.antt.
@@ -97,6 +98,7 @@ pub fn grow(words: &mut [u64], index: usize, used: usize)
     requires { ⌜ Store (now words) index used × ((used + 1) * row-words ≤ index) × (index + used < length (now words)) ⌝ }
     ensures store { λ _. ⌜ Store (now (words .exit)) index (used + 1) ⌝ }
     ensures rows { λ _. ⌜ Same (row (now (words .entry)) index) (row (now (words .exit)) index) 0 used ⌝ }
+    ensures spare { λ _. ⌜ Kept (now (words .entry)) (now (words .exit)) 0 (index + used + 1) ⌝ }
 {
     words[index + used] = used as u64;
 }
@@ -106,6 +108,7 @@ pub fn put(words: &mut [u64], index: usize, used: usize, i: usize, new: Row)
     requires { ⌜ Store (now words) index used × (i < used) ⌝ }
     ensures store { λ _. ⌜ Store (now (words .exit)) index used ⌝ }
     ensures rows { λ _. ⌜ Put (row (now (words .entry)) index) (row (now (words .exit)) index) used i new ⌝ }
+    ensures spare { λ _. ⌜ Kept (now (words .entry)) (now (words .exit)) 0 (index + used) ⌝ }
 {
     let j = words[index + i] as usize;
     write_row(words, j, new);
@@ -116,6 +119,7 @@ pub fn bring(words: &mut [u64], index: usize, used: usize, to: usize, from: usiz
     requires { ⌜ Store (now words) index used × (to ≤ from) × (from < used) ⌝ }
     ensures store { λ _. ⌜ Store (now (words .exit)) index used ⌝ }
     ensures rows { λ _. ⌜ Brought (row (now (words .entry)) index) (row (now (words .exit)) index) used to from 1 ⌝ }
+    ensures spare { λ _. ⌜ Kept (now (words .entry)) (now (words .exit)) 0 (index + used) ⌝ }
 {
     let number = words[index + from];
     move_up(words, index + to, index + to + 1, from - to);

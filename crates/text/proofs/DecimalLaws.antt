@@ -16,6 +16,7 @@ use Rattle.model.specs.Number.{decimal, decimalDigits}
 use Rattle.model.proofs.NumberLaws.{decimalDigits-small, decimalDigits-large}
 use Rattle.model.specs.Output.{written, outputAfter}
 use Rattle.text.specs.Put.{putLen, over}
+use Rattle.text.proofs.ByteLaws.{drop-next}
 use Rattle.text.proofs.PutLaws.{short-len, short-out, fits-len, fits-out}
 
 -- the last k digits of n
@@ -155,3 +156,121 @@ module _ (v n : ℕ) (old : Bytes) (is : n ≡ length (decimal v)) where
 
   pub digits-len : n ≤ length old → n ≡ putLen (written (length old) (decimal v))
   digits-len h = fits-len (decimal v) old n (omega arith) is
+
+-- ---- digits written from the front
+
+-- one more digit than there is changes nothing
+more-fuel : (k v : ℕ) → v < 10 ^ suc k → decimalDigits (suc k) v ≡ decimalDigits (suc (suc k)) v
+more-fuel zero v h = decimalDigits-small 0 v h ∙ sym (decimalDigits-small 1 v h)
+more-fuel (suc k) v h = go (ltb v 10) refl (more-fuel k (v / 10) (div-lt-iff-lt-mul (lit≤ tt) .1 (rw pow-suc at h)))
+  where
+    go : (d : Bool) → ltb v 10 ≡ d → decimalDigits (suc k) (v / 10) ≡ decimalDigits (suc (suc k)) (v / 10) → decimalDigits (suc (suc k)) v ≡ decimalDigits (suc (suc (suc k))) v
+    go true e rest = let h = ltb-true v 10 e in decimalDigits-small (suc k) v h ∙ sym (decimalDigits-small (suc (suc k)) v h)
+    go false e rest =
+        let h = ltb-false v 10 e in
+        decimalDigits-large (suc k) v h ∙ ap (λ (l : Bytes). l ++ ((48 + v % 10) ∷ [])) rest ∙ sym (decimalDigits-large (suc (suc k)) v h)
+
+digits-next : (k v : ℕ) → 10 ≤ v → v < 10 ^ suc (suc k) → decimalDigits (suc (suc k)) v ≡ decimalDigits (suc (suc k)) (v / 10) ++ ((48 + v % 10) ∷ [])
+digits-next k v h b = decimalDigits-large (suc k) v h ∙ ap (λ (l : Bytes). l ++ ((48 + v % 10) ∷ [])) (more-fuel k (v / 10) (div-lt-iff-lt-mul (lit≤ tt) .1 (rw pow-suc at b)))
+
+decimal-next : (v : ℕ) → 10 ≤ v → v < 2 ^ 64 → decimal v ≡ decimal (v / 10) ++ ((48 + v % 10) ∷ [])
+unfolding decimal
+decimal-next v h small = digits-next 18 v h (lt-of-lt-of-le small (lit≤ tt))
+
+-- v stands at the front of an output, n bytes of it
+pub record Shown (v : ℕ) (old out : Bytes) (n : ℕ) : Type 0 where
+  pub long : n ≡ length (decimal v)
+  pub held : out ≡ over (decimal v) old
+
+pub shown-one : (v : ℕ) (old : Bytes) → v < 10 → 0 < length old → Shown v old (set old 0 (48 + v)) 1
+unfolding outputAfter decimal
+shown-one v [] h room = absurd (omega arith)
+shown-one v (b ∷ old) h room = record { long = rw (decimalDigits-small 19 v h); held = rw (decimalDigits-small 19 v h) }
+
+pub shown-next : (v : ℕ) (old out : Bytes) (n : ℕ) → Shown (v / 10) old out n → 10 ≤ v → v < 2 ^ 64 → n < length old → Shown v old (set out n (48 + v % 10)) (n + 1)
+unfolding outputAfter
+shown-next v old out n w h small room =
+    let t : length (decimal (v / 10)) ≡ n = sym (w .long) in
+    let l : length (decimal v) ≡ n + 1 = rw (decimal-next v h small, length-append) (omega arith) in
+    record {
+      long = sym l;
+      held = rw (w .held, t, drop-next 0 old n room, set-at (decimal (v / 10)) _ _ _ n t, l, decimal-next v h small, append-snoc);
+    }
+
+shown-two : (v : ℕ) (old out : Bytes) (n : ℕ) → Shown (v / 100) old out n → 100 ≤ v → v < 2 ^ 64 → n + 2 ≤ length old → Shown v old (set (set out n (48 + v % 100 / 10)) (n + 1) (48 + v % 100 % 10)) (n + 2)
+shown-two v old out n w h small room =
+    let q : v / 10 / 10 ≡ v / 100 = omega arith in
+    let a : v % 100 / 10 ≡ v / 10 % 10 = omega arith in
+    let b : v % 100 % 10 ≡ v % 10 = omega arith in
+    let m : n + 2 ≡ n + 1 + 1 = omega arith in
+    let tens : Shown (v / 10) old (set out n (48 + v / 10 % 10)) (n + 1) = shown-next (v / 10) old out n (rw q w) (omega arith) (omega arith) (omega arith) in
+    rw (a, b, m) (shown-next v old (set out n (48 + v / 10 % 10)) (n + 1) tens (omega arith) small (omega arith))
+
+-- the last four digits are two of v / 100 and two of v
+module _ (v : ℕ) where
+  upper-two : v % 10000 / 100 ≡ v / 100 % 100
+  upper-two = omega arith
+
+  lower-two : v % 10000 % 100 ≡ v % 100
+  lower-two = omega arith
+
+  hundredths : v / 100 / 100 ≡ v / 10000
+  hundredths = omega arith
+
+shown-four : (v : ℕ) (old out : Bytes) (n : ℕ) → Shown (v / 10000) old out n → 10000 ≤ v → v < 2 ^ 64 → n + 4 ≤ length old → Shown v old (set (set (set (set out n (48 + v % 10000 / 100 / 10)) (n + 1) (48 + v % 10000 / 100 % 10)) (n + 2) (48 + v % 10000 % 100 / 10)) (n + 3) (48 + v % 10000 % 100 % 10)) (n + 4)
+shown-four v old out n w h small room =
+    let m : n + 3 ≡ n + 2 + 1 = omega arith in
+    let k : n + 4 ≡ n + 2 + 2 = omega arith in
+    let front : Bytes = set (set out n (48 + v / 100 % 100 / 10)) (n + 1) (48 + v / 100 % 100 % 10) in
+    let most : Shown (v / 100) old front (n + 2) = shown-two (v / 100) old out n (rw (hundredths v) w) (omega arith) (omega arith) (omega arith) in
+    rw (upper-two v, lower-two v, m, k) (shown-two v old front (n + 2) most (omega arith) small (omega arith))
+
+length-next : (v n : ℕ) → n ≡ length (decimal (v / 10)) → 10 ≤ v → v < 2 ^ 64 → n + 1 ≡ length (decimal v)
+length-next v n e h small = rw (decimal-next v h small, length-append) (omega arith)
+
+-- up to two digits
+module _ (v : ℕ) where
+  pub one-long : v < 10 → 1 ≡ length (decimal v)
+  unfolding decimal
+  one-long h = rw (decimalDigits-small 19 v h)
+
+  pub one-out : (old : Bytes) → v < 10 → 2 ≤ length old → set old 0 (48 + v) ≡ over (decimal v) old
+  one-out old h room = shown-one v old h (omega arith) .held
+
+  pair : (old : Bytes) → 10 ≤ v → v < 100 → 2 ≤ length old → Shown v old (set (set old 0 (48 + v / 10)) 1 (48 + v % 10)) 2
+  pair old h b room = shown-next v old (set old 0 (48 + v / 10)) 1 (shown-one (v / 10) old (omega arith) (omega arith)) h (omega arith) (omega arith)
+
+  pub pair-long : 10 ≤ v → v < 100 → 2 ≡ length (decimal v)
+  pair-long h b = pair (0 ∷ 0 ∷ []) h b (lit≤ tt) .long
+
+  pub pair-out : (old : Bytes) → 10 ≤ v → v < 100 → 2 ≤ length old → set (set old 0 (48 + v / 10)) 1 (48 + v % 10) ≡ over (decimal v) old
+  pair-out old h b room = pair old h b room .held
+
+-- two digits after at most two, and four after at most four
+hundred-long : (v n : ℕ) → n ≡ length (decimal (v / 100)) → 100 ≤ v → v < 2 ^ 64 → n + 2 ≡ length (decimal v)
+hundred-long v n e h b =
+    let q : v / 10 / 10 ≡ v / 100 = omega arith in
+    let m : n + 2 ≡ n + 1 + 1 = omega arith in
+    m ∙ length-next v (n + 1) (length-next (v / 10) n (rw q e) (omega arith) (omega arith)) (omega arith) b
+
+pub two-long : (v n : ℕ) → n ≡ length (decimal (v / 100)) → 100 ≤ v → v < 10000 → n + 2 ≡ length (decimal v)
+two-long v n e h b = hundred-long v n e h (omega arith)
+
+pub two-out : (v n : ℕ) (old out : Bytes) → n ≡ length (decimal (v / 100)) → out ≡ over (decimal (v / 100)) old → n ≤ 2 → 100 ≤ v → v < 10000 → 4 ≤ length old → set (set out n (48 + v % 100 / 10)) (n + 1) (48 + v % 100 % 10) ≡ over (decimal v) old
+two-out v n old out e w k h b room = shown-two v old out n (record { long = e; held = w }) h (omega arith) (omega arith) .held
+
+pub four-long : (v n : ℕ) → n ≡ length (decimal (v / 10000)) → 10000 ≤ v → v < 100000000 → n + 4 ≡ length (decimal v)
+four-long v n e h b =
+    let m : n + 4 ≡ n + 2 + 2 = omega arith in
+    m ∙ hundred-long v (n + 2) (hundred-long (v / 100) n (rw (hundredths v) e) (omega arith) (omega arith)) (omega arith) (omega arith)
+
+pub four-out : (v n : ℕ) (old out : Bytes) → n ≡ length (decimal (v / 10000)) → out ≡ over (decimal (v / 10000)) old → n ≤ 4 → 10000 ≤ v → v < 100000000 → 8 ≤ length old → set (set (set (set out n (48 + v % 10000 / 100 / 10)) (n + 1) (48 + v % 10000 / 100 % 10)) (n + 2) (48 + v % 10000 % 100 / 10)) (n + 3) (48 + v % 10000 % 100 % 10) ≡ over (decimal v) old
+four-out v n old out e w k h b room = shown-four v old out n (record { long = e; held = w }) h (omega arith) (omega arith) .held
+
+-- at most eight digits, in an output that holds as many
+module _ (v n : ℕ) (old : Bytes) (is : n ≡ length (decimal v)) where
+  pub eight-len : n ≤ 8 → 8 ≤ length old → n ≡ putLen (written (length old) (decimal v))
+  eight-len k room = fits-len (decimal v) old n (omega arith) is
+
+  pub eight-out : (out : Bytes) → n ≤ 8 → 8 ≤ length old → out ≡ over (decimal v) old → out ≡ outputAfter (written (length old) (decimal v)) old
+  eight-out out k room w = fits-out (decimal v) old out (omega arith) w

@@ -174,8 +174,8 @@ module _ {R E K : Type 0} (key : E → K) (cmp : K → K → Ordering) (combine 
 module _ {A E : Type 0} {f g : ℕ → A} (read : A → E) {place : ℕ → ℕ} {used at n p : ℕ} (ω : Woven f g place used at n p) {x y z : ℕ → E}
     (olds : (i : ℕ) → i < n → x i ≡ read (f (at + i))) (news : (j : ℕ) → j < p → y j ≡ read (f (at + n + j)))
     (reads : (k : ℕ) → k < n + p → z k ≡ read (g (at + k))) where
-  module _ {R K : Type 0} (key : E → K) (cmp : K → K → Ordering) (combine : E → E → Result R E) (L : Order cmp) (C : Keyed key cmp combine)
-      (σ : Seats key cmp x y place n p) (ρ : Rising place n p) (s : Sorted key cmp (listed x n)) (t : Sorted key cmp (listed y p)) where
+  module _ {R K : Type 0} (key : E → K) (cmp : K → K → Ordering) (combine : E → E → Result R E) (L : Order cmp) (σ : Seats key cmp x y place n p)
+      (ρ : Rising place n p) where
     mixed : Mixed key cmp x y z place n p
     mixed = record {
       seats = σ;
@@ -190,9 +190,15 @@ module _ {A E : Type 0} {f g : ℕ → A} (read : A → E) {place : ℕ → ℕ}
           ∙ sym (olds i l);
     }
 
+    -- what stands there is one pass over both
+    pub woven-pass : onePass key cmp combine (listed x n) (listed y p) ≡ accepted (listed z (n + p))
+    woven-pass = mixed-pass key cmp combine L x y z place n p mixed
+
+  module _ {R K : Type 0} (key : E → K) (cmp : K → K → Ordering) (combine : E → E → Result R E) (L : Order cmp) (C : Keyed key cmp combine)
+      (σ : Seats key cmp x y place n p) (ρ : Rising place n p) (s : Sorted key cmp (listed x n)) (t : Sorted key cmp (listed y p)) where
     -- what stands there is the map with all of the p added
     pub woven-adds : addAll key cmp combine (listed y p) (listed x n) ≡ accepted (listed z (n + p))
-    woven-adds = sym (onePass-adds key cmp combine L C (listed x n) (listed y p) s t) ∙ mixed-pass key cmp combine L x y z place n p mixed
+    woven-adds = sym (onePass-adds key cmp combine L C (listed x n) (listed y p) s t) ∙ woven-pass key cmp combine L σ ρ
 
     pub woven-sorted : Sorted key cmp (listed z (n + p))
     woven-sorted = addAll-sorted key cmp combine L C (listed y p) (listed x n) (listed z (n + p)) s woven-adds

@@ -153,6 +153,41 @@ module _ {A : Type 0} {f g : ℕ → A} {place : ℕ → ℕ} {used at n p : ℕ
       go : From k → P (g k)
       go (m, a, b, s, e) = rw e (each m b a)
 
+-- what holds of each two of the n, each two of the p and one of each, in order, holds of each two after
+module _ {A : Type 0} {f g : ℕ → A} {place : ℕ → ℕ} {used at n p : ℕ} (ρ : Rising place n p) (ω : Woven f g place used at n p) (R : A → A → Type 0)
+    (olds : (i j : ℕ) → i < j → j < n → R (f (at + i)) (f (at + j))) (news : (i j : ℕ) → i < j → j < p → R (f (at + n + i)) (f (at + n + j)))
+    (past : (i j : ℕ) → j < p → i < place j → R (f (at + i)) (f (at + n + j)))
+    (rest : (i j : ℕ) → j < p → place j ≤ i → i < n → R (f (at + n + j)) (f (at + i))) where
+  pub woven-pairs : (k l : ℕ) → k < l → l < n + p → R (g (at + k)) (g (at + l))
+  woven-pairs k l h m = go (spread place n p k ρ (omega arith)) (spread place n p l ρ m)
+    where
+      there : (j : ℕ) → j < p → (t : ℕ) → t ≡ place j + j → g (at + t) ≡ f (at + n + j)
+      there j a t e = ap g (let z : at + t ≡ at + place j + j = omega arith in z) ∙ ω .new j a
+
+      still : (i c : ℕ) → i < n → Rank place p i c → (t : ℕ) → t ≡ i + c → g (at + t) ≡ f (at + i)
+      still i c a r t e = ap g (let z : at + t ≡ at + i + c = omega arith in z) ∙ ω .old i c a r
+
+      -- of two places that rise, the later is that of a later one
+      later : (i j : ℕ) → i < p → place i + i < place j + j → i < j
+      later i j a e = by-lt i j (λ z. z) (λ z. absurd (omega (arith, ρ .rising j i z a)))
+
+      ranks : (i j c d : ℕ) → Rank place p i c → Rank place p j d → i + c < j + d → i < j
+      ranks i j c d r s e = by-lt i j (λ z. z) (λ z. by-lt c d
+          (λ y. absurd (omega (arith, s .past c y, r .rest c (omega arith) (omega (arith, s .most)))))
+          (λ y. absurd (omega arith)))
+
+      before : (i j c : ℕ) → j < p → Rank place p i c → place j + j < i + c → place j ≤ i
+      before i j c a r e = by-lt j c (λ z. r .past j z) (λ z. absurd (omega (arith, r .rest j z a)))
+
+      behind : (i j c : ℕ) → j < p → Rank place p i c → i + c < place j + j → i < place j
+      behind i j c a r e = by-lt j c (λ z. absurd (omega (arith, r .past j z))) (λ z. r .rest j z a)
+
+      go : Spread place n p k → Spread place n p l → R (g (at + k)) (g (at + l))
+      go (new i a d) (new j b e) = rw (there i a k d, there j b l e) (news i j (later i j a (omega arith)) b)
+      go (new i a d) (old j c b r e) = rw (there i a k d, still j c b r l e) (rest j i a (before j i c a r (omega arith)) b)
+      go (old i c a r d) (new j b e) = rw (still i c a r k d, there j b l e) (past i j b (behind i j c b r (omega arith)))
+      go (old i c a r d) (old j x b s e) = rw (still i c a r k d, still j x b s l e) (olds i j (ranks i j c x r s (omega arith)) b)
+
 -- numbers that are woven are an index still
 pub woven-index : {f g : ℕ → ℕ} {place : ℕ → ℕ} {used at n p : ℕ} → Rising place n p → at + n + p ≤ used → Woven f g place used at n p
     → Index f used → Index g used

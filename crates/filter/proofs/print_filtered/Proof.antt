@@ -10,7 +10,7 @@ use Rattle.model.specs.Report.{Report}
 use Rattle.model.specs.Tags.{defaultTag}
 use Rattle.model.specs.Printing.{sections, printSections}
 use Rattle.model.specs.Filter.{filterSection}
-use Rattle.section.specs.Sections.{entriesAt}
+use Rattle.closing.specs.Sections.{entriesAt}
 use Rattle.line_num.specs.Pairs.{rangesIn}
 use Rattle.printing.specs.Printing.{Spacious}
 use Rattle.printing.proofs.TableLaws.{spacious-kept}

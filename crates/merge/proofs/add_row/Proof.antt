@@ -7,7 +7,7 @@ use denote.Ref.{now}
 use Rattle.store.specs.declared.Row.{Row}
 use Rattle.items.specs.declared.Found.{Found}
 use Rattle.items.specs.declared.Found.the-variants.{At, Insert}
-use Rattle.section.specs.Sections.{entryOf}
+use Rattle.closing.specs.Sections.{entryOf}
 use Rattle.merge.specs.Placing.{compareEntries, Seated}
 use Rattle.merge.proofs.PlaceLaws.{whole-as}
 use Rattle.merge.proofs.AddLaws.{same-kind, seated-as, joins-as, added-refused, added-known, room, added-grown}
@@ -89,7 +89,7 @@ add-row-spec =
     let both = c .before .before .before .before .before .both .given in
     let p = c .before .before .put in
     added-known (s .args .mode) (s .pre .0) (i a) (known a) (both .0 .0)
-    (joins-as (m .before .get .ensures) (both .1) (m .join-rows .ensures)) (p .ensures .0) (p .ensures .1) (p .kept .0))
+    (joins-as (m .before .get .ensures) (both .1) (m .join-rows .ensures)) (p .ensures .0) (p .ensures .1 .0) (p .kept .0))
     (λ c. search needs)
     (λ c. search needs)
     (λ c. let m = c .before .before .before in

@@ -5,7 +5,7 @@ use denote.Ref.{now}
 use mathlib.Core.Path.{ap}
 use Rattle.model.specs.Tags.{defaultTag}
 use Rattle.model.specs.Printing.{printReport}
-use Rattle.section.specs.Sections.{entriesAt}
+use Rattle.closing.specs.Sections.{entriesAt}
 use Rattle.printing.specs.Printing.{printedFrom, Spacious}
 use Rattle.printing.proofs.TableLaws.{spacious-kept}
 use Rattle.printing.proofs.LoopLaws.{report-prints, entries-all, Measured, short-answer, short-out, second-room, written-answer, written-out}

@@ -9,4 +9,6 @@ ended-spec =
     (tie.spec
     (λ c κs. search needs)
     (λ c. search (ended-inside, needs))
+    (λ c κs. search needs)
+    (λ c. search needs)
     (λ c. search (ended-outside, needs)))

@@ -1,4 +1,4 @@
--- `section::enter_line` meets its contract: rows are made ready, and the answer of `items::enter` is the step's. Assumes nothing.
+-- `section::enter_line` meets its contract: rows are made ready, and the answer of `entering::enter` is the step's. Assumes nothing.
 use Prim.Native.Nat.{_+_, _≤_, _<_, _^_}
 use native.Mathlib.Omega.{arith}
 use lib.ListN.{length}
@@ -18,10 +18,10 @@ own e = e .before .before .before
 -- room for the open section, as far as `omega` needs it
 record Places (e : tie.Else1) : Type 0 where
   kept : start (own e) .args .state .kept < own e .ready .result
-  items : start (own e) .args .state .kept + 1 + start (own e) .args .state .items ≤ own e .ready .result
+  items : start (own e) .args .state .kept + 1 + start (own e) .args .state .items + start (own e) .args .state .recent ≤ own e .ready .result
   most : own e .ready .result ≤ start (own e) .args .limit
-  words : start (own e) .args .index + start (own e) .args .limit + start (own e) .args .limit ≤ length (now (start (own e) .args .words))
-  fits : start (own e) .args .index + start (own e) .args .limit + start (own e) .args .limit < 2 ^ 64
+  words : start (own e) .args .index + start (own e) .args .limit + start (own e) .args .limit + start (own e) .args .limit ≤ length (now (start (own e) .args .words))
+  fits : start (own e) .args .index + start (own e) .args .limit + start (own e) .args .limit + start (own e) .args .limit < 2 ^ 64
 
 places : (e : tie.Else1) → Places e
 places e =
@@ -51,14 +51,19 @@ enter-line-spec =
     entered-none (start y .pre .0) (start y .args .row) (start y .args .adds) (y .ready .ensures) (omega arith))
     (λ c. search needs)
     (λ c. let p = places (c .before) in omega arith)
+    (λ c. let p = places (c .before) in omega arith)
     (λ c κs. let y = own (c .before) in
     let p = places (c .before) in
     (y .ready .ensures .store, record { rows = start y .pre .0 .space .room .rows; words = omega (arith, y .ready .kept .0) }, p .most, p .items))
     (λ c. search needs)
+    (λ c. search needs)
     (λ c κs. let z = c .before .before .before in
     let e = free z in
     let y = own e in
-    (line-open (start y .pre .0) (y .ready .ensures) (y .ready .kept .0) (places e .kept) (z .ready2 .ensures) (z .ready2 .kept .0), start y .pre .1, start y .pre .2))
+    let p = places e in (
+      (line-open (start y .pre .0) (y .ready .ensures) (y .ready .kept .0) (p .kept) (z .ready2 .ensures) (z .ready2 .kept .0), start y .pre .1, start y .pre .2),
+      (omega (arith, z .ready2 .ensures .most), omega (arith, z .ready2 .ensures .most, z .ready2 .kept .0, y .ready .kept .0)),
+    ))
     (λ c. search needs)
     (λ c κs. search needs)
     (λ c. search needs)
@@ -70,7 +75,7 @@ enter-line-spec =
     let s = start y in
     next-as (c .inside .ensures)
     (line-next (s .pre .0) (y .ready .ensures) (y .ready .kept .0) (places e .kept) (z .ready2 .ensures) (z .ready2 .kept .0) (s .args .row) (s .args .adds)
-    (m .m .given .0 .0) (entering-as (m .m .given .1) (n .enter .ensures)) (n .enter .kept .1 .0)))
+    (m .settled .given .0 .0) (m .settled .given .0 .1 .0) (entering-as (m .settled .given .1) (n .enter .ensures)) (n .enter .kept .1 .0)))
     (λ c. search needs)
     (λ c. search needs)
     (λ c. let m = c .before in

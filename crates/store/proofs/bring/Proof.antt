@@ -2,6 +2,7 @@
 use native.Mathlib.Omega.{arith}
 use lib.ListN.{length-set}
 use borrow.Author.Needs.{needs}
+use Rattle.store.proofs.WordLaws.{kept-wider}
 use Rattle.store.proofs.StoreLaws.{brought-store, brought-rows, one-kept, one-brought}
 use Rattle.store.proofs.bring.Statement.{statement}
 use Rattle.store.proofs.bring.Tie as tie
@@ -26,4 +27,5 @@ bring-spec =
     let m = c .before .before .move-up in
     let h = s .pre .1 in
     let β = one-brought _ _ _ h (omega arith) (m .kept .0) (m .ensures) (s .args .used) in
-    (brought-store (s .pre .0) h (omega arith) β (simp length-set (m .kept .0)), brought-rows (s .pre .0) h (omega arith) β (one-kept _ _ _ h (omega arith) (m .kept .0) (m .ensures)))))
+    let κ = one-kept _ _ _ h (omega arith) (m .kept .0) (m .ensures) in
+    (brought-store (s .pre .0) h (omega arith) β (simp length-set (m .kept .0)), (brought-rows (s .pre .0) h (omega arith) β κ, kept-wider κ (omega arith) (omega arith)))))

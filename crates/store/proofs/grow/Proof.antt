@@ -1,6 +1,8 @@
 -- `store::grow` meets its contract. Assumes nothing.
+use native.Mathlib.Omega.{arith}
 use borrow.Author.Needs.{needs}
-use Rattle.store.proofs.StoreLaws.{grown, grown-rows}
+use Rattle.store.proofs.WordLaws.{kept-wider}
+use Rattle.store.proofs.StoreLaws.{grown, grown-kept, grown-rows}
 use Rattle.store.proofs.grow.Statement.{statement}
 use Rattle.store.proofs.grow.Tie as tie
 
@@ -12,4 +14,7 @@ grow-spec =
     (λ c. search needs)
     (λ c. search needs)
     (λ c. search needs)
-    (λ c. (grown _ _ (c .pre .0) (c .pre .1) (c .pre .2), grown-rows _ _ (c .pre .0) (c .pre .1) (c .pre .2))))
+    (λ c. (
+      grown _ _ (c .pre .0) (c .pre .1) (c .pre .2),
+      (grown-rows _ _ (c .pre .0) (c .pre .1) (c .pre .2), kept-wider (grown-kept _ _ (c .pre .0) (c .pre .1) (c .pre .2)) (omega arith) (omega arith)),
+    )))

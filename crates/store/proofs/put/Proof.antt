@@ -1,6 +1,7 @@
 -- `store::put` meets its contract. Assumes nothing.
 use native.Mathlib.Omega.{arith}
 use borrow.Author.Needs.{needs}
+use Rattle.store.proofs.WordLaws.{kept-wider}
 use Rattle.store.proofs.StoreLaws.{put-store, put-row}
 use Rattle.store.proofs.put.Statement.{statement}
 use Rattle.store.proofs.put.Tie as tie
@@ -16,5 +17,7 @@ put-spec =
     omega (arith, s .pre .0 .numbers .below _ (s .pre .1)))
     (λ c. search needs)
     (λ c. let s = c .before .before .before .before .before .before in
-    let w = c .before .before .write-row in
-    (put-store (s .pre .0) (s .pre .1) (w .ensures) (w .kept .0), put-row (s .pre .0) (s .pre .1) (w .ensures))))
+    let w = c .before .before .write-row in (
+      put-store (s .pre .0) (s .pre .1) (w .ensures) (w .kept .0),
+      (put-row (s .pre .0) (s .pre .1) (w .ensures), kept-wider (w .ensures .kept) (omega arith) (omega (arith, s .pre .0 .numbers .below _ (s .pre .1), s .pre .0 .rows-end))),
+    )))

@@ -1,0 +1,103 @@
+-- A section put among others, as the model keeps it. Assumes nothing.
+use mathlib.Core.Path.{_≡_, sym, ap, ap₂, _∙_}
+use mathlib.Core.Logic.{_≢_}
+use mathlib.Core.List.{List, _∷_, _++_, map}
+use Prim.Native.Nat.{ℕ, suc, _+_, _-_, _<_, Ordering·lt, Ordering·eq, Ordering·gt}
+use native.Mathlib.Omega.{arith}
+use Rattle.store.specs.declared.Row.{Row}
+use Rattle.store.specs.Places.{listed}
+use Rattle.store.proofs.ListedLaws.{length-listed, listed-cong, listed-three, map-listed}
+use Rattle.model.specs.Bytes.{Bytes}
+use Rattle.model.specs.Report.{Item, sectionItem, Entry, Report, SectionKey, inSection}
+use Rattle.model.specs.Reading.{spellingOf, keepSection, replaceSection}
+use Rattle.items.specs.Items.{itemOf, Inner}
+use Rattle.closing.specs.Sections.{testOf, pathOf, entryOf, keyOf, Named, Ordered, IsRun}
+use Rattle.closing.specs.Closing.{Spliced}
+use Rattle.closing.proofs.RunLaws.{run-before, run-in, run-behind, run-ends}
+use Rattle.closing.proofs.OwnLaws.{item-kept, runAt, own-entry}
+use Rattle.closing.proofs.ReplaceLaws.{all-listed, Compared, replaced, keep-some}
+use Rattle.closing.proofs.SpliceLaws.{spliced-keys, spliced-ordered}
+
+-- ---- the entries as three parts, by a key
+
+abbrev pub lowerAt : Bytes → (ℕ → Row) → ℕ → Report
+lowerAt text f lo = listed (λ k. entryOf text (f k)) lo
+
+abbrev pub higherAt : Bytes → (ℕ → Row) → ℕ → ℕ → ℕ → Report
+higherAt text f m lo hi = listed (λ k. entryOf text (f (lo + (hi - lo + k)))) (m - hi)
+
+module _ {text : Bytes} {f : ℕ → Row} {m lo hi : ℕ} {key : SectionKey} (ρ : IsRun text f m key lo hi) where
+  pub parts : listed (λ k. entryOf text (f k)) m ≡ lowerAt text f lo ++ (runAt text f lo hi ++ higherAt text f m lo hi)
+  parts =
+      ap (listed (λ k. entryOf text (f k))) (let e : m ≡ lo + (hi - lo + (m - hi)) = omega (arith, run-ends ρ, ρ .high .most) in e)
+      ∙ listed-three (λ k. entryOf text (f k)) lo (hi - lo) (m - hi)
+
+  pub lower-all : Compared key Ordering·gt (lowerAt text f lo)
+  lower-all = all-listed _ (λ k. entryOf text (f k)) lo (λ k l. run-before ρ k l)
+
+  pub run-all : Compared key Ordering·eq (runAt text f lo hi)
+  run-all = all-listed _ (λ k. entryOf text (f (lo + k))) (hi - lo) (λ k l. run-in ρ (lo + k) (omega arith) (omega arith))
+
+  pub higher-all : Compared key Ordering·lt (higherAt text f m lo hi)
+  higher-all =
+      all-listed _ (λ k. entryOf text (f (lo + (hi - lo + k)))) (m - hi)
+      (λ k l. run-behind ρ (lo + (hi - lo + k)) (omega (arith, run-ends ρ)) (omega (arith, run-ends ρ)))
+
+module _ {text : Bytes} {f g : ℕ → Row} {m n lo hi : ℕ} {key : Row} (σ : Ordered text f m) (inner : (k : ℕ) → k < n → Inner text (f (m + 1 + k)))
+    (ν : Named text key) (tag : key .tag ≡ 0) (ρ : IsRun text f m (keyOf text key) lo hi) (ς : Spliced f g m n lo hi key) where
+  -- ---- the entries after
+
+  abbrev G : ℕ → Entry
+  G k = entryOf text (g k)
+
+  abbrev mk : Item → Entry
+  mk = inSection (keyOf text key)
+
+  -- the section's items
+  abbrev pub itemsOf : List Item
+  itemsOf = listed (λ k. itemOf text (f (m + 1 + k))) n
+
+  low-parts : listed G lo ≡ lowerAt text f lo
+  low-parts = listed-cong G (λ k. entryOf text (f k)) lo (λ k l. ap (entryOf text) (ς .low k (omega arith) l))
+
+  item-parts : (k : ℕ) → k < n → G (lo + suc k) ≡ mk (itemOf text (f (m + 1 + k)))
+  item-parts k l =
+      ap (entryOf text) (ς .items (lo + suc k) (m + 1 + k) (omega arith) (omega arith) (omega arith))
+      ∙ ap mk (item-kept text (f (m + 1 + k)) key (omega (arith, inner k l .inner)))
+
+  own-parts : listed (λ k. G (lo + k)) (n + 1) ≡ map mk (sectionItem (spellingOf (pathOf text key) (runAt text f lo hi)) ∷ itemsOf)
+  unfolding listed
+  own-parts =
+      ap (listed (λ k. G (lo + k))) (let e : n + 1 ≡ suc n = omega arith in e)
+      ∙ ap₂ _∷_ (ap G (let e : lo + 0 ≡ lo = omega arith in e) ∙ own-entry σ ν tag ρ (ς .own) .is)
+      (listed-cong (λ k. G (lo + suc k)) (λ k. mk (itemOf text (f (m + 1 + k)))) n item-parts
+      ∙ sym (map-listed mk (λ k. itemOf text (f (m + 1 + k))) n))
+
+  high-parts : listed (λ k. G (lo + (n + 1 + k))) (m - hi) ≡ higherAt text f m lo hi
+  high-parts =
+      listed-cong (λ k. G (lo + (n + 1 + k))) (λ k. entryOf text (f (lo + (hi - lo + k)))) (m - hi)
+      (λ k l. ap (entryOf text) (ς .high (lo + (n + 1 + k)) (lo + (hi - lo + k)) (omega arith) (omega arith) (omega (arith, run-ends ρ))))
+
+  after : listed G (lo + (n + 1) + (m - hi))
+      ≡ lowerAt text f lo ++ (map mk (sectionItem (spellingOf (pathOf text key) (runAt text f lo hi)) ∷ itemsOf) ++ higherAt text f m lo hi)
+  after =
+      ap (listed G) (let e : lo + (n + 1) + (m - hi) ≡ lo + (n + 1 + (m - hi)) = omega arith in e)
+      ∙ listed-three G lo (n + 1) (m - hi) ∙ ap₂ _++_ low-parts (ap₂ _++_ own-parts high-parts)
+
+  -- ---- as the model has them
+
+  pub closed-entries : n ≢ 0 → listed G (lo + (n + 1) + (m - hi)) ≡ keepSection (testOf text key) (pathOf text key) itemsOf
+      (listed (λ k. entryOf text (f k)) m)
+  closed-entries z =
+      after
+      ∙ sym (keep-some (testOf text key) (pathOf text key) itemsOf (listed (λ k. entryOf text (f k)) m) (rw length-listed z)
+      ∙ ap (replaceSection (testOf text key) (pathOf text key) itemsOf) (parts ρ)
+      ∙ replaced (testOf text key) (pathOf text key) itemsOf (lowerAt text f lo) (runAt text f lo hi) (higherAt text f m lo hi) (lower-all ρ)
+      (run-all ρ) (higher-all ρ))
+
+  pub closed-ordered : Ordered text g (lo + (n + 1) + (m - hi))
+  closed-ordered = spliced-ordered σ inner ν ρ (own-entry σ ν tag ρ (ς .own)) ς
+
+  pub closed-keys : (P : SectionKey → Type 0) → ((k : ℕ) → k < m → P (keyOf text (f k))) → P (keyOf text key)
+      → (k : ℕ) → k < lo + (n + 1) + (m - hi) → P (keyOf text (g k))
+  closed-keys = spliced-keys σ inner ν ρ (own-entry σ ν tag ρ (ς .own)) ς

@@ -1,0 +1,162 @@
+-- A section's own row, and rows that get a test name and a path. Assumes nothing.
+use mathlib.Core.Path.{_≡_, refl, sym, ap, _∙_}
+use mathlib.Core.Logic.{_≢_}
+use mathlib.Core.List.{List, _∷_}
+use mathlib.Core.Option.{Option}
+use Prim.Native.Nat.{ℕ, zero, suc, _+_, _-_, _≤_, _<_}
+use native.Mathlib.Nat.{add-zero}
+use native.Mathlib.Omega.{arith}
+use Rattle.store.specs.declared.Row.{Row}
+use Rattle.store.specs.Places.{listed, Put}
+use Rattle.store.specs.Store.{row, Store}
+use Rattle.store.proofs.PlaceLaws.{by-eq, by-lt}
+use Rattle.model.specs.Bytes.{Bytes}
+use Rattle.model.specs.Path.{Path, components}
+use Rattle.model.specs.Report.{Item, sectionItem, functionItem, branchItem, lineItem, Entry, Report, SectionKey, inSection}
+use Rattle.model.specs.Reading.{spellingOf}
+use Rattle.model.proofs.KeyOrder.{sections-order}
+use Rattle.items.specs.Items.{kindOf, byKind, itemOf, Good}
+use Rattle.closing.specs.Sections.{testOf, pathOf, entryOf, keyOf, Named, Whole, Ordered, IsRun}
+use Rattle.closing.specs.Closing.{withSection, Filled, withPath, Own}
+use Rattle.closing.proofs.RunLaws.{run-in}
+
+-- ---- rows that get a test name and a path
+
+pub filled-none : (ws : List ℕ) (index used from : ℕ) (key : Row) → Store ws index used → Filled ws ws index used from 0 key
+filled-none ws index used from key σ = record {
+  store = σ;
+  there = λ k l h. absurd (omega arith);
+  below = λ k l h. refl;
+  above = λ k l h. refl;
+}
+
+pub filled-one : {ws₀ ws ws′ : List ℕ} {index used from i : ℕ} {key r : Row} → Filled ws₀ ws index used from i key → from + i < used
+    → r ≡ withSection (row ws index (from + i)) key → Store ws′ index used → Put (row ws index) (row ws′ index) used (from + i) r
+    → Filled ws₀ ws′ index used from (i + 1) key
+filled-one {ws₀} {ws} {ws′} {index} {used} {from} {i} {key} {r} φ l e σ π = record {
+  store = σ;
+  there = λ k p q. by-eq k (from + i)
+      (λ x. rw x (π .there ∙ e ∙ ap (λ (y : Row). withSection y key) (φ .above (from + i) (omega arith) l)))
+      (λ x. π .others k (omega arith) x ∙ φ .there k p (omega arith));
+  below = λ k p q. π .others k (omega arith) (omega arith) ∙ φ .below k p q;
+  above = λ k p q. π .others k q (omega arith) ∙ φ .above k (omega arith) q;
+}
+
+pub filled-done : {ws₀ ws : List ℕ} {index used from i n : ℕ} {key : Row} → Filled ws₀ ws index used from i key → i ≡ n
+    → Filled ws₀ ws index used from n key
+filled-done φ e = rw e at φ
+
+kind-kept : (kind : ℕ) → kind ≢ 0 → (p p′ : Bytes) (b c d : Item) → byKind kind (sectionItem p) b c d ≡ byKind kind (sectionItem p′) b c d
+kind-kept zero h p p′ b c d = absurd (h refl)
+kind-kept (suc zero) h p p′ b c d = refl
+kind-kept (suc (suc zero)) h p p′ b c d = refl
+kind-kept (suc (suc (suc kind))) h p p′ b c d = refl
+
+-- what an item is does not go by its test name and path
+pub item-kept : (text : Bytes) (r key : Row) → kindOf r ≢ 0 → itemOf text (withSection r key) ≡ itemOf text r
+unfolding itemOf
+item-kept text r key h = kind-kept (kindOf r) h (pathOf text key) (pathOf text r) _ _ _
+
+pub whole-kept : {text : Bytes} {r : Row} {key : Row} → Good text r → Named text key → Whole text (withSection r key)
+whole-kept g ν = record {
+  named = record { test = ν .test; path = ν .path };
+  good = record { kind = g .kind; name = g .name; checksum = g .checksum };
+}
+
+-- ---- the spelling
+
+section-item : (text : Bytes) (r : Row) → kindOf r ≡ 0 → itemOf text r ≡ sectionItem (pathOf text r)
+unfolding itemOf
+section-item text r e = rw e
+
+other-kind : (path : Bytes) (key : SectionKey) (es : Report) (kind : ℕ) → kind ≢ 0 → (p n : Bytes) (s : Option ℕ) (m l b h : ℕ) (u : Option ℕ)
+    (x y : ℕ) (z : Option Bytes)
+    → spellingOf path (inSection key (byKind kind (sectionItem p) (functionItem n s m) (branchItem l b h u) (lineItem x y z)) ∷ es) ≡ path
+unfolding spellingOf
+other-kind path key es zero e p n s m l b h u x y z = absurd (e refl)
+other-kind path key es (suc zero) e p n s m l b h u x y z = refl
+other-kind path key es (suc (suc zero)) e p n s m l b h u x y z = refl
+other-kind path key es (suc (suc (suc kind))) e p n s m l b h u x y z = refl
+
+-- the spelling that a row gives
+module _ (path text : Bytes) (r : Row) (es : Report) where
+  spelled-by : kindOf r ≡ 0 → spellingOf path (entryOf text r ∷ es) ≡ pathOf text r
+  unfolding spellingOf
+  spelled-by e = let q : entryOf text r .item ≡ sectionItem (pathOf text r) = section-item text r e in rw (q, spellingOf)
+
+  not-spelled-by : kindOf r ≢ 0 → spellingOf path (entryOf text r ∷ es) ≡ path
+  unfolding itemOf
+  not-spelled-by h = other-kind path (keyOf text r) es (kindOf r) h _ _ _ _ _ _ _ _ _ _ _
+
+-- the entries from lo up to hi
+abbrev pub runAt : Bytes → (ℕ → Row) → ℕ → ℕ → Report
+runAt text f lo hi = listed (λ k. entryOf text (f (lo + k))) (hi - lo)
+
+run-cons : (text : Bytes) (f : ℕ → Row) (lo hi : ℕ) → lo < hi
+    → runAt text f lo hi ≡ entryOf text (f lo) ∷ listed (λ k. entryOf text (f (lo + suc k))) (hi - suc lo)
+unfolding listed
+run-cons text f lo hi h =
+    ap (listed (λ k. entryOf text (f (lo + k)))) (let e : hi - lo ≡ suc (hi - suc lo) = omega arith in e)
+    ∙ ap (λ (j : ℕ). entryOf text (f j) ∷ listed (λ k. entryOf text (f (lo + suc k))) (hi - suc lo)) (add-zero lo)
+
+run-empty : (text : Bytes) (f : ℕ → Row) (lo hi : ℕ) (path : Bytes) → hi ≤ lo → spellingOf path (runAt text f lo hi) ≡ path
+unfolding listed spellingOf
+run-empty text f lo hi path h = ap (λ (n : ℕ). spellingOf path (listed (λ k. entryOf text (f (lo + k))) n)) (let e : hi - lo ≡ 0 = omega arith in e)
+
+-- ---- the section's own row
+
+module _ {first key : Row} {lo hi : ℕ} where
+  pub own-new : hi ≤ lo → Own first lo hi key key
+  own-new h = record { new = λ l. refl; spelled = λ l. absurd (omega arith); other = λ l. absurd (omega arith) }
+
+  pub own-other : {r : Row} → r ≡ first → kindOf r ≢ 0 → Own first lo hi key key
+  own-other e h = record { new = λ l. refl; spelled = λ l q. absurd (h (ap kindOf e ∙ q)); other = λ l q. refl }
+
+  pub own-spelled : {r : Row} → r ≡ first → kindOf r ≡ 0 → lo < hi → Own first lo hi key (withPath key r)
+  own-spelled e h l = record {
+    new = λ g. absurd (omega arith);
+    spelled = λ g q. ap (withPath key) e;
+    other = λ g q. absurd (q (ap kindOf (sym e) ∙ h));
+  }
+
+-- the own row is the section's own entry, spelled as the entries from lo up to hi say
+pub record OwnEntry (text : Bytes) (f : ℕ → Row) (lo hi : ℕ) (key r : Row) : Type 0 where
+  pub whole : Whole text r
+  pub is : entryOf text r ≡ inSection (keyOf text key) (sectionItem (spellingOf (pathOf text key) (runAt text f lo hi)))
+
+same-entry : (t : Bytes) {p q : Path} {i j : Item} → p ≡ q → i ≡ j → _≡_ {A = Entry} (inSection (t, p) i) (inSection (t, q) j)
+same-entry t e f = λ k. inSection (t, e k) (f k)
+
+module _ {text : Bytes} {f : ℕ → Row} {n lo hi : ℕ} {key : Row} (σ : Ordered text f n) (ν : Named text key) (tag : key .tag ≡ 0)
+    (ρ : IsRun text f n (keyOf text key) lo hi) where
+  section-good : (r : Row) → r .tag ≡ 0 → Good text r
+  section-good r e = omega arith
+
+  key-entry : spellingOf (pathOf text key) (runAt text f lo hi) ≡ pathOf text key → OwnEntry text f lo hi key key
+  key-entry e = record {
+    whole = record { named = ν; good = section-good key tag };
+    is = same-entry (testOf text key) refl (section-item text key (omega arith) ∙ ap sectionItem (sym e));
+  }
+
+  spelled-entry : lo < hi → kindOf (f lo) ≡ 0 → OwnEntry text f lo hi key (withPath key (f lo))
+  spelled-entry l h = record {
+    whole = record {
+      named = record { test = ν .test; path = σ .whole lo (omega (arith, ρ .high .most)) .named .path };
+      good = section-good (withPath key (f lo)) tag;
+    };
+    is = same-entry (testOf text key) (sym paths)
+        (section-item text (withPath key (f lo)) (omega arith)
+        ∙ ap sectionItem (sym (ap (spellingOf (pathOf text key)) (run-cons text f lo hi l) ∙ spelled-by (pathOf text key) text (f lo) _ h)));
+  }
+    where
+      paths : components (pathOf text key) ≡ components (pathOf text (f lo))
+      paths = ap (λ (k : SectionKey). k .1) (sections-order .equal (run-in ρ lo (omega arith) l))
+
+  pub own-entry : {r : Row} → Own (f lo) lo hi key r → OwnEntry text f lo hi key r
+  own-entry ω =
+      by-lt lo hi
+      (λ l. by-eq (kindOf (f lo)) 0
+      (λ e. rw (ω .spelled l e) (spelled-entry l e))
+      (λ e. rw (ω .other l e) (key-entry
+      (ap (spellingOf (pathOf text key)) (run-cons text f lo hi l) ∙ not-spelled-by (pathOf text key) text (f lo) _ e))))
+      (λ h. rw (ω .new h) (key-entry (run-empty text f lo hi (pathOf text key) h)))

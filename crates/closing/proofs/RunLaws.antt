@@ -1,0 +1,137 @@
+-- Sections compared, and the run of a key among the kept entries. Assumes nothing.
+use mathlib.Core.Path.{_≡_, refl, sym, ap, _∙_}
+use mathlib.Core.Logic.{_≢_}
+use mathlib.Core.Bool.{Bool, true, false}
+use mathlib.Core.List.{List}
+use Prim.Native.Nat.{ℕ, _-_, _≤_, _<_, Ordering, Ordering·lt, Ordering·eq, Ordering·gt}
+use native.Mathlib.Omega.{arith}
+use lib.Dec.{isEq}
+use Rattle.store.specs.declared.Row.{Row}
+use Rattle.store.specs.Places.{Cut}
+use Rattle.store.proofs.PlaceLaws.{by-eq, by-lt}
+use Rattle.store.proofs.Halving.{by-test, Falling}
+use Rattle.map.specs.Compare.{lex}
+use Rattle.map.proofs.Orderings.{is-eq}
+use Rattle.map.proofs.Results.{impossible}
+use Rattle.model.specs.Bytes.{Bytes, compareBytes}
+use Rattle.model.specs.Path.{Path, components, comparePaths}
+use Rattle.model.specs.Report.{SectionKey, compareSections}
+use Rattle.model.proofs.KeyOrder.{paths-order, sections-order}
+use Rattle.items.specs.Items.{part}
+use Rattle.closing.specs.Sections.{keyOf, Named, Ordered, goes, Past, IsRun}
+
+-- ---- sections compared
+
+pub same-path : (text : Bytes) (a n b m : ℕ) → a ≡ b → n ≡ m → Ordering·eq ≡ comparePaths (components (part text a n)) (components (part text b m))
+same-path text a n b m e f = rw (e, f) (sym (paths-order .same (components (part text b m))))
+
+pub by-path : (t t′ : Bytes) (p p′ : Path) (o : Ordering) → true ≡ isEq (compareBytes t t′) → o ≡ comparePaths p p′
+    → o ≡ compareSections (t, p) (t′, p′)
+unfolding compareSections
+by-path t t′ p p′ o h e = e ∙ sym (ap (λ (x : Ordering). lex x (comparePaths p p′)) (is-eq (compareBytes t t′) (sym h)))
+
+pub by-name : (t t′ : Bytes) (p p′ : Path) (o : Ordering) → false ≡ isEq (compareBytes t t′) → o ≡ compareBytes t t′
+    → o ≡ compareSections (t, p) (t′, p′)
+unfolding compareSections
+by-name t t′ p p′ o h e = e ∙ go (compareBytes t t′) h
+  where
+    go : (x : Ordering) → false ≡ isEq x → x ≡ lex x (comparePaths p p′)
+    go Ordering·lt h = refl
+    go Ordering·eq h = cc
+    go Ordering·gt h = refl
+
+-- a row that the store handed out
+pub named-as : {text : Bytes} {r q : Row} → r ≡ q → Named text q → Named text r
+named-as e ν = rw e ν
+
+-- ---- what a key goes past
+
+-- a key that goes past b goes past a, which is no later than b
+goes-on : (equal : Bool) (k a b : SectionKey) → compareSections a b ≢ Ordering·gt → goes equal (compareSections k b) ≡ true
+    → goes equal (compareSections k a) ≡ true
+goes-on equal k a b h g = go (compareSections a b) (compareSections k b) refl refl g
+  where
+    go : (o p : Ordering) → compareSections a b ≡ o → compareSections k b ≡ p → goes equal p ≡ true → goes equal (compareSections k a) ≡ true
+    go Ordering·gt p e f q = absurd (h e)
+    go Ordering·eq p e f q = rw (sections-order .equal e) (rw f q)
+    go Ordering·lt Ordering·lt e f q = cc
+    go Ordering·lt Ordering·eq e f q = let z : k ≡ b = sections-order .equal f in rw z (rw (sections-order .greater e))
+    go Ordering·lt Ordering·gt e f q = rw (sections-order .greater (sections-order .trans e (sections-order .less f)))
+
+pub past-falls : {text : Bytes} {f : ℕ → Row} {n : ℕ} (key : SectionKey) (equal : Bool) → Ordered text f n → Falling (Past equal text f key) n
+past-falls {text} {f} {n} key equal σ k j l h t =
+    by-eq k j (λ e. rw e t) (λ e. goes-on equal key (keyOf text (f k)) (keyOf text (f j)) (σ .ordered k j (omega arith) h) t)
+
+-- ---- the run
+
+pub goes-greater : (o : Ordering) → goes false o ≡ true → o ≡ Ordering·gt
+goes-greater Ordering·lt h = cc
+goes-greater Ordering·eq h = cc
+goes-greater Ordering·gt h = refl
+
+stays-less : (o : Ordering) → goes true o ≡ false → o ≡ Ordering·lt
+stays-less Ordering·lt h = refl
+stays-less Ordering·eq h = cc
+stays-less Ordering·gt h = cc
+
+goes-equal : (o : Ordering) → goes true o ≡ true → goes false o ≡ false → o ≡ Ordering·eq
+goes-equal Ordering·lt h g = cc
+goes-equal Ordering·eq h g = refl
+goes-equal Ordering·gt h g = cc
+
+goes-too : (o : Ordering) → goes false o ≡ true → goes true o ≡ true
+goes-too Ordering·lt h = cc
+goes-too Ordering·eq h = refl
+goes-too Ordering·gt h = refl
+
+-- the key compared with the entries before, in and behind its run
+module _ {text : Bytes} {f : ℕ → Row} {n lo hi : ℕ} {key : SectionKey} (ρ : IsRun text f n key lo hi) where
+  pub run-before : (k : ℕ) → k < lo → compareSections key (keyOf text (f k)) ≡ Ordering·gt
+  run-before k l = goes-greater _ (ρ .low .past k l)
+
+  pub run-in : (k : ℕ) → lo ≤ k → k < hi → compareSections key (keyOf text (f k)) ≡ Ordering·eq
+  run-in k l h = goes-equal _ (ρ .high .past k h) (ρ .low .rest k l (omega (arith, ρ .high .most)))
+
+  pub run-behind : (k : ℕ) → hi ≤ k → k < n → compareSections key (keyOf text (f k)) ≡ Ordering·lt
+  run-behind k l h = stays-less _ (ρ .high .rest k l h)
+
+  pub run-ends : lo ≤ hi
+  run-ends = by-lt hi lo (λ h. let z : Ordering·gt ≡ Ordering·lt = sym (run-before hi h)
+      ∙ run-behind hi (omega arith) (omega (arith, ρ .low .most)) in impossible cc) (λ h. h)
+
+cut-none : {test : ℕ → Bool} {n : ℕ} → n ≡ 0 → Cut test n 0
+cut-none z = record { most = omega arith; past = λ k l. absurd (omega arith); rest = λ k l h. absurd (omega arith) }
+
+cut-all : {test : ℕ → Bool} {n : ℕ} → Falling test n → n ≢ 0 → test (n - 1) ≡ true → Cut test n n
+cut-all {test} {n} falls z t = record
+    { most = omega arith; past = λ k l. falls k (n - 1) (omega arith) (omega arith) t; rest = λ k l h. absurd (omega arith) }
+
+pub run-none : {text : Bytes} {f : ℕ → Row} {n : ℕ} {key : SectionKey} → n ≡ 0 → IsRun text f n key 0 0
+run-none z = record { low = cut-none z; high = cut-none z }
+
+-- the key comes after the last entry
+pub run-last : {text : Bytes} {f : ℕ → Row} {n : ℕ} {key : SectionKey} → Ordered text f n → n ≢ 0 → Past false text f key (n - 1) ≡ true
+    → IsRun text f n key n n
+run-last {text} {f} {n} {key} σ z t = record {
+  low = cut-all (past-falls key false σ) z t;
+  high = cut-all (past-falls key true σ) z
+      (goes-too (compareSections key (keyOf text (f (n - 1)))) t);
+}
+
+-- the first entry that the key does not go past has another key: none has it
+pub run-new : {text : Bytes} {f : ℕ → Row} {n lo : ℕ} {key : SectionKey} → Ordered text f n → Cut (Past false text f key) n lo
+    → (lo < n → compareSections key (keyOf text (f lo)) ≢ Ordering·eq) → IsRun text f n key lo lo
+run-new {text} {f} {n} {lo} {key} σ c other = record {
+  low = c;
+  high = record {
+    most = c .most;
+    past = λ k l. goes-too (compareSections key (keyOf text (f k))) (c .past k l);
+    rest = λ k l h. by-test (Past true text f key k)
+        (λ t. absurd (other (omega arith)
+        (goes-equal (compareSections key (keyOf text (f lo))) (past-falls key true σ lo k l h t) (c .rest lo (omega arith) (omega arith)))))
+        (λ e. e);
+  };
+}
+
+pub not-equal : {b : Bool} (o : Ordering) → b ≡ isEq o → b ≡ false → o ≢ Ordering·eq
+not-equal o e f q = let z : true ≡ false = ap isEq (sym q) ∙ sym e ∙ f in impossible cc

@@ -1,0 +1,170 @@
+-- Laws of two reports as one. Assumes nothing.
+use mathlib.Core.Path.{_≡_, refl, sym, ap, _∙_}
+use mathlib.Core.Logic.{_≢_}
+use mathlib.Core.List.{List, [], _∷_, _++_, map}
+use Prim.Native.Nat.{_+_, Ordering, Ordering·lt, Ordering·eq, Ordering·gt}
+use native.Mathlib.Omega.{arith}
+use lib.ListN.{length}
+use Rattle.map.specs.Result.{Result, accepted, mapAccepted}
+use Rattle.map.specs.Keyed.{byOrder}
+use Rattle.map.specs.OnePass.{onePass}
+use Rattle.map.proofs.Results.{impossible}
+use Rattle.model.specs.Bytes.{Bytes}
+use Rattle.model.specs.Path.{components}
+use Rattle.model.specs.Report.{Item, sectionItem, Entry, Report, SectionKey, sectionKey, inSection, compareSections}
+use Rattle.model.specs.Reading.{spellingOf, replaceSection}
+use Rattle.model.proofs.ListLaws.{All, all-append}
+use Rattle.model.proofs.KeyOrder.{sections-order}
+use Rattle.closing.specs.Late.{togetherFrom, together}
+use Rattle.closing.proofs.ReplaceLaws.{Compared, replaced}
+
+pub together-none : (xs : Report) → together xs [] ≡ xs
+together-none [] = refl
+together-none (x ∷ xs) = ap (λ (l : Report). x ∷ l) (together-none xs)
+
+-- no entry is lost, where no key is in both
+abbrev Apart : Report → Entry → Type 0
+Apart ys x = All (λ y. compareSections (sectionKey x) (sectionKey y) ≢ Ordering·eq) ys
+
+length-from : (x : Entry) (xs ys : Report) → Apart ys x → All (Apart ys) xs
+    → ((l : Report) → All (Apart l) xs → length (together xs l) ≡ length xs + length l)
+    → length (together (x ∷ xs) ys) ≡ length (x ∷ xs) + length ys
+length-from x xs [] h a rest = omega (arith, rest [] a)
+length-from x xs (y ∷ ys) h a rest = go (compareSections (sectionKey x) (sectionKey y)) refl (length-from x xs ys (h .1) (fewer xs a) rest)
+  where
+    fewer : (l : Report) → All (Apart (y ∷ ys)) l → All (Apart ys) l
+    fewer [] b = tt
+    fewer (z ∷ l) b = (b .0 .1, fewer l (b .1))
+
+    go : (o : Ordering) → compareSections (sectionKey x) (sectionKey y) ≡ o → length (together (x ∷ xs) ys) ≡ length (x ∷ xs) + length ys
+        → length (byOrder o (x ∷ together xs (y ∷ ys)) (x ∷ together xs ys) (y ∷ togetherFrom x (λ l. together xs l) ys)) ≡ length
+        (x ∷ xs) + length (y ∷ ys)
+    go Ordering·lt e r = omega (arith, rest (y ∷ ys) a)
+    go Ordering·eq e r = absurd (h .0 e)
+    go Ordering·gt e r = omega (arith, r)
+
+pub together-length : (xs ys : Report) → All (λ x. All (λ y. compareSections (sectionKey x) (sectionKey y) ≢ Ordering·eq) ys) xs
+    → length (together xs ys) ≡ length xs + length ys
+together-length [] ys a = omega arith
+together-length (x ∷ xs) ys a = length-from x xs ys (a .0) (a .1) (λ l b. together-length xs l b)
+
+-- what holds of each entry of both
+module _ (P : Entry → Type 0) where
+  all-from : (x : Entry) (xs ys : Report) → P x → All P ys → ((l : Report) → All P l → All P (together xs l)) → All P (together (x ∷ xs) ys)
+  all-from x xs [] h b rest = (h, rest [] tt)
+  all-from x xs (y ∷ ys) h b rest = go (compareSections (sectionKey x) (sectionKey y)) (all-from x xs ys h (b .1) rest)
+    where
+      go : (o : Ordering) → All P (together (x ∷ xs) ys)
+          → All P (byOrder o (x ∷ together xs (y ∷ ys)) (x ∷ together xs ys) (y ∷ togetherFrom x (λ l. together xs l) ys))
+      go Ordering·lt r = (h, rest (y ∷ ys) b)
+      go Ordering·eq r = (h, rest ys (b .1))
+      go Ordering·gt r = (b .0, r)
+
+  pub all-together : (xs ys : Report) → All P xs → All P ys → All P (together xs ys)
+  all-together [] ys a b = b
+  all-together (x ∷ xs) ys a b = all-from x xs ys (a .0) b (λ l c. all-together xs l (a .1) c)
+
+-- ---- by a key between the entries
+
+between : (k a b : SectionKey) → compareSections k a ≡ Ordering·gt → compareSections k b ≢ Ordering·gt → compareSections a b ≡ Ordering·lt
+between k a b g h = go (compareSections k b) refl
+  where
+    go : (o : Ordering) → compareSections k b ≡ o → compareSections a b ≡ Ordering·lt
+    go Ordering·lt e = sections-order .trans (sections-order .less g) e
+    go Ordering·eq e = let z : k ≡ b = sections-order .equal e in rw z at (sections-order .less g)
+    go Ordering·gt e = absurd (h e)
+
+module _ (key : SectionKey) where
+  -- the key is not greater
+  abbrev From : Report → Type 0
+  From l = All (λ e. compareSections key (sectionKey e) ≢ Ordering·gt) l
+
+  not-below : (o : Ordering) → o ≢ Ordering·gt → (l : Report) → Compared key o l → From l
+  not-below o h [] a = tt
+  not-below o h (x ∷ l) a = (λ e. h (sym (a .0) ∙ e), not-below o h l (a .1))
+
+  -- what is less than the key comes first
+  split : (A B C D : Report) → Compared key Ordering·gt A → From B → Compared key Ordering·gt C → From D
+      → together (A ++ B) (C ++ D) ≡ together A C ++ together B D
+  split [] B [] D a b c d = refl
+  split [] [] (y ∷ C) D a b c d = refl
+  split [] (x ∷ B) (y ∷ C) D a b c d =
+      let o : compareSections (sectionKey x) (sectionKey y) ≡ Ordering·gt = sections-order .greater
+      (between key (sectionKey y) (sectionKey x) (c .0) (b .0)) in
+      rw o (ap (λ (l : Report). y ∷ l) (split [] (x ∷ B) C D a b (c .1) d))
+  split (x ∷ A) B [] [] a b c d = ap (λ (l : Report). x ∷ l) (split A B [] [] (a .1) b c d)
+  split (x ∷ A) B [] (w ∷ D) a b c d =
+      let o : compareSections (sectionKey x) (sectionKey w) ≡ Ordering·lt = between key (sectionKey x) (sectionKey w) (a .0) (d .0) in
+      rw o (ap (λ (l : Report). x ∷ l) (split A B [] (w ∷ D) (a .1) b c d))
+  split (x ∷ A) B (y ∷ C) D a b c d =
+      go (compareSections (sectionKey x) (sectionKey y)) (split A B (y ∷ C) D (a .1) b c d) (split A B C D (a .1) b (c .1) d)
+      (split (x ∷ A) B C D a b (c .1) d)
+    where
+      go : (o : Ordering) → together (A ++ B) (y ∷ C ++ D) ≡ together A (y ∷ C) ++ together B D
+          → together (A ++ B) (C ++ D) ≡ together A C ++ together B D
+          → together (x ∷ A ++ B) (C ++ D) ≡ together (x ∷ A) C ++ together B D
+          → byOrder o (x ∷ together (A ++ B) (y ∷ C ++ D)) (x ∷ together (A ++ B) (C ++ D)) (y ∷ togetherFrom x (λ l. together (A ++ B) l) (C ++ D))
+          ≡ byOrder o (x ∷ together A (y ∷ C)) (x ∷ together A C) (y ∷ togetherFrom x (λ l. together A l) C) ++ together B D
+      go Ordering·lt p q r = ap (λ (l : Report). x ∷ l) p
+      go Ordering·eq p q r = ap (λ (l : Report). x ∷ l) q
+      go Ordering·gt p q r = ap (λ (l : Report). y ∷ l) r
+
+  -- what has the key comes before what is greater
+  first : (B M D : Report) → Compared key Ordering·lt B → Compared key Ordering·eq M → together B (M ++ D) ≡ M ++ together B D
+  first [] M D b m = refl
+  first (x ∷ B) [] D b m = refl
+  first (x ∷ B) (y ∷ M) D b m =
+      let z : key ≡ sectionKey y = sections-order .equal (m .0) in
+      let o : compareSections (sectionKey x) (sectionKey y) ≡ Ordering·gt = rw z at (sections-order .greater (b .0)) in
+      rw o (ap (λ (l : Report). y ∷ l) (first (x ∷ B) M D b (m .1)))
+
+  -- a section of the second report, whose key no section of the first has
+  around : (A B C M D : Report) → Compared key Ordering·gt A → Compared key Ordering·lt B → Compared key Ordering·gt C → Compared key Ordering·eq M
+      → Compared key Ordering·lt D → together (A ++ B) (C ++ (M ++ D)) ≡ together A C ++ (M ++ together B D)
+  around A B C M D a b c m d =
+      split A B C (M ++ D) a (not-below Ordering·lt (λ e. impossible cc) B b) c
+      (all-append _ M D (not-below Ordering·eq (λ e. impossible cc) M m) (not-below Ordering·lt (λ e. impossible cc) D d))
+      ∙ ap (λ (l : Report). together A C ++ l) (first B M D b m)
+
+  own-key : (items : List Item) → Compared key Ordering·eq (map (inSection key) items)
+  own-key [] = tt
+  own-key (i ∷ items) = (sections-order .same key, own-key items)
+
+-- a section put among the entries of the second report is put among all
+pub replaced-together : (test path : Bytes) (items : List Item) (A B C S D : Report)
+    → Compared (test, components path) Ordering·gt A → Compared (test, components path) Ordering·lt B → Compared (test, components path) Ordering·gt C
+    → Compared (test, components path) Ordering·eq S → Compared (test, components path) Ordering·lt D
+    → together (A ++ B) (replaceSection test path items (C ++ (S ++ D))) ≡ replaceSection test path items (together (A ++ B) (C ++ (S ++ D)))
+replaced-together test path items A B C S D a b c s d =
+    let key : SectionKey = (test, components path) in
+    let new : Report = map (inSection key) (sectionItem (spellingOf path S) ∷ items) in
+    ap (together (A ++ B)) (replaced test path items C S D c s d)
+    ∙ around key A B C new D a b c (own-key key (sectionItem (spellingOf path S) ∷ items)) d
+    ∙ sym (ap (replaceSection test path items) (around key A B C S D a b c s d)
+    ∙ replaced test path items (together A C) S (together B D) (all-together _ A C a c) s (all-together _ B D b d))
+
+-- ---- as one pass
+
+abbrev Pass : Type 0
+Pass = Result (Unit {0}) Report
+
+-- one pass that would keep the first of two entries of one key
+abbrev pub pass : Report → Report → Pass
+pass xs ys = onePass sectionKey compareSections (λ e f. accepted e) xs ys
+
+pass-from : (x : Entry) (xs ys : Report) → ((l : Report) → pass xs l ≡ accepted (together xs l)) → pass (x ∷ xs) ys ≡ accepted (together (x ∷ xs) ys)
+pass-from x xs [] rest = ap (λ (l : Report). accepted (x ∷ l)) (sym (together-none xs))
+pass-from x xs (y ∷ ys) rest = go (compareSections (sectionKey x) (sectionKey y)) (pass-from x xs ys rest)
+  where
+    go : (o : Ordering) → pass (x ∷ xs) ys ≡ accepted (together (x ∷ xs) ys)
+        → _≡_ {A = Pass}
+        (byOrder o (mapAccepted (λ l. x ∷ l) (pass xs (y ∷ ys))) (mapAccepted (λ l. x ∷ l) (pass xs ys))
+        (mapAccepted (λ l. y ∷ l) (pass (x ∷ xs) ys)))
+        (accepted (byOrder o (x ∷ together xs (y ∷ ys)) (x ∷ together xs ys) (y ∷ together (x ∷ xs) ys)))
+    go Ordering·lt r = ap (mapAccepted (λ l. x ∷ l)) (rest (y ∷ ys))
+    go Ordering·eq r = ap (mapAccepted (λ l. x ∷ l)) (rest ys)
+    go Ordering·gt r = ap (mapAccepted (λ l. y ∷ l)) r
+
+pub pass-together : (xs ys : Report) → pass xs ys ≡ accepted (together xs ys)
+pass-together [] ys = refl
+pass-together (x ∷ xs) ys = pass-from x xs ys (λ l. pass-together xs l)

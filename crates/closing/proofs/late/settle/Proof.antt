@@ -1,0 +1,29 @@
+-- `closing::late::settle` meets its contract. Assumes nothing.
+use native.Mathlib.Omega.{arith}
+use Rattle.closing.proofs.LateLaws.{spare-store, noted-rising, settled-all}
+use borrow.Author.Needs.{needs}
+use Rattle.closing.proofs.late.settle.Statement.{statement}
+use Rattle.closing.proofs.late.settle.Tie as tie
+
+abbrev start : tie.After-note-places → tie.Start
+start n = n .before .before .before .before
+
+pub settle-spec : {M : Type 1} → statement M
+settle-spec =
+    tie.close
+    (tie.spec
+    (λ c κs. search needs)
+    (λ c κs. let n = c .before .before .before in
+    let s = start n in (
+      (
+        spare-store (s .pre .0 .early .store) (n .note-places .ensures .kept) (s .pre .1 .0) (n .note-places .kept .1 .0),
+        omega
+            (arith, s .pre .0 .behind .room),
+      ),
+      (s .pre .1 .0, omega (arith, s .pre .1 .1, n .note-places .kept .1 .0), noted-rising (s .pre .0) (n .note-places .ensures)),
+    ))
+    (λ c. search needs)
+    (λ c. let w = c .before .before in
+    let n = w .before .before .before .before in
+    let s = start n in
+    settled-all (s .pre .0) (n .note-places .ensures) (s .pre .1 .0) (w .weave .ensures .0) (w .weave .ensures .1)))

@@ -1,0 +1,241 @@
+// The end of a section: "A section whose key (test name, path) a kept section has replaces that section's data, and the key's first
+// spelling stays" (document 01). Kept entries are the first rows in the index's order: settled ones, and behind them late ones, which are
+// settled together. Behind these stand the open section's own row and its items, and then free rows.
+pub mod late;
+
+use order::Order;
+use store::Row;
+ghost use mathlib.Core.Path.{_≡_};
+ghost use mathlib.Core.Logic.{_≢_};
+ghost use mathlib.Core.Bool.{false};
+ghost use Prim.Native.Nat.{_+_, _-_, _≤_, _<_, Ordering·eq};
+ghost use lib.ListN.{length};
+ghost use Rattle.model.specs.Path.{components, comparePaths};
+ghost use Rattle.model.specs.Report.{compareSections};
+ghost use Rattle.order.specs.Orders.{orderOf};
+ghost use Rattle.store.specs.Places.{Same, Cut};
+ghost use Rattle.store.specs.Store.{Store, row};
+ghost use Rattle.items.specs.Items.{part};
+ghost use Rattle.closing.specs.Sections.{keyOf, Named, rowsFrom, SectionsFrom, goes, Past, IsRun};
+ghost use Rattle.closing.specs.Closing.{withSection, Filled, Own, Spliced};
+
+// How many kept entries are settled, and how many are late.
+pub struct Parts {
+    pub settled: usize,
+    pub late: usize,
+}
+
+// Two parts of the text as paths. Parts that begin and end alike are not read.
+pub fn compare_path_parts(text: &[u8], a: u64, n: u64, b: u64, m: u64) -> Order
+    requires { ⌜ (a + n ≤ length (now text)) × (b + m ≤ length (now text)) ⌝ }
+    ensures { λ r. ⌜ orderOf r ≡ comparePaths (components (part (now (text .entry)) a n)) (components (part (now (text .entry)) b m)) ⌝ }
+{
+    if a == b {
+        if n == m {
+            return Order::Equal;
+        }
+    }
+    let p = a as usize;
+    let q = b as usize;
+    order::compare_paths(&text[p..p + (n as usize)], &text[q..q + (m as usize)])
+}
+
+// By test name, then by path.
+pub fn compare_sections(text: &[u8], x: Row, y: Row) -> Order
+    requires { ⌜ Named (now text) x × Named (now text) y ⌝ }
+    ensures { λ r. ⌜ orderOf r ≡ compareSections (keyOf (now (text .entry)) x) (keyOf (now (text .entry)) y) ⌝ }
+{
+    let tests = items::compare_parts(text, x.test, x.test_len, y.test, y.test_len);
+    if order::is_equal(tests) {
+        return compare_path_parts(text, x.path, x.path_len, y.path, y.path_len);
+    }
+    tests
+}
+
+// A key goes past an entry that is less, and past one that is equal if asked.
+pub fn goes_past(order: Order, equal: bool) -> bool
+    ensures { λ r. ⌜ r ≡ goes equal (orderOf order) ⌝ }
+{
+    match order {
+        Order::Less => false,
+        Order::Equal => equal,
+        Order::Greater => true,
+    }
+}
+
+// How many of the n entries from place `at` on the key goes past, by halving.
+pub fn cut(
+    text: &[u8],
+    words: &[u64],
+    index: usize,
+    used: usize,
+    at: usize,
+    n: usize,
+    key: Row,
+    equal: bool,
+) -> usize
+    requires { ⌜ SectionsFrom (now text) (now words) index used at n × Named (now text) key ⌝ }
+    ensures { λ r. ⌜ Cut (Past equal (now (text .entry)) (rowsFrom (now (words .entry)) index at) (keyOf (now (text .entry)) key)) n r ⌝ }
+{
+    let mut lo = 0;
+    let mut hi = n;
+    while lo < hi {
+        let mid = lo + (hi - lo) / 2;
+        let other = store::get(words, index, used, at + mid);
+        if goes_past(compare_sections(text, key, other), equal) {
+            lo = mid + 1;
+        } else {
+            hi = mid;
+        }
+    }
+    lo
+}
+
+// Of the entries from a place on, those from lo up to hi have the key of a section.
+pub struct Run {
+    pub lo: usize,
+    pub hi: usize,
+}
+
+// Whether the i-th of the n entries from place `at` on, if there is one, has the key.
+fn has_key(
+    text: &[u8],
+    words: &[u64],
+    index: usize,
+    used: usize,
+    at: usize,
+    n: usize,
+    i: usize,
+    key: Row,
+) -> bool
+    requires { ⌜ SectionsFrom (now text) (now words) index used at n × Named (now text) key ⌝ }
+    ensures { λ r. ⌜ (r ≡ false → i < n → compareSections (keyOf (now (text .entry)) key) (keyOf (now (text .entry)) (rowsFrom (now (words .entry)) index at i)) ≢ Ordering·eq) ⌝ }
+{
+    if n <= i {
+        return false;
+    }
+    let other = store::get(words, index, used, at + i);
+    order::is_equal(compare_sections(text, key, other))
+}
+
+// Most texts have their sections in order, so that the key comes after the last: tried first. And most keys are new.
+pub fn find_run(
+    text: &[u8],
+    words: &[u64],
+    index: usize,
+    used: usize,
+    at: usize,
+    n: usize,
+    key: Row,
+) -> Run
+    requires { ⌜ SectionsFrom (now text) (now words) index used at n × Named (now text) key ⌝ }
+    ensures { λ r. ⌜ IsRun (now (text .entry)) (rowsFrom (now (words .entry)) index at) n (keyOf (now (text .entry)) key) (r .lo) (r .hi) ⌝ }
+{
+    if n == 0 {
+        return Run { lo: 0, hi: 0 };
+    }
+    let last = store::get(words, index, used, at + (n - 1));
+    if goes_past(compare_sections(text, key, last), false) {
+        return Run { lo: n, hi: n };
+    }
+    let lo = cut(text, words, index, used, at, n, key, false);
+    if has_key(text, words, index, used, at, n, lo, key) {
+        let hi = cut(text, words, index, used, at, n, key, true);
+        return Run { lo: lo, hi: hi };
+    }
+    Run { lo: lo, hi: lo }
+}
+
+// A row with the section's test name and path.
+pub fn with_section(row: Row, key: Row) -> Row
+    ensures { λ r. ⌜ r ≡ withSection row key ⌝ }
+{
+    let mut out = row;
+    out.test = key.test;
+    out.test_len = key.test_len;
+    out.path = key.path;
+    out.path_len = key.path_len;
+    out
+}
+
+// The n rows from place `from` on get the section's test name and path.
+pub fn fill(words: &mut [u64], index: usize, used: usize, from: usize, n: usize, key: Row)
+    requires { ⌜ Store (now words) index used × (from + n ≤ used) ⌝ }
+    ensures { λ _. ⌜ Filled (now (words .entry)) (now (words .exit)) index used from n key ⌝ }
+{
+    let mut i = 0;
+    while i < n {
+        let old = store::get(words, index, used, from + i);
+        store::put(words, index, used, from + i, with_section(old, key));
+        i += 1;
+    }
+}
+
+// The section's own row: the key, spelled as the first of the rows from lo up to hi, which is the own row of the section that has it.
+// Places count from `at` on.
+pub fn own_row(
+    words: &[u64],
+    index: usize,
+    used: usize,
+    at: usize,
+    lo: usize,
+    hi: usize,
+    key: Row,
+) -> Row
+    requires { ⌜ Store (now words) index used × (at + hi ≤ used) ⌝ }
+    ensures { λ r. ⌜ Own (rowsFrom (now (words .entry)) index at lo) lo hi key r ⌝ }
+{
+    if hi <= lo {
+        return key;
+    }
+    let first = store::get(words, index, used, at + lo);
+    if first.tag / 2 != items::SECTION {
+        return key;
+    }
+    let mut own = key;
+    own.path = first.path;
+    own.path_len = first.path_len;
+    own
+}
+
+// The open section, whose own row and n items stand behind the m entries from place `at` on, comes among these, in place of those from lo
+// up to hi. Answers how many entries they are then. `spare` is where free words start.
+pub fn splice(
+    words: &mut [u64],
+    index: usize,
+    used: usize,
+    spare: usize,
+    at: usize,
+    m: usize,
+    run: Run,
+    n: usize,
+    key: Row,
+) -> usize
+    requires { ⌜ Store (now words) index used × (run .lo ≤ run .hi) × (run .hi ≤ m) × (at + m + 1 + n ≤ used) ⌝ }
+    requires { ⌜ (index + used ≤ spare) × (spare + used ≤ length (now words)) ⌝ }
+    ensures store { λ _. ⌜ Store (now (words .exit)) index used ⌝ }
+    ensures rows { λ _. ⌜ Spliced (rowsFrom (now (words .entry)) index at) (rowsFrom (now (words .exit)) index at) m n (run .lo) (run .hi) key ⌝ }
+    ensures below { λ _. ⌜ Same (row (now (words .entry)) index) (row (now (words .exit)) index) 0 at ⌝ }
+    ensures number { λ r. ⌜ r ≡ run .lo + (n + 1) + (m - run .hi) ⌝ }
+{
+    let lo = run.lo;
+    let hi = run.hi;
+    let own = own_row(words, index, used, at, lo, hi, key);
+    store::put(words, index, used, at + m, own);
+    fill(words, index, used, at + m + 1, n, key);
+    let number = lo + (n + 1) + (m - hi);
+    if m <= lo {
+        return number;
+    }
+    store::turn(
+        words,
+        index,
+        used,
+        at + lo,
+        at + hi,
+        at + m,
+        at + m + 1 + n,
+        spare,
+    );
+    number
+}

@@ -1,0 +1,212 @@
+//! docs/DIFFERENCES.md row by row: the smallest input of each, and what the port makes of it. That the Rust makes the same of it is
+//! compared by the harness, on these and many others.
+
+use std::process::{Command, Stdio};
+use std::sync::atomic::{AtomicU32, Ordering};
+
+/// What the command prints for texts, or what it says of the refusal.
+fn gathered(texts: &[&str]) -> Result<String, String> {
+    static MADE: AtomicU32 = AtomicU32::new(0);
+    let number = MADE.fetch_add(1, Ordering::Relaxed);
+    let name = format!("lcov-differences-{}-{number}", std::process::id());
+    let folder = std::env::temp_dir().join(name);
+    std::fs::create_dir(&folder).unwrap();
+    let names: Vec<String> = (0..texts.len()).map(|k| format!("t{k}")).collect();
+    for (name, text) in names.iter().zip(texts) {
+        std::fs::write(folder.join(name), text).unwrap();
+    }
+    let output = Command::new(env!("CARGO_BIN_EXE_lcov-gather"))
+        .args(&names)
+        .current_dir(&folder)
+        .stdin(Stdio::null())
+        .output()
+        .unwrap();
+    std::fs::remove_dir_all(&folder).unwrap();
+    let words = |bytes| String::from_utf8(bytes).unwrap();
+    if output.status.success() {
+        Ok(words(output.stdout))
+    } else {
+        Err(words(output.stderr)
+            .trim_end()
+            .replacen("lcov-gather: ", "", 1))
+    }
+}
+
+/// Lines parted by blanks, each with byte 10 after it, in a section of the file m.
+fn section(lines: &str) -> String {
+    text(&format!("SF:m {lines} end_of_record"))
+}
+
+fn text(lines: &str) -> String {
+    lines.split(' ').map(|line| format!("{line}\n")).collect()
+}
+
+fn prints(texts: &[&str], printed: &str) {
+    assert_eq!(gathered(texts), Ok(text(printed)), "{texts:?}");
+}
+
+fn refuses(texts: &[&str], said: &str) {
+    assert_eq!(gathered(texts), Err(said.to_owned()), "{texts:?}");
+}
+
+#[test]
+fn order_of_lf_and_lh() {
+    prints(
+        &[&section("DA:1,1")],
+        "TN: SF:m DA:1,1 LF:1 LH:1 end_of_record",
+    );
+}
+
+#[test]
+fn each_section_has_its_own_tn() {
+    let two = text("TN:a SF:x DA:1,1 end_of_record SF:y DA:1,1 end_of_record");
+    prints(
+        &[&two],
+        "TN: SF:y DA:1,1 LF:1 LH:1 end_of_record TN:a SF:x DA:1,1 LF:1 LH:1 end_of_record",
+    );
+    refuses(
+        &[&text("SF:a TN:b")],
+        "t0:2: TN inside a section (refusal 7)",
+    );
+}
+
+#[test]
+fn a_repeated_line_or_branch_stays_as_last_given() {
+    prints(
+        &[&section("DA:1,2 DA:1,3")],
+        "TN: SF:m DA:1,3 LF:1 LH:1 end_of_record",
+    );
+    prints(
+        &[&section("BRDA:1,0,0,2 BRDA:1,0,0,3")],
+        "TN: SF:m BRDA:1,0,0,3 BRF:1 BRH:1 end_of_record",
+    );
+}
+
+#[test]
+fn a_section_that_comes_again_replaces_the_first() {
+    let twice = section("DA:1,1") + &section("DA:2,1");
+    prints(&[&twice], "TN: SF:m DA:2,1 LF:1 LH:1 end_of_record");
+}
+
+#[test]
+fn fn_after_fnda_sets_the_count_to_0() {
+    prints(
+        &[&section("FNDA:2,f FN:3,f")],
+        "TN: SF:m FN:3,f FNDA:0,f FNF:1 FNH:0 end_of_record",
+    );
+}
+
+#[test]
+fn the_last_sf_names_all_lines() {
+    let two = text("DA:1,1 SF:a DA:2,1 SF:b end_of_record");
+    prints(&[&two], "TN: SF:b DA:1,1 DA:2,1 LF:2 LH:2 end_of_record");
+}
+
+#[test]
+fn sections_by_test_name_and_then_by_path() {
+    let two = text("TN:b SF:a DA:1,1 end_of_record TN:a SF:b DA:1,1 end_of_record");
+    prints(
+        &[&two],
+        "TN:a SF:b DA:1,1 LF:1 LH:1 end_of_record TN:b SF:a DA:1,1 LF:1 LH:1 end_of_record",
+    );
+}
+
+#[test]
+fn one_path_in_two_spellings() {
+    let a = text("SF:a//b DA:1,1 end_of_record");
+    let b = text("SF:a/b DA:1,1 end_of_record");
+    prints(&[&a, &b], "TN: SF:a//b DA:1,2 LF:1 LH:1 end_of_record");
+}
+
+#[test]
+fn start_lines_and_checksums_that_differ() {
+    refuses(
+        &[&section("FN:1,f"), &section("FN:2,f")],
+        "t1: the start lines of a function differ (refusal 11)",
+    );
+    refuses(
+        &[&section("DA:1,1,a"), &section("DA:1,1,b")],
+        "t1: the checksums of a line differ (refusal 12)",
+    );
+}
+
+#[test]
+fn an_unknown_or_blank_line_is_refused() {
+    refuses(&["VER:1\n"], "t0:1: tag unknown (refusal 1)");
+    refuses(&["\n"], "t0:1: tag unknown (refusal 1)");
+}
+
+#[test]
+fn counts_with_a_sign() {
+    refuses(
+        &[&section("DA:1,-3")],
+        "t0:2: field 2: bad digit (refusal 5)",
+    );
+    prints(
+        &[&section("DA:1,+3")],
+        "TN: SF:m DA:1,3 LF:1 LH:1 end_of_record",
+    );
+}
+
+#[test]
+fn names_are_kept_whole() {
+    prints(
+        &[&section("FN:1,f(a,b)")],
+        "TN: SF:m FN:1,f(a,b) FNDA:0,f(a,b) FNF:1 FNH:0 end_of_record",
+    );
+    let named = text("TN:a-b SF:m DA:1,1 end_of_record");
+    prints(&[&named], "TN:a-b SF:m DA:1,1 LF:1 LH:1 end_of_record");
+}
+
+#[test]
+fn empty_groups_are_not_printed_and_a_section_without_lines_stays() {
+    prints(
+        &[&section("FN:1,f")],
+        "TN: SF:m FN:1,f FNDA:0,f FNF:1 FNH:0 end_of_record",
+    );
+}
+
+#[test]
+fn found_and_hit_lines_are_counted_anew() {
+    prints(
+        &[&section("DA:1,1 LF:9 LH:9")],
+        "TN: SF:m DA:1,1 LF:1 LH:1 end_of_record",
+    );
+}
+
+#[test]
+fn sums_past_the_largest_number() {
+    const MOST: &str = "18446744073709551615";
+    let line = section(&format!("DA:1,{MOST}"));
+    refuses(
+        &[&line, &section("DA:1,1")],
+        "t1: the counts of a line or branch add up past 2^64 - 1 (refusal 13)",
+    );
+    let function = section(&format!("FNDA:{MOST},f"));
+    let held = format!("TN: SF:m FNDA:{MOST},f FNF:1 FNH:1 end_of_record");
+    prints(&[&function, &section("FNDA:3,f")], &held);
+    refuses(
+        &[&section(&format!("FNDA:{MOST},f FNDA:3,f"))],
+        "t0:3: the calls of a function add up past 2^64 - 1 (refusal 9)",
+    );
+}
+
+#[test]
+fn a_block_that_is_no_number() {
+    refuses(
+        &[&section("BRDA:1,e0,0,1")],
+        "t0:2: field 2: bad digit (refusal 5)",
+    );
+}
+
+#[test]
+fn a_checksum_is_any_text_but_a_dash() {
+    prints(
+        &[&section("DA:1,2,-")],
+        "TN: SF:m DA:1,2 LF:1 LH:1 end_of_record",
+    );
+    prints(
+        &[&section("DA:1,2,any")],
+        "TN: SF:m DA:1,2,any LF:1 LH:1 end_of_record",
+    );
+}
