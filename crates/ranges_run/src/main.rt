@@ -91,7 +91,11 @@ fn case_k() {
 // An emptied section, an output that is too short, a refused text, and a list that is refused before the text is.
 fn filters() {
     filter(&[[3u32, 3]], 1, b"SF:a\nDA:4,1\nend_of_record\n");
-    filter(&[[3u32, 3]], 1, b"SF:a\nFN:3,a_name_that_is_longer_than_the_output_is\nDA:3,1\nend_of_record\n");
+    filter(
+        &[[3u32, 3]],
+        1,
+        b"SF:a\nFN:3,a_name_that_is_longer_than_the_output_is\nDA:3,1\nend_of_record\n",
+    );
     filter(&[[3u32, 3]], 1, b"SF:a\nDA:4\n");
     filter(&[[3u32, 2]], 1, b"SF:a\nDA:4\n");
 }
