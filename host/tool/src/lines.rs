@@ -10,8 +10,7 @@ use std::path::PathBuf;
 /// `FILE:RANGES`.
 pub struct Cut {
     file: OsString,
-    pairs: Vec<[u32; 2]>,
-    used: usize,
+    ranges: Vec<[u32; 2]>,
 }
 
 impl Cut {
@@ -23,32 +22,42 @@ impl Cut {
             .rposition(|&byte| byte == b':')
             .ok_or_else(wrong)?;
         let ranges = std::str::from_utf8(&bytes[colon + 1..]).map_err(|_| wrong())?;
-        let ranges: Vec<[u32; 2]> = ranges
+        let ranges = ranges
             .split(',')
             .map(|range| range_of(range).ok_or_else(wrong))
             .collect::<Result<_, _>>()?;
-        let mut cut = Cut {
+        Ok(Cut {
             file: OsStr::from_bytes(&bytes[..colon]).to_owned(),
-            pairs: vec![[0, 0]; ranges.len()],
-            used: 0,
-        };
-        for [start, end] in ranges {
-            cut.insert(start, end);
-        }
-        Ok(cut)
-    }
-
-    /// There is a pair for each range, so the list is never full.
-    fn insert(&mut self, start: u32, end: u32) {
-        let mut answer = [0; WORDS];
-        let number = port::insert_range(&mut self.pairs, self.used, start, end, &mut answer);
-        let used = Refusal::unless_answered(number, answer);
-        self.used = used.expect("a well-formed list with room") as usize;
+            ranges,
+        })
     }
 
     fn is_of(&self, path: &[u8]) -> bool {
         const EQUAL: u32 = 1;
         port::compare_paths(self.file.as_bytes(), path) == EQUAL
+    }
+}
+
+/// A list of ranges, as the port joins them.
+struct List {
+    pairs: Vec<[u32; 2]>,
+    used: usize,
+}
+
+impl List {
+    /// There is a pair for each range, so the list is never full.
+    fn of(ranges: &[[u32; 2]]) -> Self {
+        let mut list = List {
+            pairs: vec![[0, 0]; ranges.len()],
+            used: 0,
+        };
+        for &[start, end] in ranges {
+            let mut answer = [0; WORDS];
+            let number = port::insert_range(&mut list.pairs, list.used, start, end, &mut answer);
+            let used = Refusal::unless_answered(number, answer);
+            list.used = used.expect("a well-formed list with room") as usize;
+        }
+        list
     }
 }
 
@@ -62,35 +71,42 @@ fn range_of(range: &str) -> Option<[u32; 2]> {
     (pair[0] <= pair[1]).then_some(pair)
 }
 
-/// The report with each section of a file that is to be cut cut to its lines.
+/// The report with each section of a file that is to be cut cut to all lines that are named for it.
 pub fn keep(joined: Vec<u8>, cuts: &[Cut]) -> Result<Vec<u8>, Failure> {
     if cuts.is_empty() {
         return Ok(joined);
     }
     let mut scratch = Scratch::new();
-    let mut met = vec![false; cuts.len()];
     let mut kept = Vec::with_capacity(joined.len());
+    let mut met = vec![false; cuts.len()];
     for section in sections(&joined) {
-        let path = path_of(section);
-        let mut text = section.to_vec();
-        for (cut, met) in cuts.iter().zip(&mut met).filter(|(cut, _)| cut.is_of(path)) {
-            *met = true;
-            let room = text.len();
-            text = scratch
-                .written(
-                    |scratch, out, answer| {
-                        port::filter(&text, &cut.pairs, cut.used, scratch, out, answer)
-                    },
-                    room,
-                )
-                .map_err(|refusal| Failure::Refused(PathBuf::from(&cut.file), refusal))?;
+        let mut ranges = Vec::new();
+        for (cut, met) in cuts.iter().zip(&mut met) {
+            if cut.is_of(path_of(section)) {
+                *met = true;
+                ranges.extend(&cut.ranges);
+            }
         }
-        kept.extend(text);
+        if ranges.is_empty() {
+            kept.extend(section);
+        } else {
+            kept.extend(cut_to(section, &List::of(&ranges), &mut scratch)?);
+        }
     }
     match cuts.iter().zip(met).find(|(_, met)| !met) {
         Some((cut, _)) => Err(Failure::NoSection(cut.file.clone())),
         None => Ok(kept),
     }
+}
+
+fn cut_to(section: &[u8], list: &List, scratch: &mut Scratch) -> Result<Vec<u8>, Failure> {
+    let call = |scratch: &mut [u64], out: &mut [u8], answer: &mut [u64]| {
+        port::filter(section, &list.pairs, list.used, scratch, out, answer)
+    };
+    let path = PathBuf::from(OsStr::from_bytes(path_of(section)));
+    scratch
+        .written(call, section.len())
+        .map_err(|refusal| Failure::Refused(path, refusal))
 }
 
 /// Each with its end_of_record.

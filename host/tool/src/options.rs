@@ -16,7 +16,7 @@ files, or nothing is written. '-' is standard input.
                        without it such files are refused
   --lines FILE:RANGES  keep only these lines of the source file FILE, as 10-20,
                        7 or 100- with commas between; sections of other files
-                       stay as they are
+                       stay as they are; given twice, all lines are kept
   -o, --output OUT     write to OUT, which is replaced only when all is done
   --help               print this
 

@@ -156,6 +156,15 @@ fn lines_of_one_file_are_kept() {
     let cut = folder.run(&["--lines", "src//decoder.c:10-20", "a"]);
     let kept = section("src/decoder.c", &[(10, 2), (20, 0)]);
     assert_eq!(printed(&cut), kept + &other);
+    let twice = folder.run(&[
+        "--lines",
+        "src/decoder.c:1",
+        "--lines",
+        "src/./decoder.c:21-",
+        "a",
+    ]);
+    let ends = section("src/decoder.c", &[(1, 1), (21, 4)]);
+    assert_eq!(printed(&twice), ends + &other);
     let none = folder.run(&["--lines", "src/decoder.c:2-9,30-", "a"]);
     let emptied = "TN:\nSF:src/decoder.c\nend_of_record\n".to_owned();
     assert_eq!(printed(&none), emptied + &other);
