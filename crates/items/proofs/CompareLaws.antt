@@ -7,7 +7,10 @@ use Prim.Native.Nat.{ℕ, zero, suc, _≤_, _<_, compare, Ordering, Ordering·lt
 use native.Mathlib.Omega.{arith}
 use Rattle.store.specs.declared.Row.{Row}
 use Rattle.map.specs.Compare.{lex}
-use Rattle.map.proofs.Orderings.{said}
+use lib.Dec.{ltb}
+use borrow.Author.Tests.{lt-ltb, le-ltb}
+use Rattle.map.proofs.Orderings.{said, Says, says}
+use Rattle.model.specs.Order.{isLess}
 use Rattle.model.specs.Bytes.{Bytes, compareBytes}
 use Rattle.model.proofs.KeyOrder.{bytes-order}
 use Rattle.model.specs.Report.{sectionItem, functionItem, branchItem, lineItem, itemKey, compareItems}
@@ -25,6 +28,14 @@ lex-equal : (o : Ordering) → lex o Ordering·eq ≡ o
 lex-equal Ordering·lt = refl
 lex-equal Ordering·eq = refl
 lex-equal Ordering·gt = refl
+
+less-is : (a b : ℕ) → ltb a b ≡ isLess (compare a b)
+less-is a b = go (compare a b) (says a b)
+  where
+    go : (o : Ordering) → Says o a b → ltb a b ≡ isLess o
+    go Ordering·lt h = lt-ltb a b h
+    go Ordering·eq h = le-ltb a b (omega arith)
+    go Ordering·gt h = le-ltb a b (omega arith)
 
 -- ---- keys
 
@@ -85,3 +96,6 @@ module _ (text : Bytes) (x y : Row) (gx : Good text x) (gy : Good text y) where
     pub sections : kindOf x ≢ function-kind → kindOf x ≢ branch-kind → kindOf x ≢ line-kind → Ordering·eq ≡ compared
     unfolding compareBytes
     sections a b c = sym (one-kind 0 (omega (arith, gx .kind)))
+
+  pub lines-before : kindOf x ≡ line-kind → kindOf y ≡ line-kind → ltb (x .k1) (y .k1) ≡ isLess compared
+  lines-before e f = less-is (x .k1) (y .k1) ∙ ap isLess (lines (omega arith) (omega arith) e (compare (x .k1) (y .k1)) refl)

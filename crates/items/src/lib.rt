@@ -143,6 +143,19 @@ pub fn compare_items(text: &[u8], x: Row, y: Row) -> Order
     Order::Equal
 }
 
+// Whether x comes before y. Two lines are compared at once: a text has more of them than of all else.
+fn comes_before(text: &[u8], x: Row, y: Row) -> bool
+    requires { ⌜ Good (now text) x × Good (now text) y ⌝ }
+    ensures { λ r. ⌜ r ≡ isLess (compareItems (itemOf (now (text .entry)) x) (itemOf (now (text .entry)) y)) ⌝ }
+{
+    if x.tag / 2 == LINE {
+        if y.tag / 2 == LINE {
+            return x.k1 < y.k1;
+        }
+    }
+    order::is_less(compare_items(text, x, y))
+}
+
 // How many of the n items from place `at` on come before the key, by halving.
 pub fn bound_item(
     text: &[u8],
@@ -161,7 +174,7 @@ pub fn bound_item(
     while lo < hi {
         let mid = lo + (hi - lo) / 2;
         let other = store::get(words, index, used, at + mid);
-        if order::is_less(compare_items(text, other, key)) {
+        if comes_before(text, other, key) {
             lo = mid + 1;
         } else {
             hi = mid;
@@ -193,7 +206,7 @@ pub fn find_item(
         return Found::Insert(0);
     }
     let last = store::get(words, index, used, at + (n - 1));
-    if order::is_less(compare_items(text, last, key)) {
+    if comes_before(text, last, key) {
         return Found::Insert(n);
     }
     let i = bound_item(text, words, index, used, at, n - 1, key);

@@ -32,12 +32,11 @@ bound-item-spec =
     (λ c κs. let l = c .before .before in
     let pre = l .before .before .before .pre in
     (rw (c .get .ensures) (pre .0 .inner (mid l) (omega arith) .good), pre .1))
-    (λ c κs. tt)
     (λ c. omega arith)
     (λ c. omega arith)
-    (λ c. let l = c .before .before .before .before .before in
+    (λ c. let l = c .before .before .before .before in
     halved-up (before-falls _ _ _ (l .before .before .before .pre .0 .sorted)) (l .loop .inv) (mid l) (omega arith) (omega arith) (cc))
     (λ c. omega arith)
-    (λ c. let l = c .before .before .before .before .before in
+    (λ c. let l = c .before .before .before .before in
     halved-down (before-falls _ _ _ (l .before .before .before .pre .0 .sorted)) (l .loop .inv) (mid l) (omega arith) (omega arith) (cc))
     (λ c. halved-done (c .before .loop .inv) (c .loop-test .left)))

@@ -21,15 +21,14 @@ find-item-spec =
     (λ c κs. let s = start (c .before) in
     let last = inner-as (c .get .ensures) (s .pre .0 .inner (s .args .n - 1) (omega arith)) .good in
     search needs)
-    (λ c κs. search needs)
-    (λ c. let s = start (c .before .before .before .before) in
+    (λ c. let s = start (c .before .before .before) in
     found-last (s .pre .0) (omega arith) (cc))
     (λ c. search needs)
-    (λ c κs. let s = start (c .before .before .before .before) in
+    (λ c κs. let s = start (c .before .before .before) in
     (open-fewer _ (omega arith) (s .pre .0), s .pre .1))
     (λ c. search needs)
     (λ c κs. search needs)
-    (λ c κs. let s = start (c .before .before .before .before .before .before) in
+    (λ c κs. let s = start (c .before .before .before .before .before) in
     let here = inner-as (c .get2 .ensures) (s .pre .0 .inner (c .before .bound-item .result) (omega (arith, c .before .bound-item .ensures .most))) .good in
     search needs)
     (λ c κs. search needs)
