@@ -8,14 +8,14 @@ use native.Mathlib.Numerals.{add-one}
 use lib.Dec.{lit≤}
 use lib.ListN.{length, take, drop, getD, set, length-append, length-take, length-drop, length-set, take-append-drop}
 use lib.Seq.{set-at, take-suc, append-snoc, length-take-le}
-use borrow.Author.Tests.{lt-ltb, le-ltb, ltb-true, ltb-false, le-leb, lt-leb, leb-true, leb-false}
+use borrow.Author.Tests.{lt-ltb, le-ltb, ltb-true, ltb-false}
 use mathlib.Core.Bool.{Bool, true, false, cond}
-use lib.Dec.{leb, ltb}
+use lib.Dec.{ltb}
 use Rattle.model.specs.Bytes.{Bytes}
 use Rattle.model.specs.Number.{decimal, decimalDigits}
 use Rattle.model.proofs.NumberLaws.{decimalDigits-small, decimalDigits-large}
 use Rattle.model.specs.Output.{written, outputAfter}
-use Rattle.text.specs.Put.{putLen, over, reach}
+use Rattle.text.specs.Put.{putLen, over}
 use Rattle.text.proofs.ByteLaws.{drop-next}
 use Rattle.text.proofs.PutLaws.{short-len, short-out, fits-len, fits-out}
 
@@ -104,61 +104,6 @@ decimal-length v h = ap length (decimal-is v h) ∙ length-lastDigits (digitCoun
 
 pub count-end : (v rest n : ℕ) → Counting v rest n → rest < 10 → n ≡ length (decimal v)
 count-end v rest n w h = count-all v rest n w h ∙ sym (decimal-length v (w .small))
-
--- ---- how many powers of ten a number reaches
-
-pub reach-yes : (v bound : ℕ) → bound ≤ v → 1 ≡ reach v bound
-reach-yes v bound h = rw (le-leb bound v h)
-
-pub reach-no : (v bound : ℕ) → v < bound → 0 ≡ reach v bound
-reach-no v bound h = rw (lt-leb bound v h)
-
--- how many of n bounds, each ten times the one before, a number reaches
-unfoldable reached : ℕ → ℕ → ℕ → ℕ
-reached zero v bound = 0
-reached (suc n) v bound = reach v bound + reached n v (bound * 10)
-
-reached-none : (n v bound : ℕ) → v < bound → reached n v bound ≡ 0
-unfolding reached
-reached-none zero v bound h = refl
-reached-none (suc n) v bound h = rw (← reach-no v bound h, reached-none n v (bound * 10) (omega arith))
-
-reach-tenth : (v bound : ℕ) → reach (v / 10) bound ≡ reach v (bound * 10)
-reach-tenth v bound = go (leb (bound * 10) v) refl
-  where
-    go : (d : Bool) → leb (bound * 10) v ≡ d → reach (v / 10) bound ≡ reach v (bound * 10)
-    go true e = sym (reach-yes (v / 10) bound (omega (arith, leb-true (bound * 10) v e))) ∙ rw e
-    go false e = sym (reach-no (v / 10) bound (omega (arith, leb-false (bound * 10) v e))) ∙ rw e
-
-reached-tenth : (n v bound : ℕ) → reached n (v / 10) bound ≡ reached n v (bound * 10)
-unfolding reached
-reached-tenth zero v bound = refl
-reached-tenth (suc n) v bound = rw (reach-tenth v bound, reached-tenth n v (bound * 10))
-
-reached-count : (n m v : ℕ) → n ≤ m → v < 10 ^ suc n → digitCount m v ≡ suc (reached n v 10)
-unfolding digitCount reached
-reached-count zero zero v le h = refl
-reached-count zero (suc m) v le h = rw (lt-ltb v 10 h)
-reached-count (suc n) zero v le h = absurd (omega arith)
-reached-count (suc n) (suc m) v le h = go (ltb v 10) refl (λ b. reached-count n m (v / 10) (omega arith) b)
-  where
-    go : (d : Bool) → ltb v 10 ≡ d → (v / 10 < 10 ^ suc n → digitCount m (v / 10) ≡ suc (reached n (v / 10) 10))
-        → cond d 1 (suc (digitCount m (v / 10))) ≡ suc (reach v 10 + reached n v (10 * 10))
-    go true e rest = sym (ap suc (reached-none (suc n) v 10 (ltb-true v 10 e)))
-    go false e rest =
-        let one : 1 ≡ reach v 10 = reach-yes v 10 (ltb-false v 10 e) in
-        let more : digitCount m (v / 10) ≡ suc (reached n v (10 * 10)) =
-        rest (div-lt-iff-lt-mul (lit≤ tt) .1 (rw pow-suc at h)) ∙ ap suc (reached-tenth n v 10) in
-        omega (arith, one, more)
-
--- a number of at most eight digits has one more than it reaches powers of ten
-pub short-count : (v a b c d e f g : ℕ) → v < 100000000 → a ≡ reach v 10 → b ≡ reach v 100 → c ≡ reach v 1000 → d ≡ reach v 10000 → e ≡ reach v 100000
-    → f ≡ reach v 1000000 → g ≡ reach v 10000000 → 1 + (a + b + c) + (d + e + f) + g ≡ length (decimal v)
-unfolding reached
-short-count v a b c d e f g h p q r s t u w =
-    let z : digitCount 19 v ≡ suc (reached 7 v 10) = reached-count 7 19 v (omega arith) h in
-    let y : length (decimal v) ≡ digitCount 19 v = decimal-length v (lt-of-lt-of-le h (lit≤ tt)) in
-    omega (arith, p, q, r, s, t, u, w, z, y)
 
 -- the digits of v are written from behind, down to i: those left to write are the i of rest
 pub record Filling (v : ℕ) (old out : Bytes) (rest i : ℕ) : Type 0 where

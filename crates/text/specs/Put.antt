@@ -1,7 +1,5 @@
 -- What the writing functions of this crate promise, told by the model's definitions. Assumes nothing.
 use Prim.Native.Nat.{ℕ}
-use mathlib.Core.Bool.{cond}
-use lib.Dec.{leb}
 use lib.ListN.{length}
 use Rattle.model.specs.Bytes.{Bytes}
 use Rattle.model.specs.Answer.{Answer, accepted, refused}
@@ -15,7 +13,3 @@ putLen (refused r) = 0
 -- an output with s at its front
 abbrev pub over : Bytes → Bytes → Bytes
 over s out = outputAfter (accepted s) out
-
--- 1 where a number is at least a bound, and else 0
-abbrev pub reach : ℕ → ℕ → ℕ
-reach v bound = cond (leb bound v) 1 0

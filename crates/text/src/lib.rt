@@ -8,7 +8,7 @@ ghost use Rattle.model.specs.Line.{trimmed};
 ghost use Rattle.model.specs.Number.{decimal};
 ghost use Rattle.model.specs.Output.{written, outputAfter};
 ghost use Rattle.text.specs.Scan.{isEnd, signLen, withDigits, Above, NumberRead};
-ghost use Rattle.text.specs.Put.{putLen, over, reach};
+ghost use Rattle.text.specs.Put.{putLen, over};
 use model::Fault;
 
 // A number at the front of a text: the text ends after it, or a comma follows and next is past the comma; or its fault.
@@ -165,38 +165,8 @@ pub fn put_bytes(s: &[u8], out: &mut [u8]) -> usize
     i
 }
 
-// 1 where v is at least a bound, and else 0: compiled without a branch.
-fn reaches(v: u64, bound: u64) -> usize
-    ensures { λ r. ⌜ (r ≡ reach v bound) × (r ≤ 1) ⌝ }
-{
-    if bound <= v {
-        return 1;
-    }
-    0
-}
-
-// The number of digits, at most eight. How many there are can't be foretold, so no branch depends on it.
-fn short_len(v: u64) -> usize
-    requires { ⌜ v < 100000000 ⌝ }
-    ensures { λ r. ⌜ (r ≡ length (decimal v)) × (r ≤ 8) ⌝ }
-{
-    let few = reaches(v, 10) + reaches(v, 100) + reaches(v, 1000);
-    let more = reaches(v, 10000) + reaches(v, 100000) + reaches(v, 1000000);
-    1 + few + more + reaches(v, 10000000)
-}
-
 // The number of decimal digits of v.
 pub fn decimal_len(v: u64) -> usize
-    ensures { λ r. ⌜ (r ≡ length (decimal v)) × (r ≤ 20) ⌝ }
-{
-    if v < 100000000 {
-        return short_len(v);
-    }
-    long_len(v)
-}
-
-// The same, counted digit by digit.
-fn long_len(v: u64) -> usize
     ensures { λ r. ⌜ (r ≡ length (decimal v)) × (r ≤ 20) ⌝ }
 {
     let mut rest = v;
@@ -213,7 +183,7 @@ fn put_long(v: u64, out: &mut [u8]) -> usize
     ensures { λ r. ⌜ r ≡ putLen (written (length (now (out .entry))) (decimal v)) ⌝ }
     ensures { λ _. ⌜ now (out .exit) ≡ outputAfter (written (length (now (out .entry))) (decimal v)) (now (out .entry)) ⌝ }
 {
-    let n = long_len(v);
+    let n = decimal_len(v);
     if out.len() < n {
         return 0;
     }
