@@ -80,11 +80,11 @@ pub trait Ranges {
     fn half_open(&self, a: u32, b: u32, answer: &mut [u64]);
 }
 
-/// So many words of scratch allow one entry.
-pub const WORDS_PER_ENTRY: usize = 32;
+pub use port::{EQUAL, GREATER, LESS, MOST_ENTRIES, OUTPUT_TOO_SHORT, WORDS, WORDS_PER_ENTRY};
+
+/// The scratch inside [`Gatherer::gather`].
 pub const INNER_WORDS: usize = 8192;
 
-pub const WORDS: usize = 8;
 pub type Words = [u64; WORDS];
 
 // The words of a line that is read. A kind is its place from 1 in `RecordKind`; what a kind does not have is 0.
@@ -103,10 +103,3 @@ pub const TEXT: usize = 0;
 pub const LINE: usize = 1;
 pub const FIELD: usize = 2;
 pub const NEEDED: usize = 3;
-
-/// Document 01's refusal of an output that is too short.
-pub const OUTPUT_TOO_SHORT: u32 = 14;
-
-pub const LESS: u32 = 0;
-pub const EQUAL: u32 = 1;
-pub const GREATER: u32 = 2;

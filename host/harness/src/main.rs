@@ -9,9 +9,8 @@
 
 mod linked;
 
-use harness::interface::{INNER_WORDS, WORDS_PER_ENTRY};
+use harness::interface::{INNER_WORDS, MOST_ENTRIES, WORDS_PER_ENTRY};
 use harness::lines::{by_chance, systematic};
-use harness::reports::compare::MOST_ENTRIES;
 use harness::{paths, ranges, reports, Chance, Comparison};
 use linked::Linked;
 use std::process::ExitCode;

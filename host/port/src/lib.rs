@@ -41,6 +41,14 @@ pub const MOST_TEXTS: usize = 64;
 /// The words of an answer.
 pub const WORDS: usize = 8;
 
+/// The refusal of an output that is too short, which tells the needed length.
+pub const OUTPUT_TOO_SHORT: u32 = 14;
+
+// What [`compare_paths`] answers.
+pub const LESS: u32 = 0;
+pub const EQUAL: u32 = 1;
+pub const GREATER: u32 = 2;
+
 extern "C" {
     fn lcov_read_line(line: *const u8, line_len: usize, answer: *mut u64, answer_len: usize)
         -> u32;
@@ -157,17 +165,26 @@ pub fn print_line(line: &[u8], out: &mut [u8], answer: &mut [u64]) -> u32 {
     }
 }
 
-/// Compares two paths by their components: 0 less, 1 equal, 2 greater.
+/// Compares two paths by their components: [`LESS`], [`EQUAL`] or [`GREATER`].
 pub fn compare_paths(a: &[u8], b: &[u8]) -> u32 {
     unsafe { lcov_compare_paths(a.as_ptr(), a.len(), b.as_ptr(), b.len()) }
 }
 
-/// Reads one text and prints its report. Refuses with 1 to 10 and 14.
-pub fn read_text(text: &[u8], scratch: &mut [u64], out: &mut [u8], answer: &mut [u64]) -> u32 {
+/// The calls that read bytes and write a report, in scratch.
+type Writing =
+    unsafe extern "C" fn(*const u8, usize, *mut u64, usize, *mut u8, usize, *mut u64, usize) -> u32;
+
+fn writing(
+    call: Writing,
+    bytes: &[u8],
+    scratch: &mut [u64],
+    out: &mut [u8],
+    answer: &mut [u64],
+) -> u32 {
     unsafe {
-        lcov_read_text(
-            text.as_ptr(),
-            text.len(),
+        call(
+            bytes.as_ptr(),
+            bytes.len(),
             scratch.as_mut_ptr(),
             scratch.len(),
             out.as_mut_ptr(),
@@ -176,38 +193,21 @@ pub fn read_text(text: &[u8], scratch: &mut [u64], out: &mut [u8], answer: &mut 
             answer.len(),
         )
     }
+}
+
+/// Reads one text and prints its report. Refuses with 1 to 10 and 14.
+pub fn read_text(text: &[u8], scratch: &mut [u64], out: &mut [u8], answer: &mut [u64]) -> u32 {
+    writing(lcov_read_text, text, scratch, out, answer)
 }
 
 /// The checked gather. Refuses with 1 to 14 and 16.
 pub fn gather_with(bundle: &[u8], scratch: &mut [u64], out: &mut [u8], answer: &mut [u64]) -> u32 {
-    unsafe {
-        lcov_gather_with(
-            bundle.as_ptr(),
-            bundle.len(),
-            scratch.as_mut_ptr(),
-            scratch.len(),
-            out.as_mut_ptr(),
-            out.len(),
-            answer.as_mut_ptr(),
-            answer.len(),
-        )
-    }
+    writing(lcov_gather_with, bundle, scratch, out, answer)
 }
 
 /// The lossy gather: the later given start line or checksum wins. Refuses with 1 to 10, 13, 14 and 16.
 pub fn gather_lossy(bundle: &[u8], scratch: &mut [u64], out: &mut [u8], answer: &mut [u64]) -> u32 {
-    unsafe {
-        lcov_gather_lossy(
-            bundle.as_ptr(),
-            bundle.len(),
-            scratch.as_mut_ptr(),
-            scratch.len(),
-            out.as_mut_ptr(),
-            out.len(),
-            answer.as_mut_ptr(),
-            answer.len(),
-        )
-    }
+    writing(lcov_gather_lossy, bundle, scratch, out, answer)
 }
 
 /// The checked gather with 8,192 words of scratch inside, which allow 256 entries.

@@ -6,7 +6,7 @@
 use crate::failure::Failure;
 use crate::input::Input;
 use crate::progress::Progress;
-use port::{Refusal, MOST_ENTRIES, MOST_TEXTS, WORDS, WORDS_PER_ENTRY};
+use port::{Refusal, MOST_ENTRIES, MOST_TEXTS, OUTPUT_TOO_SHORT, WORDS, WORDS_PER_ENTRY};
 use std::path::{Path, PathBuf};
 
 #[derive(Clone, Copy, PartialEq, Eq)]
@@ -14,8 +14,6 @@ pub enum Mode {
     Checked,
     Lossy,
 }
-
-const OUTPUT_TOO_SHORT: u32 = 14;
 
 /// Scratch for as many entries as there may be.
 pub struct Scratch(Vec<u64>);

@@ -2,7 +2,7 @@
 
 use crate::failure::Failure;
 use crate::gathering::Scratch;
-use port::{Refusal, WORDS};
+use port::{Refusal, EQUAL, WORDS};
 use std::ffi::{OsStr, OsString};
 use std::os::unix::ffi::OsStrExt;
 use std::path::PathBuf;
@@ -33,7 +33,6 @@ impl Cut {
     }
 
     fn is_of(&self, path: &[u8]) -> bool {
-        const EQUAL: u32 = 1;
         port::compare_paths(self.file.as_bytes(), path) == EQUAL
     }
 }

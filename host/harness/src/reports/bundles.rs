@@ -1,7 +1,6 @@
 //! Bundles as bytes: made, and taken apart by document 01's words.
 
-/// The most texts that a bundle may name.
-pub const MOST_TEXTS: usize = 64;
+pub use port::MOST_TEXTS;
 
 const WORD: usize = 4;
 

@@ -6,14 +6,13 @@ use super::tally::Tally;
 use super::Asked;
 use crate::compare::{shown, Difference};
 use crate::expected::{refused, too_short, written, Answer};
-use crate::interface::{Gatherer, INNER_WORDS, OUTPUT_TOO_SHORT, WORDS, WORDS_PER_ENTRY, WRITTEN};
+use crate::interface::{
+    Gatherer, INNER_WORDS, MOST_ENTRIES, OUTPUT_TOO_SHORT, WORDS, WORDS_PER_ENTRY, WRITTEN,
+};
 use crate::lent::{LentBytes, LentScratch, LentWords};
 use crate::ranges::List;
 use crate::Chance;
 use oracle::Mode;
-
-/// The most entries, whatever the scratch.
-pub const MOST_ENTRIES: usize = 65_535;
 
 const MOST_WORDS: usize = WORDS + 2;
 const BYTES_PAST: usize = 16;
