@@ -35,7 +35,7 @@ use Rattle.lcov.specs.declared.Gathered.the-variants as G
 use Rattle.lcov.specs.Layout.{index-at, spare-at, base-at, Space}
 use Rattle.lcov.specs.Gathering.{Joining, GatheredAs}
 use Rattle.lcov.proofs.TableLaws.{entries-wider, table-wider}
-use Rattle.lcov.proofs.BehindLaws.{read-table}
+use Rattle.lcov.proofs.OneLaws.{read-table}
 
 -- ---- the limit
 

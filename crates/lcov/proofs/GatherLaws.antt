@@ -20,18 +20,20 @@ use Rattle.model.specs.Reading.{readText}
 use Rattle.model.specs.Limits.{most-texts}
 use Rattle.model.specs.Bundle.{textCount, textAt, texts, wellFormed}
 use Rattle.model.specs.Gather.{gatherText, gatherTexts}
+use Rattle.model.proofs.OneText.{read-alone}
 use Rattle.bundle.proofs.BundleLaws.{well-few}
 use Rattle.closing.specs.Sections.{entriesAt}
 use Rattle.section.specs.Table.{Table}
 use Rattle.reader.specs.declared.TextAnswer.{TextAnswer}
 use Rattle.reader.specs.declared.TextAnswer.the-variants as T
+use Rattle.reader.specs.Reader.{seenText}
 use Rattle.merge.specs.declared.Joined.{Joined}
 use Rattle.merge.specs.declared.Joined.the-variants as J
 use Rattle.merge.specs.Merging.{Tables, seenJoined, HeldJoined, Merged}
 use Rattle.lcov.specs.declared.Gathered.{Gathered}
 use Rattle.lcov.specs.declared.Gathered.the-variants as G
 use Rattle.lcov.specs.Layout.{index-at, base-at, Space}
-use Rattle.lcov.specs.Gathering.{inTextOf, joinedAt, Joining, ReadBehind, HeldRead, seenGathered, HeldGathered, GatheredAs}
+use Rattle.lcov.specs.Gathering.{inTextOf, joinedAt, Joining, ReadOne, ReadBehind, seenGathered, GatheredAs}
 use Rattle.lcov.proofs.TableLaws.{table-none}
 
 -- ---- as the code meets them
@@ -43,7 +45,7 @@ text-few bundle i well h = omega (arith, well-few bundle well)
 pub space-same : (ws ws′ : List ℕ) (limit : ℕ) → Space ws limit → length ws′ ≡ length ws → Space ws′ limit
 space-same ws ws′ limit s e = record { most = s .most; words = rw e (s .words) }
 
--- ---- one text
+-- ---- one text, read behind the joined table
 
 module _ (bundle ws ws′ : List ℕ) (mode : Mode) (limit n i : ℕ) (got : TextAnswer) (b : ReadBehind bundle ws ws′ limit i got) where
   abbrev answer : Answer Report
@@ -53,15 +55,15 @@ module _ (bundle ws ws′ : List ℕ) (mode : Mode) (limit n i : ℕ) (got : Tex
   pub text-refused : (q r : Refusal) → got ≡ T.Refused q → r ≡ inTextOf i q → GatheredAs (inText i answer) bundle ws′ limit (G.Refused r)
   unfolding gatherText
   text-refused q r e h =
-      let read : refused q ≡ readText defaultTag limit (textAt bundle i .bytes) = rw e at (b .is) in
+      let read : refused q ≡ readText defaultTag limit (textAt bundle i .bytes) = rw e at (b .read .is) in
       record { is = rw (h, ← read); held = tt }
 
   module _ (kept used : ℕ) (e : got ≡ T.Read kept used) where
     read-is : accepted (entriesAt bundle (drop (base-at limit) ws′) (index-at limit) kept) ≡ readText defaultTag limit (textAt bundle i .bytes)
-    read-is = rw e at (b .is)
+    read-is = rw e at (b .read .is)
 
-    read-held : Table bundle (drop (base-at limit) ws′) (index-at limit) used kept
-    read-held = rw e at (b .held)
+    read-held : Table bundle (drop (base-at limit) ws′) (index-at limit) used kept × (used ≤ limit)
+    read-held = rw e at (b .read .held)
 
     -- both tables are there to be merged
     module _ (base index : ℕ) (at-base : base ≡ base-at limit) (at-index : index ≡ index-at limit) where
@@ -69,7 +71,7 @@ module _ (bundle ws ws′ : List ℕ) (mode : Mode) (limit n i : ℕ) (got : Tex
       two-tables space long j =
           record {
             into = rw (at-base, at-index, b .stays) (j .table);
-            other = rw (at-base, at-index) read-held;
+            other = rw (at-base, at-index) (read-held .0);
             rows = omega arith;
             words = omega arith;
             whole = omega (arith, space .words);
@@ -97,6 +99,42 @@ module _ (bundle ws ws′ : List ℕ) (mode : Mode) (limit n i : ℕ) (got : Tex
             let is : refuse fault ≡ answer = rw f at merged in
             record { is = rw (h, g, ← is); held = tt }
 
+-- ---- one text, read in front
+
+module _ (bundle ws ys us : List ℕ) (mode : Mode) (limit n i : ℕ) (got : TextAnswer) (o : ReadOne bundle ys limit i got) (none-yet : n ≡ 0) where
+  abbrev alone : Answer Report
+  alone = gatherText defaultTag mode limit (textAt bundle i .bytes) (joinedAt bundle ws limit n)
+
+  alone-is : alone ≡ seenText bundle ys (index-at limit) got
+  unfolding listed
+  alone-is = rw none-yet (read-alone defaultTag limit mode (textAt bundle i .bytes)) ∙ sym (o .is)
+
+  -- it is not readable
+  pub front-refused : (q r : Refusal) → got ≡ T.Refused q → r ≡ inTextOf i q → GatheredAs (inText i alone) bundle us limit (G.Refused r)
+  front-refused q r e h = record { is = rw (alone-is, e, h); held = tt }
+
+  -- all rows are the text's: they are the joined table
+  pub front-joined : (kept used base : ℕ) → got ≡ T.Read kept used → kept ≡ used → base ≡ base-at limit → take base us ≡ ys
+      → GatheredAs (inText i alone) bundle us limit (G.Entries kept)
+  front-joined kept used base e f g h =
+      let held : Table bundle ys (index-at limit) used kept × (used ≤ limit) = rw e at (o .held) in
+      let part : take (base-at limit) us ≡ ys = rw g at h in
+      record { is = rw (alone-is, e, part); held = record { table = rw part (rw (← f) at (held .0)); most = omega (arith, held .1) } }
+
+-- ---- nothing is joined yet
+
+pub joining-none : (bundle ws : List ℕ) (limit : ℕ) → Space ws limit → Joining bundle ws limit 0
+joining-none bundle ws limit space =
+    let front : length (take (base-at limit) ws) ≡ base-at limit = length-take-le (base-at limit) ws (omega (arith, space .words)) in
+    record { table = table-none bundle (take (base-at limit) ws) (index-at limit) (omega arith); most = omega arith }
+
+-- what was read in front doesn't matter
+pub text-again : (bundle ws us ws′ : List ℕ) (mode : Mode) (limit n i : ℕ) (got : Gathered) → n ≡ 0
+    → GatheredAs (inText i (gatherText defaultTag mode limit (textAt bundle i .bytes) (joinedAt bundle us limit 0))) bundle ws′ limit got
+    → GatheredAs (inText i (gatherText defaultTag mode limit (textAt bundle i .bytes) (joinedAt bundle ws limit n))) bundle ws′ limit got
+unfolding listed
+text-again bundle ws us ws′ mode limit n i got z g = rw z g
+
 -- ---- all texts
 
 -- n entries are joined of the texts before the i-th, and what is left gives the whole bundle's answer
@@ -113,11 +151,7 @@ module _ (bundle ws : List ℕ) (mode : Mode) (limit count : ℕ) where
   unfolding listed texts
   left-start space e =
       let all-of : count - 0 ≡ textCount bundle = omega arith in
-      let front : length (take (base-at limit) ws) ≡ base-at limit = length-take-le (base-at limit) ws (omega (arith, space .words)) in
-      record {
-        joining = record { table = table-none bundle (take (base-at limit) ws) (index-at limit) (omega arith); most = omega arith };
-        left = rw all-of;
-      }
+      record { joining = joining-none bundle ws limit space; left = rw all-of }
 
   module _ (n i : ℕ) (l : Left bundle ws mode limit count n i) where
     pub left-done : count ≤ i → GatheredAs (gatherTexts defaultTag mode limit (texts bundle) []) bundle ws limit (G.Entries n)

@@ -1,5 +1,5 @@
 pub mod TableLaws
-pub mod BehindLaws
+pub mod OneLaws
 pub mod GatherLaws
 pub mod CallLaws
 pub mod Demand

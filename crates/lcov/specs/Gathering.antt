@@ -35,16 +35,20 @@ pub record Joining (text ws : List ℕ) (limit n : ℕ) : Type 0 where
   pub table : Table text (take (base-at limit) ws) (index-at limit) n n
   pub most : n ≤ limit
 
--- ---- a text read behind it
+-- ---- a text that is read
 
-abbrev pub HeldRead : Bytes → List ℕ → ℕ → TextAnswer → Type 0
-HeldRead text ws limit (T.Read kept used) = Table text (drop (base-at limit) ws) (index-at limit) used kept
-HeldRead text ws limit (T.Refused r) = Unit {0}
+abbrev pub HeldOne : Bytes → List ℕ → ℕ → TextAnswer → Type 0
+HeldOne text ws limit (T.Read kept used) = Table text ws (index-at limit) used kept × (used ≤ limit)
+HeldOne text ws limit (T.Refused r) = Unit {0}
 
--- the answer is the model's for the i-th text, and the joined table stays
+-- the answer is the model's for the i-th text
+pub record ReadOne (bundle ws : List ℕ) (limit i : ℕ) (r : TextAnswer) : Type 0 where
+  pub is : seenText bundle ws (index-at limit) r ≡ readText defaultTag limit (textAt bundle i .bytes)
+  pub held : HeldOne bundle ws limit r
+
+-- the same in the words behind the joined table, which stays
 pub record ReadBehind (bundle ws ws′ : List ℕ) (limit i : ℕ) (r : TextAnswer) : Type 0 where
-  pub is : seenText bundle (drop (base-at limit) ws′) (index-at limit) r ≡ readText defaultTag limit (textAt bundle i .bytes)
-  pub held : HeldRead bundle ws′ limit r
+  pub read : ReadOne bundle (drop (base-at limit) ws′) limit i r
   pub stays : take (base-at limit) ws′ ≡ take (base-at limit) ws
 
 -- ---- texts gathered

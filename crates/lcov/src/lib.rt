@@ -22,9 +22,10 @@ ghost use Rattle.model.specs.Gather.{entryLimit, readAndPrint, gatherText, gath
 ghost use Rattle.model.specs.Gather.{gather as gatherOf};
 ghost use Rattle.model.specs.Filter.{filterText};
 ghost use Rattle.line_num.specs.Pairs.{rangesIn};
+ghost use Rattle.section.specs.Reading.{Room};
 ghost use Rattle.lcov.specs.Layout.{index-at, spare-at, base-at, Space};
 ghost use Rattle.lcov.specs.Demand.{AcceptsAndWrites};
-ghost use Rattle.lcov.specs.Gathering.{inTextOf, joinedAt, Joining, ReadBehind, GatheredAs};
+ghost use Rattle.lcov.specs.Gathering.{inTextOf, joinedAt, Joining, ReadOne, ReadBehind, GatheredAs};
 
 // The fixed numbers of model/specs/Limits.antt that code outside needs too: `words-per-entry`, and the scratch and the output of the program
 // `gather`, which `program-words` and `program-output` are.
@@ -93,21 +94,29 @@ enum Gathered {
     Refused(Refusal),
 }
 
-// The i-th text, read where it lies in the bundle, into the words behind the joined table.
-fn read_behind(bundle: &[u8], scratch: &mut [u64], limit: usize, i: usize) -> TextAnswer
-    requires { ⌜ (wellFormed (now bundle) ≡ true) × (i < textCount (now bundle)) × Space (now scratch) limit ⌝ }
-    ensures { λ r. ⌜ ReadBehind (now (bundle .entry)) (now (scratch .entry)) (now (scratch .exit)) limit i r ⌝ }
+// The i-th text, read where it lies in the bundle.
+fn read_one(bundle: &[u8], words: &mut [u64], limit: usize, i: usize) -> TextAnswer
+    requires { ⌜ (wellFormed (now bundle) ≡ true) × (i < textCount (now bundle)) × (limit ≤ most-entries) × Room (now words) (index-at limit) limit ⌝ }
+    ensures { λ r. ⌜ ReadOne (now (bundle .entry)) (now (words .exit)) limit i r ⌝ }
 {
     let part = bundle::text_part(bundle, i);
     let start = part.start;
     let end = start + part.len;
-    let base = base_at(limit);
     let index = index_at(limit);
-    reader::read_lines(&bundle[..end], start, &mut scratch[base..], index, limit)
+    reader::read_lines(&bundle[..end], start, words, index, limit)
 }
 
-// "for each text in turn, reads it and merges it [..] Then E is tested on what is joined so far"
-fn gather_text(
+// The same, into the words behind the joined table.
+fn read_behind(bundle: &[u8], scratch: &mut [u64], limit: usize, i: usize) -> TextAnswer
+    requires { ⌜ (wellFormed (now bundle) ≡ true) × (i < textCount (now bundle)) × Space (now scratch) limit ⌝ }
+    ensures { λ r. ⌜ ReadBehind (now (bundle .entry)) (now (scratch .entry)) (now (scratch .exit)) limit i r ⌝ }
+{
+    let base = base_at(limit);
+    read_one(bundle, &mut scratch[base..], limit, i)
+}
+
+// The i-th text is read behind the joined table and merged into that.
+fn gather_behind(
     bundle: &[u8],
     scratch: &mut [u64],
     limit: usize,
@@ -129,6 +138,36 @@ fn gather_text(
             }
         }
     }
+}
+
+// "for each text in turn, reads it and merges it [..] Then E is tested on what is joined so far". Where nothing is joined yet, the text is
+// read to where the joined table is to be, and is that table if none of its rows is free; else it is read again.
+fn gather_text(
+    bundle: &[u8],
+    scratch: &mut [u64],
+    limit: usize,
+    n: usize,
+    i: usize,
+    mode: Mode,
+) -> Gathered
+    requires { ⌜ (wellFormed (now bundle) ≡ true) × (i < textCount (now bundle)) × Space (now scratch) limit × Joining (now bundle) (now scratch) limit n ⌝ }
+    ensures { λ r. ⌜ GatheredAs (inText i (gatherText defaultTag mode limit (textAt (now (bundle .entry)) i .bytes) (joinedAt (now (bundle .entry)) (now (scratch .entry)) limit n))) (now (bundle .entry)) (now (scratch .exit)) limit r ⌝ }
+{
+    if n == 0 {
+        let base = base_at(limit);
+        match read_one(bundle, &mut scratch[..base], limit, i) {
+            TextAnswer::Refused(refusal) => {
+                return Gathered::Refused(in_text(i, refusal));
+            }
+            TextAnswer::Read { kept, used } => {
+                if kept == used {
+                    return Gathered::Entries(kept);
+                }
+                return gather_behind(bundle, scratch, limit, 0, i, mode);
+            }
+        }
+    }
+    gather_behind(bundle, scratch, limit, n, i, mode)
 }
 
 // "Gather begins with an empty report"

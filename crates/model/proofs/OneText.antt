@@ -235,16 +235,23 @@ module _ (tag : Kind → Bytes) (limit : ℕ) where
   no-text text = no-lines 1 (lines text) (outside [] [])
 
   -- a text joined to nothing is its report
-  alone : (mode : Mode) (text : Bytes) → inText 0 (gatherText tag mode limit text []) ≡ readText tag limit text
+  pub read-alone : (mode : Mode) (text : Bytes) → gatherText tag mode limit text [] ≡ readText tag limit text
   unfolding gatherText merge within
-  alone mode text = go (readText tag limit text) refl (no-text text)
+  read-alone mode text = go (readText tag limit text) refl
     where
-      go : (r : Answer Report) → readText tag limit text ≡ r → NoText r
-          → inText 0 (bind r (λ read. bind (merge mode [] read) (λ joined. within limit (length joined) joined))) ≡ r
-      go (refused c) e h = ap (λ (n : ℕ). refused (record { fault = c .fault; text = n; line = c .line; field = c .field; needed = c .needed })) (sym h)
-      go (accepted r) e h =
+      go : (r : Answer Report) → readText tag limit text ≡ r
+          → bind r (λ read. bind (merge mode [] read) (λ joined. within limit (length joined) joined)) ≡ r
+      go (refused c) e = refl
+      go (accepted r) e =
           let (R, n) = readText-valid tag limit text e in
           rw (addAll-empty entryKey compareKeys (combineEntries mode) keys-order (entries-keyed mode) r (R .sorted), within-fits full limit (length r) r n)
+
+  first-text : (r : Answer Report) → NoText r → inText 0 r ≡ r
+  first-text (refused c) h = ap (λ (n : ℕ). refused (record { fault = c .fault; text = n; line = c .line; field = c .field; needed = c .needed })) (sym h)
+  first-text (accepted r) h = refl
+
+  alone : (mode : Mode) (text : Bytes) → inText 0 (gatherText tag mode limit text []) ≡ readText tag limit text
+  alone mode text = ap (inText 0) (read-alone mode text) ∙ first-text (readText tag limit text) (no-text text)
 
 -- ONE TEXT
 pub gather-one : (tag : Kind → Bytes) (mode : Mode) (bundle text : Bytes) (words room : ℕ) → wellFormed bundle ≡ true

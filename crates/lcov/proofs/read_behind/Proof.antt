@@ -1,7 +1,6 @@
 -- `lcov::read_behind` meets its contract. Assumes nothing.
-use native.Mathlib.Omega.{arith}
 use borrow.Author.Needs.{needs}
-use Rattle.lcov.proofs.BehindLaws.{front-long, base-inside, behind-room, starts-inside, read-behind}
+use Rattle.lcov.proofs.OneLaws.{base-inside, behind-room, read-behind}
 use Rattle.lcov.proofs.read_behind.Statement.{statement}
 use Rattle.lcov.proofs.read_behind.Tie as tie
 
@@ -11,13 +10,9 @@ read-behind-spec =
     (tie.spec
     (λ c κs. search needs)
     (λ c. search needs)
-    (λ c κs. search needs)
-    (λ c κs. search needs)
-    (λ c. search (front-long, needs))
-    (λ c. search needs)
     (λ c. search (base-inside, needs))
     (λ c. search (base-inside, needs))
     (λ c. search (base-inside, needs))
-    (λ c κs. (search (behind-room, needs), search (starts-inside, needs)))
+    (λ c κs. (search needs, search needs, search needs, search (behind-room, needs)))
     (λ c. search needs)
     (λ c. search (read-behind, needs)))

@@ -1,4 +1,4 @@
--- A text of a bundle read behind the joined table. Assumes nothing.
+-- One text of a bundle read, in front or behind the joined table. Assumes nothing.
 use Prim.Native.Nat.{ℕ, _+_, _*_, _-_, _≤_, _<_}
 use native.Mathlib.Omega.{arith}
 use mathlib.Core.Path.{_≡_, refl, sym, ap, subst, _∙_}
@@ -19,10 +19,10 @@ use Rattle.section.specs.Table.{Table}
 use Rattle.section.specs.Reading.{Room}
 use Rattle.reader.specs.declared.TextAnswer.{TextAnswer}
 use Rattle.reader.specs.declared.TextAnswer.the-variants as T
-use Rattle.reader.specs.Reader.{seenText, TextRead}
+use Rattle.reader.specs.Reader.{TextRead}
 use Rattle.bundle.specs.Places.{partAt}
 use Rattle.lcov.specs.Layout.{index-at, base-at, Space}
-use Rattle.lcov.specs.Gathering.{HeldRead, ReadBehind}
+use Rattle.lcov.specs.Gathering.{ReadOne, ReadBehind}
 use Rattle.lcov.proofs.TableLaws.{entries-longer, table-longer}
 
 -- what was read is a table
@@ -63,11 +63,19 @@ module _ (ws : List ℕ) (limit : ℕ) (space : Space ws limit) (base : ℕ) (at
   base-inside = omega (arith, space .words)
 
   -- the words behind have room for a reading
-  pub behind-room : (index : ℕ) → index ≡ index-at limit → Room (take (length ws - base) (drop base ws)) index limit
-  behind-room index e = record { rows = omega arith; words = omega (arith, space .words, long) }
+  pub behind-room : Room (take (length ws - base) (drop base ws)) (index-at limit) limit
+  behind-room = record { rows = omega arith; words = omega (arith, space .words, long) }
     where
       long : length (take (length ws - base) (drop base ws)) ≡ length ws - base
       long = length-take-le (length ws - base) (drop base ws) (rw (length-drop base ws) (omega arith))
+
+  -- and so have those in front
+  pub front-room : Room (take base ws) (index-at limit) limit
+  front-room = record { rows = omega arith; words = omega (arith, length-take-le base ws base-inside) }
+
+-- as the code has the index's place in a local
+pub room-as : (ws : List ℕ) (limit index : ℕ) → index ≡ index-at limit → Room ws (index-at limit) limit → Room ws index limit
+room-as ws limit index e room = rw e room
 
 -- a text starts within the front that ends with it
 pub starts-inside : (bundle : List ℕ) (start len : ℕ) → start + len ≤ length bundle → start ≤ length (take (start + len) bundle)
@@ -75,7 +83,7 @@ starts-inside bundle start len h = omega (arith, length-take-le (start + len) bu
 
 -- ---- the reading
 
-module _ (bundle ws ys : List ℕ) (limit i : ℕ) (space : Space ws limit) (p : Part) (place : p ≡ partAt bundle i) (inside : p .start + p .len ≤ length bundle) where
+module _ (bundle ws : List ℕ) (limit i : ℕ) (p : Part) (place : p ≡ partAt bundle i) (inside : p .start + p .len ≤ length bundle) where
   abbrev end : ℕ
   end = p .start + p .len
 
@@ -86,38 +94,32 @@ module _ (bundle ws ys : List ℕ) (limit i : ℕ) (space : Space ws limit) (p :
   whole-is : take end bundle ++ drop end bundle ≡ bundle
   whole-is = take-append-drop end bundle
 
-  module _ (r : TextAnswer) (t : TextRead (take end bundle) ys (index-at limit) limit (p .start) r) where
-    seen-is : seenText (take end bundle) ys (index-at limit) r ≡ readText defaultTag limit (textAt bundle i .bytes)
-    seen-is = t .is ∙ ap (readText defaultTag limit) text-is
+  one-as : (r : TextAnswer) → TextRead (take end bundle) ws (index-at limit) limit (p .start) r → ReadOne bundle ws limit i r
+  one-as (T.Refused q) t = record { is = t .is ∙ ap (readText defaultTag limit) text-is; held = tt }
+  one-as (T.Read kept used) t =
+      let table = read-table (take end bundle) ws (index-at limit) limit (p .start) kept used t in
+      record {
+        is =
+            ap (λ (l : Report). accepted l)
+            (subst (λ (b : Bytes). entriesAt b ws (index-at limit) kept ≡ entriesAt (take end bundle) ws (index-at limit) kept) whole-is
+            (entries-longer (take end bundle) (drop end bundle) ws (index-at limit) used kept table))
+            ∙ t .is ∙ ap (readText defaultTag limit) text-is;
+        held = (
+          subst (λ (b : Bytes). Table b ws (index-at limit) used kept) whole-is
+              (table-longer (take end bundle) (drop end bundle) ws (index-at limit) used kept table),
+          t .held .1,
+        );
+      }
 
-    seen-whole : (r : TextAnswer) → TextRead (take end bundle) ys (index-at limit) limit (p .start) r
-        → seenText bundle ys (index-at limit) r ≡ seenText (take end bundle) ys (index-at limit) r
-    seen-whole (T.Refused q) t = refl
-    seen-whole (T.Read kept used) t =
-        let table = read-table (take end bundle) ys (index-at limit) limit (p .start) kept used t in
-        ap (λ (l : Report). accepted l)
-        (subst (λ (b : Bytes). entriesAt b ys (index-at limit) kept ≡ entriesAt (take end bundle) ys (index-at limit) kept) whole-is
-        (entries-longer (take end bundle) (drop end bundle) ys (index-at limit) used kept table))
+  -- as the code has the place in a local
+  pub read-one : (index : ℕ) → index ≡ index-at limit → (r : TextAnswer) → TextRead (take end bundle) ws index limit (p .start) r → ReadOne bundle ws limit i r
+  read-one index e r t = one-as r (rw e at t)
 
-    held-whole : (r : TextAnswer) → TextRead (take end bundle) ys (index-at limit) limit (p .start) r → (us : List ℕ) → drop (base-at limit) us ≡ ys
-        → HeldRead bundle us limit r
-    held-whole (T.Refused q) t us e = tt
-    held-whole (T.Read kept used) t us e =
-        let table = read-table (take end bundle) ys (index-at limit) limit (p .start) kept used t in
-        rw e
-        (subst (λ (b : Bytes). Table b ys (index-at limit) used kept) whole-is
-        (table-longer (take end bundle) (drop end bundle) ys (index-at limit) used kept table))
-
-    behind-as : ReadBehind bundle ws (lent ws ys (base-at limit)) limit i r
-    behind-as =
-        let behind = lent-behind ws ys (base-at limit) (base-inside ws limit space (base-at limit) refl) in
-        record {
-          is = ap (λ (us : List ℕ). seenText bundle us (index-at limit) r) behind ∙ seen-whole r t ∙ seen-is;
-          held = held-whole r t (lent ws ys (base-at limit)) behind;
-          stays = lent-before ws ys (base-at limit) (base-inside ws limit space (base-at limit) refl);
-        }
-
-  -- as the code has the places in its locals
-  pub read-behind : (base index : ℕ) → base ≡ base-at limit → index ≡ index-at limit → (r : TextAnswer)
-      → TextRead (take end bundle) ys index limit (p .start) r → ReadBehind bundle ws (lent ws ys base) limit i r
-  read-behind base index e f r t = rw e (behind-as r (rw f at t))
+-- and behind the joined table
+pub read-behind : (bundle ws ys : List ℕ) (limit i base : ℕ) (r : TextAnswer) → Space ws limit → base ≡ base-at limit → ReadOne bundle ys limit i r
+    → ReadBehind bundle ws (lent ws ys base) limit i r
+read-behind bundle ws ys limit i base r space e o =
+    let inside = base-inside ws limit space base e in
+    let here = lent-behind ws ys base inside in
+    let there = lent-before ws ys base inside in
+    record { read = rw (← e, here) o; stays = rw (← e, there) }
