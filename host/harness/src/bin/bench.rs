@@ -319,8 +319,19 @@ fn measure_reports() {
             text_row(entries, order, &files, &text);
         }
     }
+    for entries in SIZES {
+        for lines in [3, 2] {
+            let text = measured::replaced(&mut chance, entries / 2, lines);
+            let what = format!(
+                "read {} entries, shuffled files, each given again with {lines} lines for 3",
+                grouped(entries)
+            );
+            reading_text_row(&what, &text);
+        }
+    }
     let text = measured::one_file(&mut chance, measured::Order::Ascending, ENTRIES);
     reading_row(&text);
+    exact_row(&text);
     bundle_row(
         "50 × 1,000 entries, the same keys",
         &measured::same_keys(50, 1000),
@@ -329,10 +340,12 @@ fn measure_reports() {
         "50 × 1,000 entries, no shared keys",
         &measured::no_shared_keys(50, 1000),
     );
-    bundle_row(
-        "50 × 1,000 entries, interleaved lines",
-        &measured::interleaved(50, 1000),
-    );
+    for entries in [1200, 320, 80] {
+        bundle_row(
+            &format!("50 × {} entries, interleaved lines", grouped(entries)),
+            &measured::interleaved(50, entries),
+        );
+    }
     bundle_row(
         "50 × 1,000 entries in 250 files",
         &measured::same_files(50, 1000),
@@ -361,14 +374,30 @@ fn grouped(number: usize) -> String {
 }
 
 fn text_row(entries: usize, order: measured::Order, files: &str, text: &[u8]) {
-    let lent = Lent::sized(&rust_read_text(text));
     let what = format!(
         "read {} entries, {}, {files}",
         grouped(entries),
         order.name()
     );
+    reading_text_row(&what, text);
+}
+
+fn reading_text_row(what: &str, text: &[u8]) {
+    lent_row(what, text, Lent::roomy(&rust_read_text(text)));
+}
+
+/// An output with no byte to spare is measured for before it is written to.
+fn exact_row(text: &[u8]) {
+    let what = format!(
+        "read {} entries, ascending, one file, no byte of output to spare",
+        grouped(ENTRIES)
+    );
+    lent_row(&what, text, Lent::exact(&rust_read_text(text)));
+}
+
+fn lent_row(what: &str, text: &[u8], lent: Lent) {
     report_row(
-        &what,
+        what,
         || drop(black_box(rust_read_text(black_box(text)))),
         || {
             lent.call(|scratch, out, answer| {
@@ -397,7 +426,7 @@ fn reading_row(text: &[u8]) {
 }
 
 fn bundle_row(what: &str, bundle: &[u8]) {
-    let lent = Lent::sized(&rust_gathers(bundle));
+    let lent = Lent::roomy(&rust_gathers(bundle));
     report_row(
         &format!("gather {what}"),
         || drop(black_box(rust_gathers(black_box(bundle)))),
@@ -410,7 +439,7 @@ fn bundle_row(what: &str, bundle: &[u8]) {
 }
 
 fn inner_row(bundle: &[u8]) {
-    let lent = Lent::sized(&rust_gathers(bundle));
+    let lent = Lent::exact(&rust_gathers(bundle));
     report_row(
         &format!("gather {} bytes, scratch inside", grouped(bundle.len())),
         || drop(black_box(rust_gathers(black_box(bundle)))),
@@ -418,7 +447,7 @@ fn inner_row(bundle: &[u8]) {
     );
 }
 
-/// What is lent to the port, and kept between the rounds, as long as the report that is expected.
+/// What is lent to the port, and kept between the rounds.
 struct Lent {
     scratch: RefCell<Vec<u64>>,
     out: RefCell<Vec<u8>>,
@@ -426,10 +455,20 @@ struct Lent {
 }
 
 impl Lent {
-    fn sized(expected: &str) -> Self {
+    /// An output as a caller lends it who doesn't know how long the report is: the command's own measure.
+    fn roomy(expected: &str) -> Self {
+        Lent::sized(expected, 4 * expected.len() + 65_536)
+    }
+
+    /// As long as the report that is expected.
+    fn exact(expected: &str) -> Self {
+        Lent::sized(expected, expected.len())
+    }
+
+    fn sized(expected: &str, len: usize) -> Self {
         Lent {
             scratch: RefCell::new(vec![0; 65_535 * WORDS_PER_ENTRY]),
-            out: RefCell::new(vec![0; expected.len()]),
+            out: RefCell::new(vec![0; len]),
             expected: expected.to_owned(),
         }
     }

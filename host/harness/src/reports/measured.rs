@@ -60,6 +60,18 @@ pub fn many_files(chance: &mut Chance, order: Order, entries: usize) -> Vec<u8> 
     sections.collect::<String>().into_bytes()
 }
 
+/// The same files twice, in two orders: first with three lines each, then with so many. Half of the lines are replaced.
+pub fn replaced(chance: &mut Chance, entries: usize, lines: usize) -> Vec<u8> {
+    let files = entries / (1 + LINES_OF_A_FILE);
+    let mut text = String::new();
+    for lines in [LINES_OF_A_FILE, lines] {
+        for file in Order::Shuffled.numbers(chance, files) {
+            text.push_str(&section(&format!("decoder/part{file:06}.cc"), 1..=lines));
+        }
+    }
+    text.into_bytes()
+}
+
 fn section(path: &str, lines: impl Iterator<Item = usize>) -> String {
     let mut text = format!("TN:utterances\nSF:{path}\n");
     for line in lines {
@@ -150,6 +162,9 @@ mod tests {
             let many = many_files(&mut chance, order, 1000);
             assert_eq!(entries(Asked::Text(&many)), 1000);
         }
+        let twice = |lines| replaced(&mut Chance::new(1), 1000, lines);
+        assert_eq!(entries(Asked::Text(&twice(3))), 1000);
+        assert_eq!(entries(Asked::Text(&twice(2))), 750);
         let functions = functions(&mut Chance::new(1), Order::Ascending, 1000);
         assert_eq!(entries(Asked::Text(&functions)), 1000 / 41 * 41);
         let bundled = |bundle: &[u8]| entries(Asked::Bundle(Mode::Checked, bundle));
