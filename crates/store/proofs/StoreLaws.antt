@@ -7,10 +7,10 @@ use native.Mathlib.Omega.{arith}
 use lib.ListN.{length, set, length-set}
 use lib.Seq.{getD-set-same, getD-set-other}
 use Rattle.store.specs.declared.Row.{Row}
-use Rattle.store.specs.Places.{Same, Shifted, Put, Brought}
+use Rattle.store.specs.Places.{Same, Shifted, Put, Brought, Turned}
 use Rattle.store.specs.Rows.{row-words, word, rowAt, Kept, Moved, Written}
 use Rattle.store.specs.Store.{number, Store, row}
-use Rattle.store.proofs.PlaceLaws.{by-eq, brought-along, brought-index}
+use Rattle.store.proofs.PlaceLaws.{by-eq, brought-along, brought-index, turned-along, exchanged-index}
 use Rattle.store.proofs.WordLaws.{same-row, other-row}
 
 -- the index's words are written, the rows are not: a place that has the number of another has its row
@@ -155,5 +155,41 @@ module _ {ws ws₁ ws₂ ws₃ : List ℕ} (index used to from : ℕ) {n spare :
         let j = spare + (k - to) in
         μ₃ .shifted (index + k) j (omega arith) (omega arith) (omega arith) ∙ μ₂ .kept .above j (omega arith) ∙ μ₁ .shifted j (index + m) (omega arith) (omega arith) (omega arith);
     up = λ k m p q e. μ₃ .kept .above (index + k) (omega arith) ∙ μ₂ .shifted (index + k) (index + m) (omega arith) (omega arith) (omega arith) ∙ μ₁ .kept .below (index + m) (omega arith);
+    above = λ k p q. μ₃ .kept .above (index + k) (omega arith) ∙ μ₂ .kept .above (index + k) (omega arith) ∙ μ₁ .kept .below (index + k) (omega arith);
+  }
+
+-- ---- two blocks of the index change places
+
+module _ {ws ws′ : List ℕ} {index used lo mid : ℕ} (n : ℕ) (σ : Store ws index used) (h : lo + n ≤ mid) (l : mid + n ≤ used)
+    (τ : Turned (number ws index) (number ws′ index) used lo (lo + n) mid (mid + n)) where
+  pub exchanged-store : length ws′ ≡ length ws → Store ws′ index used
+  exchanged-store e = record {
+    rows-end = σ .rows-end;
+    index-end = omega (arith, σ .index-end);
+    numbers = exchanged-index n h l τ (σ .numbers);
+  }
+
+  pub exchanged-rows : {hi : ℕ} → Kept ws ws′ index hi → Turned (row ws index) (row ws′ index) used lo (lo + n) mid (mid + n)
+  exchanged-rows κ = turned-along (row ws index) (row ws′ index) (omega arith) h (omega arith) l (renumbered σ κ (omega arith)) τ
+
+-- the first n are taken out to the spare words, the others come in their place, and they are put in place of those
+module _ {ws ws₁ ws₂ ws₃ : List ℕ} (index used lo mid : ℕ) {n spare : ℕ} (h : lo + n ≤ mid) (l : mid + n ≤ used) (s : index + used ≤ spare)
+    (μ₁ : Moved ws ws₁ (index + lo) spare n) (μ₂ : Moved ws₁ ws₂ (index + mid) (index + lo) n) (μ₃ : Moved ws₂ ws₃ spare (index + mid) n) where
+  pub exchange-kept : Kept ws ws₃ index (spare + n)
+  exchange-kept = record {
+    below = λ j p. μ₃ .kept .below j (omega arith) ∙ μ₂ .kept .below j (omega arith) ∙ μ₁ .kept .below j (omega arith);
+    above = λ j p. μ₃ .kept .above j (omega arith) ∙ μ₂ .kept .above j (omega arith) ∙ μ₁ .kept .above j (omega arith);
+  }
+
+  pub exchange-turned : Turned (number ws index) (number ws₃ index) used lo (lo + n) mid (mid + n)
+  exchange-turned = record {
+    below = λ k p q. μ₃ .kept .below (index + k) (omega arith) ∙ μ₂ .kept .below (index + k) (omega arith) ∙ μ₁ .kept .below (index + k) (omega arith);
+    third = λ k m p q e. μ₃ .kept .below (index + k) (omega arith) ∙ μ₂ .shifted (index + k) (index + m) (omega arith) (omega arith) (omega arith) ∙ μ₁ .kept .below (index + m) (omega arith);
+    second = λ k m p q e.
+        let z : k ≡ m = omega arith in
+        rw z (μ₃ .kept .below (index + m) (omega arith) ∙ μ₂ .kept .above (index + m) (omega arith) ∙ μ₁ .kept .below (index + m) (omega arith));
+    first = λ k m p q e.
+        let j = spare + (k - mid) in
+        μ₃ .shifted (index + k) j (omega arith) (omega arith) (omega arith) ∙ μ₂ .kept .above j (omega arith) ∙ μ₁ .shifted j (index + m) (omega arith) (omega arith) (omega arith);
     above = λ k p q. μ₃ .kept .above (index + k) (omega arith) ∙ μ₂ .kept .above (index + k) (omega arith) ∙ μ₁ .kept .below (index + k) (omega arith);
   }

@@ -146,6 +146,26 @@ pub fn bring_block(
     move_down(words, spare, index + to, n);
 }
 
+// The n rows at `lo` and the n at `mid` change places: as blocks are turned, and those between stay. `spare` is where n free words start.
+pub fn exchange(
+    words: &mut [u64],
+    index: usize,
+    used: usize,
+    lo: usize,
+    mid: usize,
+    n: usize,
+    spare: usize,
+)
+    requires { ⌜ Store (now words) index used × (lo + n ≤ mid) × (mid + n ≤ used) ⌝ }
+    requires { ⌜ (index + used ≤ spare) × (spare + n ≤ length (now words)) ⌝ }
+    ensures store { λ _. ⌜ Store (now (words .exit)) index used ⌝ }
+    ensures rows { λ _. ⌜ Turned (row (now (words .entry)) index) (row (now (words .exit)) index) used lo (lo + n) mid (mid + n) ⌝ }
+{
+    move_down(words, index + lo, spare, n);
+    move_down(words, index + mid, index + lo, n);
+    move_down(words, spare, index + mid, n);
+}
+
 // The blocks from lo, from hi and from mid, up to `end`, change places: the last comes first and the first last.
 pub fn turn(
     words: &mut [u64],
@@ -163,6 +183,10 @@ pub fn turn(
     ensures rows { λ _. ⌜ Turned (row (now (words .entry)) index) (row (now (words .exit)) index) used lo hi mid end ⌝ }
 {
     let third = end - mid;
+    if hi - lo == third {
+        exchange(words, index, used, lo, mid, third, spare);
+        return;
+    }
     bring_block(words, index, used, lo, mid, third, spare);
     if lo < hi {
         bring_block(words, index, used, lo + third, hi + third, mid - hi, spare);

@@ -1,18 +1,23 @@
--- `store::turn` meets its contract: two blocks are brought, or one where the first is empty. Assumes nothing.
+-- `store::turn` meets its contract: blocks of one size change places; else two blocks are brought, or one where the first is empty. Assumes
+-- nothing.
 use native.Mathlib.Omega.{arith}
-use Rattle.store.proofs.PlaceLaws.{brought-none, turned}
+use Rattle.store.proofs.PlaceLaws.{brought-none, turned, turned-as}
 use borrow.Author.Needs.{needs}
 use Rattle.store.proofs.turn.Statement.{statement}
 use Rattle.store.proofs.turn.Tie as tie
 
 abbrev start : tie.After-bring-block → tie.Start
-start c = c .before .before .before
+start c = c .before .before .before .before
 
 pub turn-spec : {M : Type 1} → statement M
 turn-spec =
     tie.close
     (tie.spec
     (λ c. search needs)
+    (λ c. search needs)
+    (λ c κs. search needs)
+    (λ c. search needs)
+    (λ c. let x = c .before .before .exchange in (x .ensures .0, turned-as (x .ensures .1) (omega arith) (omega arith)))
     (λ c κs. search needs)
     (λ c. search needs)
     (λ c. search needs)
