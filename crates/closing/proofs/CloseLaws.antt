@@ -1,8 +1,8 @@
 -- A section put among others, as the model keeps it. Assumes nothing.
-use mathlib.Core.Path.{_≡_, sym, ap, ap₂, _∙_}
+use mathlib.Core.Path.{_≡_, sym, ap, ap₂, subst, _∙_}
 use mathlib.Core.Logic.{_≢_}
 use mathlib.Core.List.{List, _∷_, _++_, map}
-use Prim.Native.Nat.{ℕ, suc, _+_, _-_, _<_, Ordering·lt, Ordering·eq, Ordering·gt}
+use Prim.Native.Nat.{ℕ, suc, _+_, _-_, _≤_, _<_, Ordering·lt, Ordering·eq, Ordering·gt}
 use native.Mathlib.Omega.{arith}
 use Rattle.store.specs.declared.Row.{Row}
 use Rattle.store.specs.Places.{listed}
@@ -10,13 +10,13 @@ use Rattle.store.proofs.ListedLaws.{length-listed, listed-cong, listed-three, m
 use Rattle.model.specs.Bytes.{Bytes}
 use Rattle.model.specs.Report.{Item, sectionItem, Entry, Report, SectionKey, inSection}
 use Rattle.model.specs.Reading.{spellingOf, keepSection, replaceSection}
-use Rattle.items.specs.Items.{itemOf, Inner}
+use Rattle.items.specs.Items.{kindOf, itemOf, Inner}
 use Rattle.closing.specs.Sections.{testOf, pathOf, entryOf, keyOf, Named, Ordered, IsRun}
 use Rattle.closing.specs.Closing.{Spliced}
 use Rattle.closing.proofs.RunLaws.{run-before, run-in, run-behind, run-ends}
-use Rattle.closing.proofs.OwnLaws.{item-kept, runAt, own-entry}
+use Rattle.closing.proofs.OwnLaws.{item-kept, runAt, own-place, own-entry}
 use Rattle.closing.proofs.ReplaceLaws.{all-listed, Compared, replaced, keep-some}
-use Rattle.closing.proofs.SpliceLaws.{spliced-keys, spliced-ordered}
+use Rattle.closing.proofs.SpliceLaws.{spliced-keys, spliced-places, spliced-same, spliced-ordered}
 
 -- ---- the entries as three parts, by a key
 
@@ -32,6 +32,13 @@ module _ {text : Bytes} {f : ℕ → Row} {m lo hi : ℕ} {key : SectionKey} (ρ
       ap (listed (λ k. entryOf text (f k))) (let e : m ≡ lo + (hi - lo + (m - hi)) = omega (arith, run-ends ρ, ρ .high .most) in e)
       ∙ listed-three (λ k. entryOf text (f k)) lo (hi - lo) (m - hi)
 
+  -- no entry has the key
+  pub parts-none : hi ≤ lo → listed (λ k. entryOf text (f k)) m ≡ lowerAt text f lo ++ higherAt text f m lo hi
+  unfolding listed
+  parts-none none =
+      parts ∙ ap (λ (k : ℕ). lowerAt text f lo ++ (listed (λ j. entryOf text (f (lo + j))) k ++ higherAt text f m lo hi))
+      (let z : hi - lo ≡ 0 = omega arith in z)
+
   pub lower-all : Compared key Ordering·gt (lowerAt text f lo)
   lower-all = all-listed _ (λ k. entryOf text (f k)) lo (λ k l. run-before ρ k l)
 
@@ -43,8 +50,9 @@ module _ {text : Bytes} {f : ℕ → Row} {m lo hi : ℕ} {key : SectionKey} (ρ
       all-listed _ (λ k. entryOf text (f (lo + (hi - lo + k)))) (m - hi)
       (λ k l. run-behind ρ (lo + (hi - lo + k)) (omega (arith, run-ends ρ)) (omega (arith, run-ends ρ)))
 
-module _ {text : Bytes} {f g : ℕ → Row} {m n lo hi : ℕ} {key : Row} (σ : Ordered text f m) (inner : (k : ℕ) → k < n → Inner text (f (m + 1 + k)))
-    (ν : Named text key) (tag : key .tag ≡ 0) (ρ : IsRun text f m (keyOf text key) lo hi) (ς : Spliced f g m n lo hi key) where
+module _ {text : Bytes} {f g : ℕ → Row} {m from n lo hi : ℕ} {key : Row} (σ : Ordered text f m)
+    (inner : (k : ℕ) → k < n → Inner text (f (from + 1 + k))) (ν : Named text key) (tag : key .tag ≡ 0)
+    (ρ : IsRun text f m (keyOf text key) lo hi) (ς : Spliced f g m from n lo hi key) where
   -- ---- the entries after
 
   abbrev G : ℕ → Entry
@@ -55,23 +63,23 @@ module _ {text : Bytes} {f g : ℕ → Row} {m n lo hi : ℕ} {key : Row} (σ : 
 
   -- the section's items
   abbrev pub itemsOf : List Item
-  itemsOf = listed (λ k. itemOf text (f (m + 1 + k))) n
+  itemsOf = listed (λ k. itemOf text (f (from + 1 + k))) n
 
   low-parts : listed G lo ≡ lowerAt text f lo
   low-parts = listed-cong G (λ k. entryOf text (f k)) lo (λ k l. ap (entryOf text) (ς .low k (omega arith) l))
 
-  item-parts : (k : ℕ) → k < n → G (lo + suc k) ≡ mk (itemOf text (f (m + 1 + k)))
+  item-parts : (k : ℕ) → k < n → G (lo + suc k) ≡ mk (itemOf text (f (from + 1 + k)))
   item-parts k l =
-      ap (entryOf text) (ς .items (lo + suc k) (m + 1 + k) (omega arith) (omega arith) (omega arith))
-      ∙ ap mk (item-kept text (f (m + 1 + k)) key (omega (arith, inner k l .inner)))
+      ap (entryOf text) (ς .items (lo + suc k) (from + 1 + k) (omega arith) (omega arith) (omega arith))
+      ∙ ap mk (item-kept text (f (from + 1 + k)) key (omega (arith, inner k l .inner)))
 
   own-parts : listed (λ k. G (lo + k)) (n + 1) ≡ map mk (sectionItem (spellingOf (pathOf text key) (runAt text f lo hi)) ∷ itemsOf)
   unfolding listed
   own-parts =
       ap (listed (λ k. G (lo + k))) (let e : n + 1 ≡ suc n = omega arith in e)
       ∙ ap₂ _∷_ (ap G (let e : lo + 0 ≡ lo = omega arith in e) ∙ own-entry σ ν tag ρ (ς .own) .is)
-      (listed-cong (λ k. G (lo + suc k)) (λ k. mk (itemOf text (f (m + 1 + k)))) n item-parts
-      ∙ sym (map-listed mk (λ k. itemOf text (f (m + 1 + k))) n))
+      (listed-cong (λ k. G (lo + suc k)) (λ k. mk (itemOf text (f (from + 1 + k)))) n item-parts
+      ∙ sym (map-listed mk (λ k. itemOf text (f (from + 1 + k))) n))
 
   high-parts : listed (λ k. G (lo + (n + 1 + k))) (m - hi) ≡ higherAt text f m lo hi
   high-parts =
@@ -98,6 +106,14 @@ module _ {text : Bytes} {f g : ℕ → Row} {m n lo hi : ℕ} {key : Row} (σ : 
   pub closed-ordered : Ordered text g (lo + (n + 1) + (m - hi))
   closed-ordered = spliced-ordered σ inner ν ρ (own-entry σ ν tag ρ (ς .own)) ς
 
+  pub closed-same : hi ≡ lo + (n + 1) → (k : ℕ) → k < m → keyOf text (g k) ≡ keyOf text (f k)
+  closed-same = spliced-same σ inner ν ρ (own-entry σ ν tag ρ (ς .own)) ς
+
   pub closed-keys : (P : SectionKey → Type 0) → ((k : ℕ) → k < m → P (keyOf text (f k))) → P (keyOf text key)
       → (k : ℕ) → k < lo + (n + 1) + (m - hi) → P (keyOf text (g k))
   closed-keys = spliced-keys σ inner ν ρ (own-entry σ ν tag ρ (ς .own)) ς
+
+  pub closed-places : (P : SectionKey → ℕ → Type 0) → ((k : ℕ) → k < m → kindOf (f k) ≡ 0 → P (keyOf text (f k)) (f k .k1))
+      → P (keyOf text key) (key .k1) → (k : ℕ) → k < lo + (n + 1) + (m - hi) → kindOf (g k) ≡ 0 → P (keyOf text (g k)) (g k .k1)
+  closed-places P others here = spliced-places σ inner ν ρ (own-entry σ ν tag ρ (ς .own)) ς P others
+      (subst (P (keyOf text key)) (sym (own-place (ς .own))) here)

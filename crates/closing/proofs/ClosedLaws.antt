@@ -1,11 +1,12 @@
 -- The open section is kept among settled and late ones, as the model keeps it. Assumes nothing.
 use mathlib.Core.Path.{_≡_, refl, sym, ap, ap₂, _∙_}
 use mathlib.Core.Logic.{_≢_}
+use mathlib.Core.Bool.{false}
 use mathlib.Core.List.{List, _++_}
 use Prim.Native.Nat.{ℕ, _+_, _-_, _≤_, _<_, Ordering·lt, Ordering·eq, Ordering·gt}
 use native.Mathlib.Omega.{arith}
 use Rattle.store.specs.declared.Row.{Row}
-use Rattle.store.specs.Places.{listed, Same}
+use Rattle.store.specs.Places.{listed, Same, Cut}
 use Rattle.store.specs.Store.{row, Store}
 use Rattle.store.proofs.PlaceLaws.{by-lt}
 use Rattle.store.proofs.ListedLaws.{length-listed, listed-cong}
@@ -17,15 +18,15 @@ use Rattle.model.proofs.KeyOrder.{sections-order}
 use Rattle.items.specs.Items.{itemOf, Inner}
 use Rattle.items.specs.Open.{itemFrom, itemsAt, Open}
 use Rattle.closing.specs.declared.Parts.{Parts}
-use Rattle.closing.specs.Sections.{testOf, pathOf, entryOf, keyOf, Named, rowsFrom, entriesFrom, SectionsFrom, IsRun}
+use Rattle.closing.specs.Sections.{testOf, pathOf, entryOf, keyOf, Named, rowsFrom, entriesFrom, SectionsFrom, goes, Past, IsRun}
 use Rattle.closing.specs.Closing.{Spliced}
-use Rattle.closing.specs.Late.{together, keptAt, InParts, Settled, SameReport, Closed}
+use Rattle.closing.specs.Late.{together, keptAt, withPlace, InParts, Settled, SameReport, Closed}
 use Rattle.closing.proofs.RunLaws.{run-before, run-behind, run-ends}
 use Rattle.closing.proofs.OwnLaws.{runAt}
 use Rattle.closing.proofs.ReplaceLaws.{keep-some}
-use Rattle.closing.proofs.CloseLaws.{lowerAt, higherAt, parts, lower-all, run-all, higher-all, closed-entries, closed-ordered, closed-keys}
+use Rattle.closing.proofs.CloseLaws.{lowerAt, higherAt, parts, parts-none, lower-all, run-all, higher-all, closed-entries, closed-ordered, closed-keys, closed-places}
 use Rattle.closing.proofs.TogetherLaws.{replaced-together}
-use Rattle.closing.proofs.LateLaws.{same-from, all-early, kept-early}
+use Rattle.closing.proofs.LateLaws.{same-from, cut-as, all-early, kept-early}
 
 -- a section with nothing in it is dropped
 pub closed-empty : {text ws : List ℕ} {index used settled late n : ℕ} (key : Row) → InParts text ws index used settled late → n ≡ 0
@@ -50,10 +51,10 @@ module _ (text ws : List ℕ) (index : ℕ) (first at m : ℕ) (e : first ≡ at
   there : (k : ℕ) → rowsFrom ws index at (m + 1 + k) ≡ row ws index (first + k)
   there k = ap (row ws index) (let z : at + (m + 1 + k) ≡ first + k = omega arith in z)
 
-  inner-from : {used n : ℕ} → Open text ws index used first n → (k : ℕ) → k < n → Inner text (rowsFrom ws index at (m + 1 + k))
+  pub inner-from : {used n : ℕ} → Open text ws index used first n → (k : ℕ) → k < n → Inner text (rowsFrom ws index at (m + 1 + k))
   inner-from ο k l = rw (there k) (ο .inner k l)
 
-  items-from : (n : ℕ) → listed (λ k. itemOf text (rowsFrom ws index at (m + 1 + k))) n ≡ itemsAt text ws index first n
+  pub items-from : (n : ℕ) → listed (λ k. itemOf text (rowsFrom ws index at (m + 1 + k))) n ≡ itemsAt text ws index first n
   items-from n = listed-cong (λ k. itemOf text (rowsFrom ws index at (m + 1 + k))) (itemFrom text ws index first) n
       (λ k l. ap (itemOf text) (there k))
 
@@ -77,7 +78,7 @@ module _ {text ws ws₁ : List ℕ} {index used settled late n m : ℕ} (σ : Se
       (λ k l. ap (itemOf text) (still k l))
 
   pub closed-settled : {ws₂ : List ℕ} {lo hi r : ℕ} {key : Row} → Store ws₂ index used → Named text key → key .tag ≡ 0
-      → IsRun text (rowsFrom ws₁ index 0) m (keyOf text key) lo hi → Spliced (rowsFrom ws₁ index 0) (rowsFrom ws₂ index 0) m n lo hi key → n ≢ 0
+      → IsRun text (rowsFrom ws₁ index 0) m (keyOf text key) lo hi → Spliced (rowsFrom ws₁ index 0) (rowsFrom ws₂ index 0) m m n lo hi key → n ≢ 0
       → r ≡ lo + (n + 1) + (m - hi) → Closed text ws ws₂ index used settled late n key (record { settled = r; late = 0 })
   closed-settled {ws₂} {lo} {hi} {r} {key} σ₂ ν tag ρ ς z count = rw count (record {
     entries =
@@ -104,17 +105,25 @@ settled-none {text} {ws} {index} {used} {settled} {late} π z = record {
 
 -- ---- among the late ones
 
-module _ {text ws : List ℕ} (ws₁ : List ℕ) {index used settled late n lo₀ hi₀ lo hi : ℕ} {key : Row} (π : InParts text ws index used settled late)
+module _ {text ws : List ℕ} (ws₁ : List ℕ) {index used settled late n lo₀ hi₀ lo hi : ℕ} {key own : Row}
+    (π : InParts text ws index used settled late)
     (ο : Open text ws index used (settled + late + 1) n) (ν : Named text key) (tag : key .tag ≡ 0)
     (ρ₀ : IsRun text (rowsFrom ws index 0) settled (keyOf text key) lo₀ hi₀) (none : hi₀ ≤ lo₀)
-    (ρ : IsRun text (rowsFrom ws index settled) late (keyOf text key) lo hi)
-    (ς : Spliced (rowsFrom ws index settled) (rowsFrom ws₁ index settled) late n lo hi key)
+    (ρ : IsRun text (rowsFrom ws index settled) late (keyOf text key) lo hi) (placed : own ≡ withPlace key lo₀)
+    (ς : Spliced (rowsFrom ws index settled) (rowsFrom ws₁ index settled) late late n lo hi own)
     (below : Same (row ws index) (row ws₁ index) 0 settled) where
   abbrev F : ℕ → Row
   F = rowsFrom ws index settled
 
   abbrev E : ℕ → Row
   E = rowsFrom ws index 0
+
+  -- the own row says its place; its test name and path are those of the key
+  named : Named text (withPlace key lo₀)
+  named = record { test = ν .test; path = ν .path }
+
+  spliced : Spliced F (rowsFrom ws₁ index settled) late late n lo hi (withPlace key lo₀)
+  spliced = rw placed at ς
 
   -- no settled entry has the key
   foreign : (i : ℕ) → i < settled → compareSections (keyOf text key) (keyOf text (E i)) ≢ Ordering·eq
@@ -127,10 +136,7 @@ module _ {text ws : List ℕ} (ws₁ : List ℕ) {index used settled late n lo�
   late-inner = inner-from text ws index (settled + late + 1) settled late refl ο
 
   early-parts : entriesFrom text ws index 0 settled ≡ lowerAt text E lo₀ ++ higherAt text E settled lo₀ hi₀
-  unfolding listed
-  early-parts =
-      parts ρ₀ ∙ ap (λ (k : ℕ). lowerAt text E lo₀ ++ (listed (λ j. entryOf text (E (lo₀ + j))) k ++ higherAt text E settled lo₀ hi₀))
-      (let z : hi₀ - lo₀ ≡ 0 = omega arith in z)
+  early-parts = parts-none ρ₀ none
 
   early-same : entriesFrom text ws₁ index 0 settled ≡ entriesFrom text ws index 0 settled
   early-same = listed-cong (λ k. entryOf text (rowsFrom ws₁ index 0 k)) (λ k. entryOf text (E k)) settled
@@ -161,7 +167,7 @@ module _ {text ws : List ℕ} (ws₁ : List ℕ) {index used settled late n lo�
         → Closed text ws ws₁ index used settled late n key (record { settled = settled; late = r })
     closed-late σ₁ count = rw count (record {
       entries =
-          ap₂ together early-same (closed-entries (π .behind .rows) late-inner ν tag ρ ς z)
+          ap₂ together early-same (closed-entries (π .behind .rows) late-inner named tag ρ spliced z)
           ∙ among
           ∙ ap (λ (l : List Item). keepSection (testOf text key) (pathOf text key) l (keptAt text ws index settled late))
           (items-from text ws index (settled + late + 1) settled late refl n);
@@ -170,10 +176,15 @@ module _ {text ws : List ℕ} (ws₁ : List ℕ) {index used settled late n lo�
         behind = record {
           store = σ₁;
           room = omega (arith, ο .room, run-ends ρ, ρ .high .most);
-          rows = closed-ordered (π .behind .rows) late-inner ν tag ρ ς;
+          rows = closed-ordered (π .behind .rows) late-inner named tag ρ spliced;
         };
         apart = λ i j l h. rw (below (0 + i) (omega arith) (omega arith))
-            (closed-keys (π .behind .rows) late-inner ν tag ρ ς (λ (k : SectionKey). compareSections k (keyOf text (E i)) ≢ Ordering·eq)
+            (closed-keys (π .behind .rows) late-inner named tag ρ spliced (λ (k : SectionKey). compareSections k (keyOf text (E i)) ≢ Ordering·eq)
             (λ k q. π .apart i k l q) (foreign i l) j h);
+        noted = λ j l h. cut-as
+            (λ k q. ap (λ (r : Row). goes false (compareSections (keyOf text (rowsFrom ws₁ index settled j)) (keyOf text r)))
+            (below (0 + k) (omega arith) (omega arith)))
+            (closed-places (π .behind .rows) late-inner named tag ρ spliced (λ (q : SectionKey) (p : ℕ). Cut (Past false text E q) settled p)
+            (π .noted) (ρ₀ .low) j l h);
       };
     })

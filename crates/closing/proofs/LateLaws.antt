@@ -21,6 +21,7 @@ use Rattle.map.proofs.Results.{accepted-inj}
 use Rattle.model.specs.Bytes.{Bytes}
 use Rattle.model.specs.Report.{Entry, SectionKey, sectionKey, compareSections}
 use Rattle.model.proofs.KeyOrder.{sections-order}
+use Rattle.items.specs.Items.{kindOf}
 use Rattle.weaving.specs.Woven.{Rising, Woven, Seats}
 use Rattle.weaving.proofs.WovenLaws.{woven-as, woven-each, woven-pairs}
 use Rattle.weaving.proofs.SeatLaws.{woven-pass}
@@ -45,14 +46,48 @@ same-from ws′ {at = at} used′ σ σ′ room s = record {
   };
 }
 
+pub cut-as : {test test′ : ℕ → Bool} {n r : ℕ} → ((k : ℕ) → k < n → test′ k ≡ test k) → Cut test n r → Cut test′ n r
+cut-as e c = record {
+  most = c .most;
+  past = λ k l. e k (omega (arith, c .most)) ∙ c .past k l;
+  rest = λ k l h. e k h ∙ c .rest k l h;
+}
+
+-- the late rows are as they were, and the settled ones have the keys that they had
+module _ {text ws : List ℕ} (ws′ : List ℕ) {index used settled late : ℕ} (π : InParts text ws index used settled late)
+    (keys : (k : ℕ) → k < settled → keyOf text (rowsFrom ws′ index 0 k) ≡ keyOf text (rowsFrom ws index 0 k))
+    (s : Same (row ws index) (row ws′ index) settled (settled + late)) where
+  late-row : (j : ℕ) → j < late → rowsFrom ws′ index settled j ≡ rowsFrom ws index settled j
+  late-row j l = s (settled + j) (omega arith) (omega arith)
+
+  pub apart-as : (i j : ℕ) → i < settled → j < late
+      → compareSections (keyOf text (rowsFrom ws′ index settled j)) (keyOf text (rowsFrom ws′ index 0 i)) ≢ Ordering·eq
+  apart-as i j l h = rw (keys i l, late-row j h) (π .apart i j l h)
+
+  pub place-as : (j : ℕ) {r : ℕ} → j < late → PlaceOf text ws index settled j r → PlaceOf text ws′ index settled j r
+  place-as j l c = cut-as
+      (λ k h. ap₂ (λ (a b : SectionKey). goes false (compareSections a b)) (ap (keyOf text) (late-row j l)) (keys k h))
+      c
+
+  pub noted-as : (j : ℕ) → j < late → kindOf (rowsFrom ws′ index settled j) ≡ 0
+      → PlaceOf text ws′ index settled j (rowsFrom ws′ index settled j .k1)
+  noted-as j l h =
+      subst (λ (r : Row). PlaceOf text ws′ index settled j (r .k1)) (sym (late-row j l))
+      (place-as j l (π .noted j l (ap kindOf (sym (late-row j l)) ∙ h)))
+
 pub parts-as : {text ws : List ℕ} (ws′ : List ℕ) {index used settled late : ℕ} (used′ : ℕ) → InParts text ws index used settled late
     → Store ws′ index used′
     → settled + late ≤ used′ → Same (row ws index) (row ws′ index) 0 (settled + late) → InParts text ws′ index used′ settled late
-parts-as ws′ {settled = settled} used′ π σ room s = record {
-  early = same-from ws′ used′ (π .early) σ (omega arith) (λ k l h. s k l (omega arith));
-  behind = same-from ws′ used′ (π .behind) σ room (λ k l h. s k (omega arith) h);
-  apart = λ i j l h. rw (s (settled + j) (omega arith) (omega arith), s (0 + i) (omega arith) (omega arith)) (π .apart i j l h);
-}
+parts-as {text} {ws} ws′ {index} {used} {settled} {late} used′ π σ room s =
+    let later : Same (row ws index) (row ws′ index) settled (settled + late) = λ k l h. s k (omega arith) h in
+    let keys : (k : ℕ) → k < settled → keyOf text (rowsFrom ws′ index 0 k) ≡ keyOf text (rowsFrom ws index 0 k) =
+    λ k l. ap (keyOf text) (s (0 + k) (omega arith) (omega arith)) in
+    record {
+      early = same-from ws′ used′ (π .early) σ (omega arith) (λ k l h. s k l (omega arith));
+      behind = same-from ws′ used′ (π .behind) σ room later;
+      apart = apart-as ws′ π keys later;
+      noted = noted-as ws′ π keys later;
+    }
 
 pub kept-as : (text ws ws′ : List ℕ) (index settled late : ℕ) → Same (row ws index) (row ws′ index) 0 (settled + late)
     → keptAt text ws′ index settled late ≡ keptAt text ws index settled late
@@ -94,20 +129,11 @@ module _ {ws ws′ : List ℕ} {index used lo hi : ℕ} (σ : Store ws index use
 
 -- ---- the place of a late entry
 
-cut-as : {test test′ : ℕ → Bool} {n r : ℕ} → ((k : ℕ) → k < n → test′ k ≡ test k) → Cut test n r → Cut test′ n r
-cut-as e c = record {
-  most = c .most;
-  past = λ k l. e k (omega (arith, c .most)) ∙ c .past k l;
-  rest = λ k l h. e k h ∙ c .rest k l h;
-}
-
-pub place-as : (text : Bytes) (ws ws′ : List ℕ) (index settled late j : ℕ) {r : ℕ} → j < late → Same (row ws index) (row ws′ index) 0 (settled + late)
-    → PlaceOf text ws index settled j r → PlaceOf text ws′ index settled j r
-place-as text ws ws′ index settled late j l s c =
-    cut-as
-    (λ k h. ap₂ (λ (a b : Row). goes false (compareSections (keyOf text a) (keyOf text b))) (s (settled + j) (omega arith) (omega arith))
-    (s (0 + k) (omega arith) (omega arith)))
-    c
+-- an own row says it
+pub place-noted : {text ws : List ℕ} {index used settled late : ℕ} (j : ℕ) {a : Row} → InParts text ws index used settled late → j < late
+    → a ≡ rowsFrom ws index settled j → kindOf a ≡ 0 → PlaceOf text ws index settled j (a .k1)
+place-noted {text} {ws} {index} {used} {settled} j π l e h =
+    subst (λ (b : Row). PlaceOf text ws index settled j (b .k1)) (sym e) (π .noted j l (ap kindOf (sym e) ∙ h))
 
 -- an entry of the section of the one before it
 pub place-again : (text : Bytes) (ws : List ℕ) (index settled i j : ℕ) {r : ℕ} {a b : Row} → a ≡ rowsFrom ws index settled j
@@ -144,12 +170,18 @@ module _ {text ws₀ ws : List ℕ} {index used spare settled late j : ℕ} (π 
   same : Same (row ws₀ index) (row ws index) 0 (settled + late)
   same k l h = spare-rows (π .early .store) (η .kept) b k l (omega (arith, π .behind .room))
 
+  later : Same (row ws₀ index) (row ws index) settled (settled + late)
+  later k l h = same k (omega arith) h
+
+  same-keys : (k : ℕ) → k < settled → keyOf text (rowsFrom ws index 0 k) ≡ keyOf text (rowsFrom ws₀ index 0 k)
+  same-keys k l = ap (keyOf text) (same (0 + k) (omega arith) (omega arith))
+
   pub noting-parts : InParts text ws index used settled late
   noting-parts = parts-as ws used π (spare-store (π .early .store) (η .kept) b (η .size)) (π .behind .room) same
 
   -- the one before is noted
   pub noting-last : j < late → 0 < j → PlaceOf text ws index settled (j - 1) (word ws (spare + (j - 1)))
-  noting-last l z = place-as text ws₀ ws index settled late (j - 1) (omega arith) same (η .places (j - 1) (omega arith))
+  noting-last l z = place-as ws π same-keys later (j - 1) (omega arith) (η .places (j - 1) (omega arith))
 
   pub noting-next : (r : ℕ) → j < late → spare + late ≤ length ws₀ → PlaceOf text ws index settled j r
       → Noting text ws₀ (set ws (spare + j) r) index spare settled late (j + 1)
@@ -163,7 +195,7 @@ module _ {text ws₀ ws : List ℕ} {index used spare settled late j : ℕ} (π 
     places = λ i h. by-eq i j
         (λ e. let z : word (set ws (spare + j) r) (spare + i) ≡ r =
         ap (λ (k : ℕ). word (set ws (spare + j) r) (spare + k)) e ∙ getD-set-same ws (spare + j) r 0 (omega (arith, η .size)) in
-        rw (z, e) (place-as text ws ws₀ index settled late j l (λ k p q. sym (same k p q)) c))
+        rw (z, e) (place-as ws₀ noting-parts (λ k p. sym (same-keys k p)) (λ k p q. sym (later k p q)) j l c))
         (λ e. let z : word (set ws (spare + j) r) (spare + i) ≡ word ws (spare + i) = getD-set-other ws (spare + j) (spare + i) r 0 (omega arith) in
         rw z (η .places i (omega arith)));
   }
@@ -265,6 +297,7 @@ all-early σ = record {
     rows = record { whole = λ k l. absurd (omega arith); ordered = λ i j l h. absurd (omega arith) };
   };
   apart = λ i j l h. absurd (omega arith);
+  noted = λ j l h. absurd (omega arith);
 }
 
 pub kept-early : (text ws : List ℕ) (index n : ℕ) → keptAt text ws index n 0 ≡ entriesFrom text ws index 0 n

@@ -6,3 +6,4 @@ pub mod CloseLaws
 pub mod TogetherLaws
 pub mod LateLaws
 pub mod ClosedLaws
+pub mod InPlaceLaws

@@ -119,6 +119,13 @@ module _ {first key : Row} {lo hi : ℕ} where
     other = λ g q. absurd (q (ap kindOf (sym e) ∙ h));
   }
 
+-- the own row says the place that the key says
+pub own-place : {first key r : Row} {lo hi : ℕ} → Own first lo hi key r → r .k1 ≡ key .k1
+own-place {first} {lo = lo} {hi = hi} ω =
+    by-lt lo hi
+    (λ l. by-eq (kindOf first) 0 (λ e. ap (λ (x : Row). x .k1) (ω .spelled l e)) (λ e. ap (λ (x : Row). x .k1) (ω .other l e)))
+    (λ h. ap (λ (x : Row). x .k1) (ω .new h))
+
 -- the own row is the section's own entry, spelled as the entries from lo up to hi say
 pub record OwnEntry (text : Bytes) (f : ℕ → Row) (lo hi : ℕ) (key r : Row) : Type 0 where
   pub whole : Whole text r

@@ -3,22 +3,25 @@ use mathlib.Core.Path.{_≡_, refl, sym, ap, _∙_}
 use mathlib.Core.Logic.{_≢_}
 use mathlib.Core.Bool.{Bool, true, false}
 use mathlib.Core.List.{List}
-use Prim.Native.Nat.{ℕ, _-_, _≤_, _<_, Ordering, Ordering·lt, Ordering·eq, Ordering·gt}
+use Prim.Native.Nat.{ℕ, zero, suc, _+_, _-_, _≤_, _<_, Ordering, Ordering·lt, Ordering·eq, Ordering·gt}
 use native.Mathlib.Omega.{arith}
 use lib.Dec.{isEq}
 use Rattle.store.specs.declared.Row.{Row}
 use Rattle.store.specs.Places.{Cut}
+use Rattle.store.specs.Store.{row}
 use Rattle.store.proofs.PlaceLaws.{by-eq, by-lt}
-use Rattle.store.proofs.Halving.{by-test, Falling}
+use Rattle.store.proofs.Halving.{by-test, Falling, halved-start, halved-down, halved-done}
 use Rattle.map.specs.Compare.{lex}
 use Rattle.map.proofs.Orderings.{is-eq}
 use Rattle.map.proofs.Results.{impossible}
+use Rattle.model.specs.Order.{isLess}
 use Rattle.model.specs.Bytes.{Bytes, compareBytes}
 use Rattle.model.specs.Path.{Path, components, comparePaths}
 use Rattle.model.specs.Report.{SectionKey, compareSections}
 use Rattle.model.proofs.KeyOrder.{paths-order, sections-order}
 use Rattle.items.specs.Items.{part}
-use Rattle.closing.specs.Sections.{keyOf, Named, Ordered, goes, Past, IsRun}
+use Rattle.items.proofs.SearchLaws.{is-lt}
+use Rattle.closing.specs.Sections.{keyOf, Named, Ordered, rowsFrom, SectionsFrom, goes, Past, IsRun}
 
 -- ---- sections compared
 
@@ -106,6 +109,25 @@ cut-all : {test : ℕ → Bool} {n : ℕ} → Falling test n → n ≢ 0 → tes
 cut-all {test} {n} falls z t = record
     { most = omega arith; past = λ k l. falls k (n - 1) (omega arith) (omega arith) t; rest = λ k l h. absurd (omega arith) }
 
+cut-first : {test : ℕ → Bool} {n : ℕ} → Falling test n → n ≢ 0 → test 0 ≡ false → Cut test n 0
+cut-first {test} {n} falls z t = halved-done (halved-down falls (halved-start test n) 0 (omega arith) (omega arith) t) (omega arith)
+
+-- a test that falls holds at the first of the places
+cut-found : (test : ℕ → Bool) (n : ℕ) → Falling test n → (r : ℕ) × Cut test n r
+cut-found test zero falls = (0, cut-none refl)
+cut-found test (suc n) falls = go (test n) refl (cut-found test n (λ k j l h t. falls k j l (omega arith) t))
+  where
+    go : (b : Bool) → test n ≡ b → (r : ℕ) × Cut test n r → (r : ℕ) × Cut test (suc n) r
+    go true e (r, c) = (suc n, record { most = omega arith; past = λ k l. falls k n (omega arith) (omega arith) e; rest = λ k l h. absurd (omega arith) })
+    go false e (r, c) = (
+      r,
+      record {
+        most = omega (arith, c .most);
+        past = c .past;
+        rest = λ k l h. by-eq k n (λ x. rw x e) (λ x. c .rest k l (omega arith));
+      },
+    )
+
 pub run-none : {text : Bytes} {f : ℕ → Row} {n : ℕ} {key : SectionKey} → n ≡ 0 → IsRun text f n key 0 0
 run-none z = record { low = cut-none z; high = cut-none z }
 
@@ -117,6 +139,25 @@ run-last {text} {f} {n} {key} σ z t = record {
   high = cut-all (past-falls key true σ) z
       (goes-too (compareSections key (keyOf text (f (n - 1)))) t);
 }
+
+-- the first entry, as the store handed it out
+module _ {text ws : List ℕ} {index used at n : ℕ} {first : Row} (σ : SectionsFrom text ws index used at n) (z : n ≢ 0)
+    (e : first ≡ row ws index at) where
+  at-first : first ≡ rowsFrom ws index at 0
+  at-first = e ∙ ap (row ws index) (let q : at ≡ at + 0 = omega arith in q)
+
+  pub first-named : Named text first
+  first-named = named-as at-first (σ .rows .whole 0 (omega arith) .named)
+
+  -- the key comes before it
+  pub run-first : {key : SectionKey} → true ≡ isLess (compareSections key (keyOf text first)) → IsRun text (rowsFrom ws index at) n key 0 0
+  run-first {key} h = record {
+    low = cut-first (past-falls key false (σ .rows)) z (ap (goes false) less);
+    high = cut-first (past-falls key true (σ .rows)) z (ap (goes true) less);
+  }
+    where
+      less : compareSections key (keyOf text (rowsFrom ws index at 0)) ≡ Ordering·lt
+      less = ap (λ (r : Row). compareSections key (keyOf text r)) (sym at-first) ∙ is-lt (compareSections key (keyOf text first)) (sym h)
 
 -- the first entry that the key does not go past has another key: none has it
 pub run-new : {text : Bytes} {f : ℕ → Row} {n lo : ℕ} {key : SectionKey} → Ordered text f n → Cut (Past false text f key) n lo
@@ -132,6 +173,17 @@ run-new {text} {f} {n} {lo} {key} σ c other = record {
         (λ e. e);
   };
 }
+
+-- no entry has the key
+pub run-absent : {text : Bytes} {f : ℕ → Row} {n : ℕ} (key : SectionKey) → Ordered text f n
+    → ((k : ℕ) → k < n → compareSections key (keyOf text (f k)) ≢ Ordering·eq) → (lo : ℕ) × IsRun text f n key lo lo
+run-absent {text} {f} {n} key σ other = go (cut-found (Past false text f key) n (past-falls key false σ))
+  where
+    go : (lo : ℕ) × Cut (Past false text f key) n lo → (lo : ℕ) × IsRun text f n key lo lo
+    go (lo, c) = (lo, run-new σ c (other lo))
+
+pub is-equal : {b : Bool} (o : Ordering) → b ≡ isEq o → b ≡ true → o ≡ Ordering·eq
+is-equal o e f = is-eq o (sym e ∙ f)
 
 pub not-equal : {b : Bool} (o : Ordering) → b ≡ isEq o → b ≡ false → o ≢ Ordering·eq
 not-equal o e f q = let z : true ≡ false = ap isEq (sym q) ∙ sym e ∙ f in impossible cc

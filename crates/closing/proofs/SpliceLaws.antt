@@ -12,10 +12,10 @@ use Rattle.map.proofs.Results.{impossible}
 use Rattle.model.specs.Bytes.{Bytes}
 use Rattle.model.specs.Report.{SectionKey, sectionKey, compareSections}
 use Rattle.model.proofs.KeyOrder.{sections-order}
-use Rattle.items.specs.Items.{Inner}
+use Rattle.items.specs.Items.{kindOf, Inner}
 use Rattle.closing.specs.Sections.{keyOf, rowsFrom, Named, Whole, Ordered, IsRun}
 use Rattle.closing.specs.Closing.{withSection, Filled, Own, Spliced}
-use Rattle.closing.proofs.RunLaws.{run-before, run-behind, run-ends}
+use Rattle.closing.proofs.RunLaws.{run-before, run-in, run-behind, run-ends}
 use Rattle.closing.proofs.OwnLaws.{whole-kept, OwnEntry, own-entry}
 
 -- the own row is put, the items are filled, and the blocks are turned
@@ -27,7 +27,7 @@ module _ (ws : List ℕ) {ws₁ ws₂ : List ℕ} {index used : ℕ} (at m : ℕ
   older k l = φ .below k (omega arith) (omega arith) ∙ π .others k (omega arith) (omega arith)
 
   module _ (ws₃ : List ℕ) (τ : Turned (row ws₂ index) (row ws₃ index) used (at + lo) (at + hi) (at + m) (at + m + 1 + n)) where
-    pub spliced : Spliced (rowsFrom ws index at) (rowsFrom ws₃ index at) m n lo hi key
+    pub spliced : Spliced (rowsFrom ws index at) (rowsFrom ws₃ index at) m m n lo hi key
     spliced = record {
       low = λ k p q. τ .below (at + k) (omega arith) (omega arith) ∙ older (at + k) (omega arith);
       own = rw first ω;
@@ -46,7 +46,7 @@ module _ (ws : List ℕ) {ws₁ ws₂ : List ℕ} {index used : ℕ} (at m : ℕ
   stays : m ≤ lo → Turned (row ws₂ index) (row ws₂ index) used (at + lo) (at + hi) (at + m) (at + m + 1 + n)
   stays e = turned (omega arith) (omega arith) (omega arith) c (brought-none (omega arith)) (brought-none (omega arith))
 
-  pub spliced-last : m ≤ lo → Spliced (rowsFrom ws index at) (rowsFrom ws₂ index at) m n lo hi key
+  pub spliced-last : m ≤ lo → Spliced (rowsFrom ws index at) (rowsFrom ws₂ index at) m m n lo hi key
   spliced-last e = spliced ws₂ (stays e)
 
   pub spliced-last-below : m ≤ lo → Same (row ws index) (row ws₂ index) 0 at
@@ -60,43 +60,69 @@ less-not-greater p q = let z : Ordering·lt ≡ Ordering·gt = sym p ∙ q in im
 same-not-greater : {o : Ordering} → o ≡ Ordering·eq → o ≢ Ordering·gt
 same-not-greater p q = let z : Ordering·eq ≡ Ordering·gt = sym p ∙ q in impossible cc
 
-module _ {text : Bytes} {f g : ℕ → Row} {m n lo hi : ℕ} {key : Row} (σ : Ordered text f m) (inner : (k : ℕ) → k < n → Inner text (f (m + 1 + k)))
-    (ν : Named text key) (ρ : IsRun text f m (keyOf text key) lo hi) (ω : OwnEntry text f lo hi key (g lo)) (ς : Spliced f g m n lo hi key) where
+module _ {text : Bytes} {f g : ℕ → Row} {m from n lo hi : ℕ} {key : Row} (σ : Ordered text f m)
+    (inner : (k : ℕ) → k < n → Inner text (f (from + 1 + k))) (ν : Named text key) (ρ : IsRun text f m (keyOf text key) lo hi)
+    (ω : OwnEntry text f lo hi key (g lo)) (ς : Spliced f g m from n lo hi key) where
+  own-key : keyOf text (g lo) ≡ keyOf text key
+  own-key = ap sectionKey (ω .is)
+
+  -- the section's own row or one of its items
+  data OfSection (k : ℕ) : Type 0 where
+    own : k ≡ lo → OfSection k
+    item : (j : ℕ) → j < n → g k ≡ withSection (f (from + 1 + j)) key → OfSection k
+
+  section-key : (k : ℕ) → OfSection k → keyOf text (g k) ≡ keyOf text key
+  section-key k (own e) = ap (λ (j : ℕ). keyOf text (g j)) e ∙ own-key
+  section-key k (item j l e) = ap (keyOf text) e
+
   -- what stands at a place
   data Place (k : ℕ) : Type 0 where
     under : k < lo → g k ≡ f k → Place k
-    within : lo ≤ k → k < lo + (n + 1) → Whole text (g k) → keyOf text (g k) ≡ keyOf text key → Place k
+    within : lo ≤ k → k < lo + (n + 1) → OfSection k → Place k
     over : (j : ℕ) → hi ≤ j → j < m → j + (lo + (n + 1)) ≡ hi + k → g k ≡ f j → Place k
 
   place : (k : ℕ) → k < lo + (n + 1) + (m - hi) → Place k
   place k l =
       by-lt k lo (λ h. under h (ς .low k (omega arith) h)) (λ h. by-lt k (lo + (n + 1))
-      (λ q. by-eq k lo
-      (λ e. within h q (rw e (ω .whole)) (ap (λ (j : ℕ). keyOf text (g j)) e ∙ ap sectionKey (ω .is)))
-      (λ e.
-      let j = k - suc lo in
-      let z : g k ≡ withSection (f (m + 1 + j)) key = ς .items k (m + 1 + j) (omega arith) q (omega arith) in
-      within h q (rw z (whole-kept (inner j (omega arith) .good) ν)) (ap (keyOf text) z)))
+      (λ q. within h q (by-eq k lo own
+      (λ e. let j = k - suc lo in item j (omega arith) (ς .items k (from + 1 + j) (omega arith) q (omega arith)))))
       (λ q. over (hi + (k - (lo + (n + 1)))) (omega arith) (omega arith) (omega arith)
       (ς .high k (hi + (k - (lo + (n + 1)))) q (omega arith) (omega arith))))
 
-  whole : (k : ℕ) → k < lo + (n + 1) + (m - hi) → Whole text (g k)
-  whole k l = go (place k l)
+  -- what holds of the others, of the own row and of the items holds of each
+  pub spliced-each : (P : Row → Type 0) → ((k : ℕ) → k < m → P (f k)) → P (g lo) → ((k : ℕ) → k < n → P (withSection (f (from + 1 + k)) key))
+      → (k : ℕ) → k < lo + (n + 1) + (m - hi) → P (g k)
+  spliced-each P others first items k l = go (place k l)
     where
-      go : Place k → Whole text (g k)
-      go (under h e) = rw e (σ .whole k (omega (arith, ρ .low .most)))
-      go (within h q a e) = a
-      go (over j h q z e) = rw e (σ .whole j q)
+      go : Place k → P (g k)
+      go (under h e) = subst P (sym e) (others k (omega (arith, ρ .low .most)))
+      go (within h q (own e)) = subst (λ (j : ℕ). P (g j)) (sym e) first
+      go (within h q (item j i e)) = subst P (sym e) (items j i)
+      go (over j h q z e) = subst P (sym e) (others j q)
+
+  whole : (k : ℕ) → k < lo + (n + 1) + (m - hi) → Whole text (g k)
+  whole = spliced-each (Whole text) (σ .whole) (ω .whole) (λ k l. whole-kept (inner k l .good) ν)
 
   -- what holds of the keys of the others and of the section's holds of each key
   pub spliced-keys : (P : SectionKey → Type 0) → ((k : ℕ) → k < m → P (keyOf text (f k))) → P (keyOf text key)
       → (k : ℕ) → k < lo + (n + 1) + (m - hi) → P (keyOf text (g k))
-  spliced-keys P each here k l = go (place k l)
+  spliced-keys P others here = spliced-each (λ (r : Row). P (keyOf text r)) others (subst P (sym own-key) here) (λ k l. here)
+
+  -- what holds of the keys and places of the other own rows and of the section's holds of each
+  pub spliced-places : (P : SectionKey → ℕ → Type 0) → ((k : ℕ) → k < m → kindOf (f k) ≡ 0 → P (keyOf text (f k)) (f k .k1))
+      → P (keyOf text key) (g lo .k1) → (k : ℕ) → k < lo + (n + 1) + (m - hi) → kindOf (g k) ≡ 0 → P (keyOf text (g k)) (g k .k1)
+  spliced-places P others here =
+      spliced-each (λ (r : Row). kindOf r ≡ 0 → P (keyOf text r) (r .k1)) others (λ e. subst (λ (q : SectionKey). P q (g lo .k1)) (sym own-key) here)
+      (λ k l e. let z : kindOf (f (from + 1 + k)) ≡ 0 = e in absurd (omega (arith, inner k l .inner)))
+
+  -- where as many are replaced, each place has the key that it had
+  pub spliced-same : hi ≡ lo + (n + 1) → (k : ℕ) → k < m → keyOf text (g k) ≡ keyOf text (f k)
+  spliced-same size k l = go (place k (omega (arith, ρ .high .most)))
     where
-      go : Place k → P (keyOf text (g k))
-      go (under h e) = rw e (each k (omega (arith, ρ .low .most)))
-      go (within h q a e) = subst P (sym e) here
-      go (over j h q z e) = rw e (each j q)
+      go : Place k → keyOf text (g k) ≡ keyOf text (f k)
+      go (under h e) = ap (keyOf text) e
+      go (within h q s) = section-key k s ∙ sections-order .equal (run-in ρ k h (omega arith))
+      go (over j h q z e) = let y : j ≡ k = omega arith in ap (keyOf text) (e ∙ ap f y)
 
   before-key : (i : ℕ) → i < lo → compareSections (keyOf text (f i)) (keyOf text key) ≡ Ordering·lt
   before-key i l = sections-order .less (run-before ρ i l)
@@ -111,14 +137,15 @@ module _ {text : Bytes} {f g : ℕ → Row} {m n lo hi : ℕ} {key : Row} (σ : 
     where
       go : Place i → Place j → compareSections (keyOf text (g i)) (keyOf text (g j)) ≢ Ordering·gt
       go (under h e) (under q d) = by-keys i j (ap (keyOf text) e) (ap (keyOf text) d) (σ .ordered i j l (omega (arith, ρ .low .most)))
-      go (under h e) (within q x y d) = by-keys i j (ap (keyOf text) e) d (less-not-greater (before-key i h))
+      go (under h e) (within q x y) = by-keys i j (ap (keyOf text) e) (section-key j y) (less-not-greater (before-key i h))
       go (under h e) (over o q x y d) = by-keys i j (ap (keyOf text) e) (ap (keyOf text) d)
           (less-not-greater (sections-order .trans (before-key i h) (run-behind ρ o q x)))
-      go (within h a b e) (under q d) = absurd (omega arith)
-      go (within h a b e) (within q x y d) = by-keys i j e d (same-not-greater (sections-order .same (keyOf text key)))
-      go (within h a b e) (over o q x y d) = by-keys i j e (ap (keyOf text) d) (less-not-greater (run-behind ρ o q x))
+      go (within h a b) (under q d) = absurd (omega arith)
+      go (within h a b) (within q x y) =
+          by-keys i j (section-key i b) (section-key j y) (same-not-greater (sections-order .same (keyOf text key)))
+      go (within h a b) (over o q x y d) = by-keys i j (section-key i b) (ap (keyOf text) d) (less-not-greater (run-behind ρ o q x))
       go (over o h a b e) (under q d) = absurd (omega (arith, run-ends ρ))
-      go (over o h a b e) (within q x y d) = absurd (omega arith)
+      go (over o h a b e) (within q x y) = absurd (omega arith)
       go (over o h a b e) (over p q x y d) = by-keys i j (ap (keyOf text) e) (ap (keyOf text) d) (σ .ordered o p (omega arith) x)
 
   pub spliced-ordered : Ordered text g (lo + (n + 1) + (m - hi))

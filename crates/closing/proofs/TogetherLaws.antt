@@ -118,30 +118,68 @@ module _ (key : SectionKey) where
       let o : compareSections (sectionKey x) (sectionKey y) ≡ Ordering·gt = rw z at (sections-order .greater (b .0)) in
       rw o (ap (λ (l : Report). y ∷ l) (first (x ∷ B) M D b (m .1)))
 
-  -- a section of the second report, whose key no section of the first has
-  around : (A B C M D : Report) → Compared key Ordering·gt A → Compared key Ordering·lt B → Compared key Ordering·gt C → Compared key Ordering·eq M
-      → Compared key Ordering·lt D → together (A ++ B) (C ++ (M ++ D)) ≡ together A C ++ (M ++ together B D)
-  around A B C M D a b c m d =
-      split A B C (M ++ D) a (not-below Ordering·lt (λ e. impossible cc) B b) c
-      (all-append _ M D (not-below Ordering·eq (λ e. impossible cc) M m) (not-below Ordering·lt (λ e. impossible cc) D d))
-      ∙ ap (λ (l : Report). together A C ++ l) (first B M D b m)
+  -- and so where both are in the first report
+  first-own : (M B D : Report) → Compared key Ordering·eq M → Compared key Ordering·lt D → together (M ++ B) D ≡ M ++ together B D
+  first-own [] B D m d = refl
+  first-own (x ∷ M) B [] m d = ap (λ (l : Report). x ∷ l) (first-own M B [] (m .1) d)
+  first-own (x ∷ M) B (y ∷ D) m d =
+      let z : key ≡ sectionKey x = sections-order .equal (m .0) in
+      let o : compareSections (sectionKey x) (sectionKey y) ≡ Ordering·lt = rw z at (d .0) in
+      rw o (ap (λ (l : Report). x ∷ l) (first-own M B (y ∷ D) (m .1) d))
+
+  from-greater : (D : Report) → Compared key Ordering·lt D → From D
+  from-greater D d = not-below Ordering·lt (λ e. impossible cc) D d
+
+  from-key : (M D : Report) → Compared key Ordering·eq M → Compared key Ordering·lt D → From (M ++ D)
+  from-key M D m d = all-append _ M D (not-below Ordering·eq (λ e. impossible cc) M m) (from-greater D d)
+
+  module _ (A B C D : Report) (a : Compared key Ordering·gt A) (b : Compared key Ordering·lt B) (c : Compared key Ordering·gt C)
+      (d : Compared key Ordering·lt D) where
+    -- a section of the second report, whose key no section of the first has
+    around : (M : Report) → Compared key Ordering·eq M → together (A ++ B) (C ++ (M ++ D)) ≡ together A C ++ (M ++ together B D)
+    around M m =
+        split A B C (M ++ D) a (from-greater B b) c (from-key M D m d) ∙ ap (λ (l : Report). together A C ++ l) (first B M D b m)
+
+    -- a section of the first report, whose key no section of the second has
+    around-own : (M : Report) → Compared key Ordering·eq M → together (A ++ (M ++ B)) (C ++ D) ≡ together A C ++ (M ++ together B D)
+    around-own M m =
+        split A (M ++ B) C D a (from-key M B m b) c (from-greater D d) ∙ ap (λ (l : Report). together A C ++ l) (first-own M B D m d)
 
   own-key : (items : List Item) → Compared key Ordering·eq (map (inSection key) items)
   own-key [] = tt
   own-key (i ∷ items) = (sections-order .same key, own-key items)
 
--- a section put among the entries of the second report is put among all
-pub replaced-together : (test path : Bytes) (items : List Item) (A B C S D : Report)
-    → Compared (test, components path) Ordering·gt A → Compared (test, components path) Ordering·lt B → Compared (test, components path) Ordering·gt C
-    → Compared (test, components path) Ordering·eq S → Compared (test, components path) Ordering·lt D
-    → together (A ++ B) (replaceSection test path items (C ++ (S ++ D))) ≡ replaceSection test path items (together (A ++ B) (C ++ (S ++ D)))
-replaced-together test path items A B C S D a b c s d =
-    let key : SectionKey = (test, components path) in
-    let new : Report = map (inSection key) (sectionItem (spellingOf path S) ∷ items) in
-    ap (together (A ++ B)) (replaced test path items C S D c s d)
-    ∙ around key A B C new D a b c (own-key key (sectionItem (spellingOf path S) ∷ items)) d
-    ∙ sym (ap (replaceSection test path items) (around key A B C S D a b c s d)
-    ∙ replaced test path items (together A C) S (together B D) (all-together _ A C a c) s (all-together _ B D b d))
+module _ (test path : Bytes) (items : List Item) (A B C S D : Report) (a : Compared (test, components path) Ordering·gt A)
+    (b : Compared (test, components path) Ordering·lt B) (c : Compared (test, components path) Ordering·gt C)
+    (s : Compared (test, components path) Ordering·eq S) (d : Compared (test, components path) Ordering·lt D) where
+  abbrev key : SectionKey
+  key = (test, components path)
+
+  abbrev new : Report
+  new = map (inSection key) (sectionItem (spellingOf path S) ∷ items)
+
+  -- where it is known how a report has the entries of the key
+  replaced-known : (all : Report → Report)
+      → ((M : Report) → Compared (test, components path) Ordering·eq M → all M ≡ together A C ++ (M ++ together B D))
+      → all new ≡ replaceSection test path items (all S)
+  replaced-known all known =
+      known new (own-key key (sectionItem (spellingOf path S) ∷ items))
+      ∙ sym (ap (replaceSection test path items) (known S s)
+      ∙ replaced test path items (together A C) S (together B D) (all-together _ A C a c) s (all-together _ B D b d))
+
+  -- a section put among the entries of the second report is put among all
+  pub replaced-together : together (A ++ B) (replaceSection test path items (C ++ (S ++ D)))
+      ≡ replaceSection test path items (together (A ++ B) (C ++ (S ++ D)))
+  replaced-together =
+      ap (together (A ++ B)) (replaced test path items C S D c s d)
+      ∙ replaced-known (λ (M : Report). together (A ++ B) (C ++ (M ++ D))) (around key A B C D a b c d)
+
+  -- and so is one put among the entries of the first
+  pub replaced-together-own : together (replaceSection test path items (A ++ (S ++ B))) (C ++ D)
+      ≡ replaceSection test path items (together (A ++ (S ++ B)) (C ++ D))
+  replaced-together-own =
+      ap (λ (l : Report). together l (C ++ D)) (replaced test path items A S B a s b)
+      ∙ replaced-known (λ (M : Report). together (A ++ (M ++ B)) (C ++ D)) (around-own key A B C D a b c d)
 
 -- ---- as one pass
 

@@ -49,10 +49,10 @@ pub record Own (first : Row) (lo hi : ℕ) (key r : Row) : Type 0 where
   pub spelled : lo < hi → kindOf first ≡ 0 → r ≡ withPath key first
   pub other : lo < hi → kindOf first ≢ 0 → r ≡ key
 
--- f is what each place had, g what it has: the section's own row and its n items, which stood behind m entries, stand in place of those
--- from lo up to hi
-pub record Spliced (f g : ℕ → Row) (m n lo hi : ℕ) (key : Row) : Type 0 where
+-- f is what each place had, g what it has: the section's own row and its n items, which stood from place from on, stand among m entries in
+-- place of those from lo up to hi
+pub record Spliced (f g : ℕ → Row) (m from n lo hi : ℕ) (key : Row) : Type 0 where
   pub low : Same f g 0 lo
   pub own : Own (f lo) lo hi key (g lo)
-  pub items : (k j : ℕ) → lo < k → k < lo + (n + 1) → j + lo ≡ m + k → g k ≡ withSection (f j) key
+  pub items : (k j : ℕ) → lo < k → k < lo + (n + 1) → j + lo ≡ from + k → g k ≡ withSection (f j) key
   pub high : Shifted f g hi (lo + (n + 1)) (m - hi)

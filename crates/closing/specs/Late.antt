@@ -12,6 +12,7 @@ use Rattle.map.specs.Keyed.{byOrder}
 use Rattle.model.specs.Bytes.{Bytes}
 use Rattle.model.specs.Report.{Entry, Report, sectionKey, compareSections}
 use Rattle.model.specs.Reading.{keepSection}
+use Rattle.items.specs.Items.{kindOf}
 use Rattle.items.specs.Open.{itemsAt}
 use Rattle.closing.specs.declared.Parts.{Parts}
 use Rattle.closing.specs.Sections.{testOf, pathOf, keyOf, rowsFrom, entriesFrom, SectionsFrom, Past}
@@ -36,18 +37,33 @@ together (x ∷ xs) ys = togetherFrom x (λ l. together xs l) ys
 abbrev pub keptAt : Bytes → List ℕ → ℕ → ℕ → ℕ → Report
 keptAt text ws index settled late = together (entriesFrom text ws index 0 settled) (entriesFrom text ws index settled late)
 
--- each part is in order, and no section is in both
+-- a section's own row that says its place among the settled entries
+abbrev pub withPlace : Row → ℕ → Row
+withPlace r place = record {
+  test = r .test;
+  «test_len» = r .«test_len»;
+  path = r .path;
+  «path_len» = r .«path_len»;
+  tag = r .tag;
+  k1 = place;
+  k2 = r .k2;
+  k3 = r .k3;
+  count = r .count;
+}
+
+-- r is the place of the j-th late entry: how many of the settled ones it goes behind
+abbrev pub PlaceOf : Bytes → List ℕ → ℕ → ℕ → ℕ → ℕ → Type 0
+PlaceOf text ws index settled j r = Cut (Past false text (rowsFrom ws index 0) (keyOf text (rowsFrom ws index settled j))) settled r
+
+-- each part is in order, no section is in both, and late sections' own rows say their places
 pub record InParts (text ws : List ℕ) (index used settled late : ℕ) : Type 0 where
   pub early : SectionsFrom text ws index used 0 settled
   pub behind : SectionsFrom text ws index used settled late
   pub apart : (i j : ℕ) → i < settled → j < late → compareSections (keyOf text (rowsFrom ws index settled j))
       (keyOf text (rowsFrom ws index 0 i)) ≢ Ordering·eq
+  pub noted : (j : ℕ) → j < late → kindOf (rowsFrom ws index settled j) ≡ 0 → PlaceOf text ws index settled j (rowsFrom ws index settled j .k1)
 
 -- ---- the late ones settled
-
--- r is the place of the j-th late entry: how many of the settled ones it goes behind
-abbrev pub PlaceOf : Bytes → List ℕ → ℕ → ℕ → ℕ → ℕ → Type 0
-PlaceOf text ws index settled j r = Cut (Past false text (rowsFrom ws index 0) (keyOf text (rowsFrom ws index settled j))) settled r
 
 -- the words from spare on are the places of the late entries, and no other word has changed
 pub record Noted (text ws ws′ : List ℕ) (index spare settled late : ℕ) : Type 0 where

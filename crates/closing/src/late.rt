@@ -1,6 +1,8 @@
 // Sections that end out of order: turning blocks of the index for each of them would move the index again and again. So they are late ones
-// at first, in order among themselves, behind the settled ones; and many of them are settled in one pass.
+// at first, in order among themselves, behind the settled ones; and many of them are settled in one pass. The place among the settled ones
+// is looked up once, when a section ends, and noted in its own row, whose k1 means nothing else.
 use crate::Parts;
+use crate::Run;
 use crate::compare_sections;
 use crate::find_run;
 use crate::splice;
@@ -11,13 +13,23 @@ ghost use Prim.Native.Nat.{_+_, _-_, _≤_, _<_};
 ghost use lib.ListN.{length};
 ghost use Rattle.store.specs.Rows.{word};
 ghost use Rattle.items.specs.Open.{Open};
-ghost use Rattle.closing.specs.Sections.{Named};
-ghost use Rattle.closing.specs.Late.{InParts, PlaceOf, Noted, Settled, SameReport, Closed};
+ghost use Rattle.closing.specs.Sections.{keyOf, Named, rowsFrom, IsRun};
+ghost use Rattle.closing.specs.Late.{withPlace, InParts, PlaceOf, Noted, Settled, SameReport, Closed};
 
 // Late entries are settled when there are more than these.
 pub const LATE: usize = 1024;
 
-// How many of the settled entries the j-th late one goes behind: as many as the one before it, if that is of the same section.
+// A section's own row that says its place among the settled entries.
+fn with_place(key: Row, place: usize) -> Row
+    ensures { λ r. ⌜ r ≡ withPlace key place ⌝ }
+{
+    let mut own = key;
+    own.k1 = place as u64;
+    own
+}
+
+// How many of the settled entries the j-th late one goes behind: an own row says it, and another entry goes behind as many as the one
+// before it, if that is of the same section.
 fn place_of(
     text: &[u8],
     words: &[u64],
@@ -33,6 +45,9 @@ fn place_of(
     ensures { λ r. ⌜ PlaceOf (now (text .entry)) (now (words .entry)) index settled j r ⌝ }
 {
     let entry = store::get(words, index, used, settled + j);
+    if entry.tag / 2 == items::SECTION {
+        return entry.k1 as usize;
+    }
     if 0 < j {
         let before = store::get(words, index, used, settled + (j - 1));
         if order::is_equal(compare_sections(text, entry, before)) {
@@ -109,7 +124,8 @@ fn settle_many(
     }
 }
 
-// The open section is kept, where a settled one has its key: all are settled first.
+// The open section is kept, where a settled one has its key. One of the same size comes in its place, and the late ones stay late; else
+// all are settled first.
 fn replace(
     text: &[u8],
     words: &mut [u64],
@@ -118,17 +134,26 @@ fn replace(
     spare: usize,
     settled: usize,
     late: usize,
+    run: Run,
     n: usize,
     key: Row,
 ) -> Parts
     requires { ⌜ InParts (now text) (now words) index used settled late × Open (now text) (now words) index used (settled + late + 1) n × (n ≢ 0) ⌝ }
+    requires { ⌜ IsRun (now text) (rowsFrom (now words) index 0) settled (keyOf (now text) key) (run .lo) (run .hi) × (run .lo < run .hi) ⌝ }
     requires { ⌜ Named (now text) key × (key .tag ≡ 0) × (index + used ≤ spare) × (spare + used + used ≤ length (now words)) ⌝ }
     ensures { λ r. ⌜ Closed (now (text .entry)) (now (words .entry)) (now (words .exit)) index used settled late n key r ⌝ }
 {
-    settle(text, words, index, used, spare, settled, late);
     let all = settled + late;
-    let run = find_run(text, words, index, used, 0, all, key);
-    let kept = splice(words, index, used, spare, 0, all, run, n, key);
+    if run.hi - run.lo == n + 1 {
+        splice(words, index, used, spare, 0, all, run, n, key);
+        return Parts {
+            settled: settled,
+            late: late,
+        };
+    }
+    settle(text, words, index, used, spare, settled, late);
+    let among = find_run(text, words, index, used, 0, all, key);
+    let kept = splice(words, index, used, spare, 0, all, among, n, key);
     Parts {
         settled: kept,
         late: 0,
@@ -160,7 +185,7 @@ pub fn close(
     }
     let run = find_run(text, words, index, used, 0, settled, key);
     if run.lo < run.hi {
-        return replace(text, words, index, used, spare, settled, late, n, key);
+        return replace(text, words, index, used, spare, settled, late, run, n, key);
     }
     if late == 0 {
         if run.lo == settled {
@@ -172,6 +197,7 @@ pub fn close(
         }
     }
     let among = find_run(text, words, index, used, settled, late, key);
-    let many = splice(words, index, used, spare, settled, late, among, n, key);
+    let own = with_place(key, run.lo);
+    let many = splice(words, index, used, spare, settled, late, among, n, own);
     settle_many(text, words, index, used, spare, settled, many)
 }

@@ -7,7 +7,7 @@ use order::Order;
 use store::Row;
 ghost use mathlib.Core.Path.{_≡_};
 ghost use mathlib.Core.Logic.{_≢_};
-ghost use mathlib.Core.Bool.{false};
+ghost use mathlib.Core.Bool.{true, false};
 ghost use Prim.Native.Nat.{_+_, _-_, _≤_, _<_, Ordering·eq};
 ghost use lib.ListN.{length};
 ghost use Rattle.model.specs.Path.{components, comparePaths};
@@ -109,7 +109,8 @@ fn has_key(
     key: Row,
 ) -> bool
     requires { ⌜ SectionsFrom (now text) (now words) index used at n × Named (now text) key ⌝ }
-    ensures { λ r. ⌜ (r ≡ false → i < n → compareSections (keyOf (now (text .entry)) key) (keyOf (now (text .entry)) (rowsFrom (now (words .entry)) index at i)) ≢ Ordering·eq) ⌝ }
+    ensures same { λ r. ⌜ (r ≡ true → (i < n) × (compareSections (keyOf (now (text .entry)) key) (keyOf (now (text .entry)) (rowsFrom (now (words .entry)) index at i)) ≡ Ordering·eq)) ⌝ }
+    ensures other { λ r. ⌜ (r ≡ false → i < n → compareSections (keyOf (now (text .entry)) key) (keyOf (now (text .entry)) (rowsFrom (now (words .entry)) index at i)) ≢ Ordering·eq) ⌝ }
 {
     if n <= i {
         return false;
@@ -118,7 +119,8 @@ fn has_key(
     order::is_equal(compare_sections(text, key, other))
 }
 
-// Most texts have their sections in order, so that the key comes after the last: tried first. And most keys are new.
+// Most texts have their sections in order, so that the key comes after the last: tried first. Some have them in descending order, so that
+// it comes before the first. And most keys are new.
 pub fn find_run(
     text: &[u8],
     words: &[u64],
@@ -137,6 +139,10 @@ pub fn find_run(
     let last = store::get(words, index, used, at + (n - 1));
     if goes_past(compare_sections(text, key, last), false) {
         return Run { lo: n, hi: n };
+    }
+    let first = store::get(words, index, used, at);
+    if order::is_less(compare_sections(text, key, first)) {
+        return Run { lo: 0, hi: 0 };
     }
     let lo = cut(text, words, index, used, at, n, key, false);
     if has_key(text, words, index, used, at, n, lo, key) {
@@ -214,7 +220,7 @@ pub fn splice(
     requires { ⌜ Store (now words) index used × (run .lo ≤ run .hi) × (run .hi ≤ m) × (at + m + 1 + n ≤ used) ⌝ }
     requires { ⌜ (index + used ≤ spare) × (spare + used ≤ length (now words)) ⌝ }
     ensures store { λ _. ⌜ Store (now (words .exit)) index used ⌝ }
-    ensures rows { λ _. ⌜ Spliced (rowsFrom (now (words .entry)) index at) (rowsFrom (now (words .exit)) index at) m n (run .lo) (run .hi) key ⌝ }
+    ensures rows { λ _. ⌜ Spliced (rowsFrom (now (words .entry)) index at) (rowsFrom (now (words .exit)) index at) m m n (run .lo) (run .hi) key ⌝ }
     ensures below { λ _. ⌜ Same (row (now (words .entry)) index) (row (now (words .exit)) index) 0 at ⌝ }
     ensures number { λ r. ⌜ r ≡ run .lo + (n + 1) + (m - run .hi) ⌝ }
 {

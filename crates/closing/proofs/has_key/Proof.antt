@@ -1,6 +1,7 @@
 -- `closing::has_key` meets its contract. Assumes nothing.
 use native.Mathlib.Omega.{arith}
-use Rattle.closing.proofs.RunLaws.{named-as, not-equal}
+use Rattle.map.proofs.Results.{impossible}
+use Rattle.closing.proofs.RunLaws.{named-as, is-equal, not-equal}
 use borrow.Author.Needs.{needs}
 use Rattle.closing.proofs.has_key.Statement.{statement}
 use Rattle.closing.proofs.has_key.Tie as tie
@@ -12,9 +13,9 @@ pub has-key-spec : {M : Type 1} → statement M
 has-key-spec =
     tie.close
     (tie.spec
-    (λ c e l. absurd (omega arith))
+    (λ c. (λ e. impossible cc, λ e l. absurd (omega arith)))
     (λ c. search needs)
     (λ c κs. search needs)
     (λ c κs. let s = start c in (s .pre .1, named-as (c .get .ensures) (s .pre .0 .rows .whole (s .args .i) (omega arith) .named)))
     (λ c κs. search needs)
-    (λ c e l. not-equal _ (cc) e))
+    (λ c. (λ e. (omega arith, is-equal _ (cc) e), λ e l. not-equal _ (cc) e)))

@@ -4,7 +4,7 @@ use native.Mathlib.Omega.{arith}
 use denote.Ref.{now}
 use Rattle.closing.specs.Sections.{Named}
 use Rattle.closing.proofs.RunLaws.{named-as}
-use Rattle.closing.proofs.LateLaws.{place-again, place-row}
+use Rattle.closing.proofs.LateLaws.{place-noted, place-again, place-row}
 use borrow.Author.Needs.{needs}
 use Rattle.closing.proofs.late.place_of.Statement.{statement}
 use Rattle.closing.proofs.late.place_of.Tie as tie
@@ -21,10 +21,13 @@ place-of-spec =
     (tie.spec
     (λ c. search needs)
     (λ c κs. search needs)
+    (λ c. let g = c .before .before in
+    let s = start g in
+    place-noted (s .args .j) (s .pre .0 .0) (s .pre .0 .1) (g .get .ensures) (omega arith))
     (λ c. search needs)
     (λ c. search needs)
     (λ c κs. search needs)
-    (λ c κs. let g = c .before .before in
+    (λ c κs. let g = c .before .before .before .before in
     let s = start g in
     (named g, named-as (c .get2 .ensures) (s .pre .0 .0 .behind .rows .whole (s .args .j - 1) (omega (arith, s .pre .0 .1)) .named)))
     (λ c κs. search needs)
@@ -34,13 +37,13 @@ place-of-spec =
     (λ c. search needs)
     (λ c. let e = c .before .before in
     let b = e .before .before in
-    let g = b .before .before in
+    let g = b .before .before .before .before in
     let s = start g in
     place-again (now (s .args .text)) (now (s .args .words)) (s .args .index) (s .args .settled) (s .args .j - 1) (s .args .j) (g .get .ensures)
     (b .get2 .ensures) (cc)
     (s .pre .1 (omega arith)))
-    (λ c κs. (start (c .before) .pre .0 .0 .early, named (c .before)))
-    (λ c. let g = c .before .before in
+    (λ c κs. let g = c .before .before .before in (start g .pre .0 .0 .early, named g))
+    (λ c. let g = c .before .before .before .before in
     let s = start g in
     place-row (now (s .args .text)) (now (s .args .words)) (s .args .index) (s .args .settled) (s .args .j) (g .get .ensures)
     (c .find-run .ensures .low)))
