@@ -1,4 +1,5 @@
 pub mod JoinLaws
+pub mod NameLaws
 pub mod PlaceLaws
 pub mod AddLaws
 pub mod StandLaws

@@ -4,7 +4,7 @@ use native.Mathlib.Omega.{arith}
 use mathlib.Core.Path.{_≡_, refl, sym, ap, _∙_}
 use mathlib.Core.List.{List, _++_}
 use lib.ListN.{length, set, take, drop, length-append, length-take, length-drop}
-use lib.Seq.{take-at, drop-at, take-all, take-set-le, getD-drop, getD-set-same, getD-set-other}
+use lib.Seq.{take-at, drop-at, take-all, take-take, take-set-le, getD-drop, getD-set-same, getD-set-other}
 use Rattle.store.specs.declared.Row.{Row}
 use Rattle.store.specs.Rows.{row-words, word, rowAt}
 use Rattle.store.specs.Store.{number, row, Store}
@@ -12,6 +12,7 @@ use Rattle.store.proofs.WordLaws.{row-cong}
 use Rattle.model.specs.declared.Mode.{Mode}
 use Rattle.merge.specs.declared.Walk.{Walk}
 use Rattle.merge.specs.declared.Added.{Added}
+use Rattle.merge.specs.Placing.{Ranked}
 use Rattle.merge.specs.Walking.{Adding, Noted, spareWord}
 
 -- ---- the front part of the words
@@ -38,6 +39,11 @@ module _ (ws ws′ : List ℕ) {index used spare : ℕ} (same : (j : ℕ) → j 
       once = λ i j m o e. σ .numbers .once i j m o (sym (part-number i m) ∙ e ∙ part-number j o);
     };
   }
+
+-- a part of the front is a part of the words
+pub ranked-front : {text : List ℕ} (ws : List ℕ) (base spare : ℕ) {index used n : ℕ} → spare ≤ base
+    → Ranked text (take spare (take base ws)) index used n → Ranked text (take spare ws) index used n
+ranked-front ws base spare h ρ = rw (take-take spare base ws h) at ρ
 
 -- ---- the words
 

@@ -1,5 +1,5 @@
 -- The place of a key among entries in ascending order. Assumes nothing.
-use Prim.Native.Nat.{ℕ, _+_, _≤_, _<_, Ordering, Ordering·lt, Ordering·eq, Ordering·gt}
+use Prim.Native.Nat.{ℕ, _+_, _-_, _≤_, _<_, compare, Ordering, Ordering·lt, Ordering·eq, Ordering·gt}
 use native.Mathlib.Omega.{arith}
 use mathlib.Core.Path.{_≡_, refl, sym, ap, _∙_}
 use mathlib.Core.Bool.{true, false}
@@ -8,18 +8,21 @@ use lib.Dec.{isEq}
 use Rattle.store.specs.declared.Row.{Row}
 use Rattle.store.specs.Places.{Cut}
 use Rattle.store.proofs.PlaceLaws.{by-eq}
-use Rattle.store.proofs.Halving.{Falling, Halved, by-test}
+use Rattle.store.proofs.Halving.{Falling, Halved, by-test, halved-done}
 use Rattle.map.specs.Compare.{lex}
 use Rattle.map.proofs.Orderings.{is-eq}
 use Rattle.map.proofs.Results.{impossible}
 use Rattle.model.specs.Order.{isLess}
 use Rattle.model.specs.Bytes.{Bytes}
-use Rattle.model.specs.Report.{Entry, sectionKey, entryKey, compareItems, compareSections, compareKeys}
-use Rattle.model.proofs.KeyOrder.{keys-order}
+use Rattle.model.specs.Report.{Entry, SectionKey, sectionKey, entryKey, compareItems, compareSections, compareKeys}
+use Rattle.model.proofs.KeyOrder.{keys-order, sections-order}
 use Rattle.items.specs.declared.Found.the-variants.{At, Insert}
+use Rattle.items.proofs.CompareLaws.{lines}
 use Rattle.items.proofs.SearchLaws.{is-lt, sorted-at}
-use Rattle.closing.specs.Sections.{entryOf, entryAt, Whole}
+use Rattle.closing.specs.Sections.{entryOf, entryAt, keyOf, Whole}
+use Rattle.merge.specs.Naming.{LinesOfOne}
 use Rattle.merge.specs.Placing.{Ranked, compareEntries, Before, Passed, Spanned, Seated}
+use Rattle.merge.proofs.NameLaws.{same-key}
 
 -- ---- entries compared
 
@@ -36,6 +39,16 @@ by-section a b o h e = e ∙ go (compareSections (sectionKey a) (sectionKey b)) 
     go Ordering·lt h = refl
     go Ordering·eq h = cc
     go Ordering·gt h = refl
+
+-- the numbers of two lines decide
+pub by-lines : {text : Bytes} {x y : Row} → Whole text x → Whole text y → LinesOfOne x y
+    → (o : Ordering) → o ≡ compare (x .k1) (y .k1) → o ≡ compareEntries (entryOf text x) (entryOf text y)
+by-lines {text} {x} {y} wx wy both o e =
+    by-item (entryOf text x) (entryOf text y) o (sym (ap isEq sections))
+    (lines text x y (wx .good) (wy .good) (omega (arith, both .left, both .right)) (omega (arith, both .left, both .right)) (both .left) o e)
+  where
+    sections : compareSections (keyOf text x) (keyOf text y) ≡ Ordering·eq
+    sections = ap (compareSections (keyOf text x)) (sym (same-key text (both .names))) ∙ sections-order .same (keyOf text x)
 
 -- a row that the store handed out
 pub whole-as : {text : Bytes} {r q : Row} → r ≡ q → Whole text q → Whole text r
@@ -87,6 +100,14 @@ module _ {text ws : List ℕ} {index used n : ℕ} (key : Row) (ρ : Ranked text
 pub spans : (text ws : List ℕ) (index n : ℕ) (key : Row) (lo hi : ℕ) → lo ≤ hi → hi ≤ n → Passed text ws index key lo
     → (hi < n → Before text ws index key hi ≡ false) → Spanned (Before text ws index key) n lo hi
 spans text ws index n key lo hi a b p s = record { ends = a; most = b; past = passed-before text ws index key lo p; stop = s }
+
+-- the entry before a place comes before the key, and the one there does not
+module _ {text ws : List ℕ} {index used n : ℕ} (key : Row) (ρ : Ranked text ws index used n) (at : ℕ) (h : 0 < at) (l : at < n) where
+  pub cut-here : Before text ws index key at ≡ false → Before text ws index key (at - 1) ≡ true → Cut (Before text ws index key) n at
+  cut-here f t = halved-done (span-halved key ρ (spans text ws index n key at at (omega arith) (omega arith) passed (λ g. f))) (omega arith)
+    where
+      passed : Passed text ws index key at
+      passed = let z : at - 1 + 1 ≡ at = omega arith in rw z at (passed-up key ρ (at - 1) (omega arith) t)
 
 module _ (text ws : List ℕ) (index n i : ℕ) (key : Row) (κ : Cut (Before text ws index key) n i) where
   pub seat-end : n ≤ i → Seated text ws index n key (Insert i)

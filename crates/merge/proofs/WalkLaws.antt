@@ -27,6 +27,7 @@ use Rattle.merge.specs.declared.Joined.the-variants.{Refused}
 use Rattle.merge.specs.declared.Walk.{Walk}
 use Rattle.merge.specs.declared.Added.{Added}
 use Rattle.merge.specs.declared.Added.the-variants as A
+use Rattle.merge.specs.Naming.{Means}
 use Rattle.merge.specs.Placing.{compareEntries}
 use Rattle.merge.specs.Walking.{newAt, newsAt, Within, Ahead, Ready, Taken, known, fresh, left, Stepped, Adding, Noted, Noting, spareWord}
 use Rattle.merge.specs.Merging.{Tables}
@@ -107,7 +108,7 @@ module _ {text words : List ℕ} {base index limit n used m : ℕ} (mode : Mode)
 
 module _ {text ws back : List ℕ} {place : ℕ → ℕ} {index limit used m : ℕ} {mode : Mode} {whole : Answer Report} {walk : Walk} {k : ℕ}
     (ω : Walked text ws back place index limit m mode whole walk k) (τ : Table text back index used m) (h : k < m) (r : Row)
-    (e : r ≡ row back index k) where
+    (μ : Means text (row back index k) r) where
   abbrev f : ℕ → Entry
   f = entryAt text back index
 
@@ -119,7 +120,7 @@ module _ {text ws back : List ℕ} {place : ℕ → ℕ} {index limit used m : �
 
   -- the entry at hand, and those after it
   rest-is : restFrom f m k ≡ entryOf text r ∷ restFrom f m (k + 1)
-  rest-is = rest-next f m k h ∙ ap (λ (x : Entry). x ∷ restFrom f m (k + 1)) (ap (entryOf text) (sym e))
+  rest-is = rest-next f m k h ∙ ap (λ (x : Entry). x ∷ restFrom f m (k + 1)) (sym (μ .entry))
 
   at-hand : Standing mode limit whole (entryOf text r ∷ restFrom f m (k + 1)) (entriesAt text ws index n) (newsAt text ws index n p) (walk .full)
   at-hand = standing-as rest-is refl refl (ω .standing)
@@ -132,10 +133,13 @@ module _ {text ws back : List ℕ} {place : ℕ → ℕ} {index limit used m : �
       go l q s = rw q at s
 
   ahead-hand : Ahead text ws index walk r
-  ahead-hand = rw e (ω .ahead k (omega arith) h)
+  ahead-hand = record {
+    passed = λ i l. ap (λ (x : Entry). compareEntries (entryAt text ws index i) x) (μ .entry) ∙ ω .ahead k (omega arith) h .passed i l;
+    newer = λ j l. ap (λ (x : Entry). compareEntries (newAt text ws index n j) x) (μ .entry) ∙ ω .ahead k (omega arith) h .newer j l;
+  }
 
   pub walked-ready : Ready text ws index limit walk r × Whole text r
-  walked-ready = (record { joined = ω .joined; ahead = ahead-hand }, rw e (τ .whole k h))
+  walked-ready = (record { joined = ω .joined; ahead = ahead-hand }, μ .whole)
 
   pub walked-refused : (ws′ : List ℕ) (a : Added) (fault : Fault) → a ≡ A.Refused fault → Adding text ws ws′ index limit walk r mode a
       → refuse fault ≡ whole
@@ -202,7 +206,7 @@ module _ {text ws back : List ℕ} {place : ℕ → ℕ} {index limit used m : �
       joined = σ .joined;
       seats = sits (σ .same) (σ .taken);
       ahead = λ j l o. σ .ahead (row back index j)
-          (ap (λ (x : Row). compareEntries (entryOf text x) (f j)) e ∙ sorted-at entryKey compareKeys f m (τ .valid .sorted) k j (omega arith) o);
+          (ap (λ (x : Entry). compareEntries x (f j)) (μ .entry) ∙ sorted-at entryKey compareKeys f m (τ .valid .sorted) k j (omega arith) o);
       standing = stands (σ .same) (σ .taken);
     }
 

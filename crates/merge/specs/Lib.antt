@@ -1,4 +1,5 @@
 pub mod Joining
+pub mod Naming
 pub mod Placing
 pub mod Walking
 pub mod Merging

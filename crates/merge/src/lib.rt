@@ -5,6 +5,7 @@
 // The walk leaves the joined entries where they stand: new ones are put behind them, and the place of each among them is noted in the spare
 // words behind the index. At the end the new ones are woven among the others in one pass.
 mod join;
+mod names;
 mod place;
 
 use items::Found;
@@ -75,6 +76,7 @@ fn add_row(
     index: usize,
     limit: usize,
     walk: Walk,
+    gap: usize,
     row: Row,
     mode: Mode,
 ) -> Added
@@ -85,7 +87,7 @@ fn add_row(
     let new = walk.new;
     let used = n + new;
     let full = walk.full;
-    let found = place::find_entry(text, words, index, used, n, walk.from, row);
+    let found = place::find_entry(text, words, index, used, n, walk.from, gap, row);
     match found {
         Found::At(i) => {
             let old = store::get(words, index, used, i);
@@ -117,6 +119,7 @@ fn step(
     index: usize,
     limit: usize,
     walk: Walk,
+    gap: usize,
     row: Row,
     mode: Mode,
 ) -> Added
@@ -127,7 +130,16 @@ fn step(
 {
     let spare = index + limit;
     let new = walk.new;
-    match add_row(text, &mut words[..spare], index, limit, walk, row, mode) {
+    match add_row(
+        text,
+        &mut words[..spare],
+        index,
+        limit,
+        walk,
+        gap,
+        row,
+        mode,
+    ) {
         Added::Refused(fault) => {
             return Added::Refused(fault);
         }
@@ -164,6 +176,18 @@ fn ended(full: bool, n: usize) -> Joined
     Joined::Entries(n)
 }
 
+// How far a row's key lay from where it was looked for, as a guess for the next row: of this number nothing is promised.
+fn gap_of(walk: Walk, next: Walk) -> usize {
+    if next.from <= walk.from {
+        return 0;
+    }
+    let far = next.from - walk.from;
+    if walk.new < next.new {
+        return far;
+    }
+    far - 1
+}
+
 // Merges the m entries of the table that starts at word `base` into the n joined ones before it.
 pub fn merge(
     text: &[u8],
@@ -185,19 +209,34 @@ pub fn merge(
         from: 0,
         full: false,
     };
+    let spare = index + limit;
+    let mut section = names::no_section();
+    let mut gap = 0;
     let mut k = 0;
     while k < m {
-        let row = store::get(&words[base..], index, used, k);
-        match step(text, &mut words[..base], index, limit, walk, row, mode) {
+        let read = store::get(&words[base..], index, used, k);
+        let row = names::respelled(read, section);
+        match step(text, &mut words[..base], index, limit, walk, gap, row, mode) {
             Added::Refused(fault) => {
                 return Joined::Refused(fault);
             }
             Added::Next(next) => {
+                section = names::section_met(
+                    text,
+                    &words[..spare],
+                    index,
+                    next.n + next.new,
+                    next.n,
+                    next.from,
+                    read,
+                    section,
+                );
+                gap = gap_of(walk, next);
                 walk = next;
                 k += 1;
             }
         }
     }
-    settle(&mut words[..base], index, index + limit, walk.n, walk.new);
+    settle(&mut words[..base], index, spare, walk.n, walk.new);
     ended(walk.full, walk.n + walk.new)
 }

@@ -1,13 +1,17 @@
 -- `merge::merge` meets its contract. Assumes nothing.
 use native.Mathlib.Omega.{arith}
-use Prim.Native.Nat.{ℕ, _+_, _-_, _≤_}
+use Prim.Native.Nat.{ℕ, _+_, _-_, _≤_, _<_, _^_}
 use mathlib.Core.Path.{_≡_, refl, ap, _∙_}
 use mathlib.Core.List.{List, _++_}
 use lib.ListN.{length, take, drop, length-take}
 use denote.Ref.{now}
 use Rattle.store.specs.Store.{row}
+use Rattle.merge.specs.declared.Walk.{Walk}
+use Rattle.merge.specs.Naming.{OneSection, Means}
 use Rattle.merge.specs.Walking.{spareWord}
-use Rattle.merge.proofs.PartLaws.{Lent, other-part, lent-front, lent-back}
+use Rattle.merge.proofs.NameLaws.{means-as}
+use Rattle.merge.proofs.PlaceLaws.{whole-as}
+use Rattle.merge.proofs.PartLaws.{ranked-front, Lent, other-part, lent-front, lent-back}
 use Rattle.merge.proofs.WalkLaws.{Walked, answer, rowsPart, walked-start, walked-ready, walked-refused, walked-next}
 use Rattle.merge.proofs.EndLaws.{merged-refused, settle-store, settle-rising, merged-done}
 use borrow.Author.Needs.{needs}
@@ -15,24 +19,29 @@ use Rattle.merge.proofs.merge.Statement.{statement}
 use Rattle.merge.proofs.merge.Tie as tie
 
 abbrev Inv-loop : tie.InvT-loop
-Inv-loop text words₀ base index limit n used m mode walk₀ k₀ words walk k =
+Inv-loop text words₀ base index limit n used m mode walk₀ spare section₀ gap₀ k₀ words walk section gap k =
     Lent base words₀ words
     × Walked text (rowsPart base index limit words) (drop base words₀) (spareWord (take base words) (index + limit)) index limit m mode
     (answer text words₀ base index limit n m mode) walk k
+    × OneSection text section
 
 abbrev μ-loop : tie.MeasureT-loop
-μ-loop text words₀ base index limit n used m mode walk₀ k₀ words walk k = m - k
+μ-loop text words₀ base index limit n used m mode walk₀ spare section₀ gap₀ k₀ words walk section gap k = m - k
 
 abbrev start : tie.At-loop Inv-loop μ-loop → tie.Start Inv-loop μ-loop
-start l = l .before .before .before
+start l = l .before .before .before .before
 
 -- the part before base is lent
 whole : (l : tie.At-loop Inv-loop μ-loop) → start l .args .base ≤ length (l .loop .words)
 whole l = omega (arith, start l .pre .whole, l .loop .inv .0 .size)
 
+-- what `omega` needs later
+small : (l : tie.At-loop Inv-loop μ-loop) → (start l .args .limit < 2 ^ 64) × (start l .args .m < 2 ^ 64)
+small l = (omega arith, omega arith)
+
 -- the row of the other table
 abbrev got : tie.After-step Inv-loop μ-loop → tie.After-get Inv-loop μ-loop
-got a = a .before .before
+got a = a .before .before .before
 
 abbrev turn : tie.After-get Inv-loop μ-loop → tie.At-loop Inv-loop μ-loop
 turn g = g .before .before .before .before
@@ -40,6 +49,17 @@ turn g = g .before .before .before .before
 is-row : (g : tie.After-get Inv-loop μ-loop)
     → g .get .result ≡ row (drop (start (turn g) .args .base) (now (start (turn g) .args .words))) (start (turn g) .args .index) (turn g .loop .k)
 is-row g = g .get .ensures ∙ ap (λ (ws : List ℕ). row ws (start (turn g) .args .index) (turn g .loop .k)) (other-part (turn g .loop .inv .0))
+
+-- as it is spelled when it is merged
+means : (q : tie.After-respelled Inv-loop μ-loop)
+    → Means (now (start (turn (q .before)) .args .text))
+    (row (drop (start (turn (q .before)) .args .base) (now (start (turn (q .before)) .args .words))) (start (turn (q .before)) .args .index) (turn (q .before) .loop .k))
+    (q .respelled .result)
+means q =
+    let g = q .before in
+    let l = turn g in
+    means-as (is-row g)
+    (q .respelled .ensures _ (l .loop .inv .2) (whole-as (is-row g) (start l .pre .other .whole (l .loop .k) (g .before .before .before .loop-test .taken))))
 
 -- and the part comes back
 lent : (a : tie.After-step Inv-loop μ-loop)
@@ -49,6 +69,41 @@ lent a = let l = turn (got a) in lent-back (l .loop .inv .0) (a .step .last .1 .
 same : (a : tie.After-step Inv-loop μ-loop)
     → take (start (turn (got a)) .args .base) (a .step .last .1 .0 ++ drop (start (turn (got a)) .args .base) (turn (got a) .loop .words)) ≡ a .step .last .1 .0
 same a = let l = turn (got a) in lent-front (l .loop .inv .0) (a .step .last .1 .0) (start l .pre .whole) (a .step .kept .1 .0)
+
+-- ---- the row is taken
+
+abbrev stepped : tie.After-known-told2 Inv-loop μ-loop → tie.After-step Inv-loop μ-loop
+stepped x = x .before .before .before .before .before
+
+abbrev next : tie.After-known-told2 Inv-loop μ-loop → Walk
+next x = x .before .next .given .0 .0
+
+-- its place
+below : (x : tie.After-known-told2 Inv-loop μ-loop) → turn (got (stepped x)) .loop .k < start (turn (got (stepped x))) .args .m
+below x = got (stepped x) .before .before .before .loop-test .taken
+
+-- the words as they are then
+abbrev after : tie.After-step Inv-loop μ-loop → List ℕ
+after a = a .step .last .1 .0 ++ drop (start (turn (got a)) .args .base) (turn (got a) .loop .words)
+
+-- what the loop says of words and a walk
+abbrev Goes : tie.At-loop Inv-loop μ-loop → List ℕ → Walk → ℕ → Type 0
+Goes l words walk k =
+    let s = start l .args in
+    Walked (now (s .text)) (rowsPart (s .base) (s .index) (s .limit) words) (drop (s .base) (now (s .words)))
+    (spareWord (take (s .base) words) (s .index + s .limit)) (s .index) (s .limit) (s .m) (s .mode)
+    (answer (now (s .text)) (now (s .words)) (s .base) (s .index) (s .limit) (s .n) (s .m) (s .mode)) walk k
+
+goes : (x : tie.After-known-told2 Inv-loop μ-loop) → Goes (turn (got (stepped x))) (after (stepped x)) (next x) (turn (got (stepped x)) .loop .k + 1)
+goes x =
+    let a = stepped x in
+    let q = a .before .before in
+    let l = turn (got a) in
+    let spare = start l .args .index + start l .args .limit in
+    rw (same a)
+    (walked-next (l .loop .inv .1) (start l .pre .other) (below x) (q .respelled .result) (means q)
+    (take spare (a .step .last .1 .0)) (spareWord (a .step .last .1 .0) spare) (a .step .result) (next x)
+    (x .before .next .given .1) (a .step .ensures .0) (a .step .ensures .1))
 
 -- the end of the loop
 abbrev left : tie.After-settle Inv-loop μ-loop → tie.At-loop Inv-loop μ-loop
@@ -60,40 +115,50 @@ merge-spec =
     (tie.spec
     Inv-loop
     μ-loop
-    (λ c. (record { other = refl; size = refl }, walked-start (c .before .before .args .mode) (c .before .before .pre)))
+    (λ c. let τ = c .before .before .pre in omega (arith, τ .words, τ .whole))
+    (λ c κs. search needs)
+    (λ c. let s = c .before .before .before in
+    (record { other = refl; size = refl }, walked-start (s .args .mode) (s .pre), c .no-section .ensures _))
     (λ c. let w = whole (c .before) in search needs)
     (λ c. whole (c .before))
     (λ c. let w = whole (c .before .before) in search needs)
     (λ c. let w = whole (c .before .before) in search needs)
     (λ c κs. let l = c .before .before .before in
     (rw (other-part (l .loop .inv .0)) (start l .pre .other .store), omega (arith, start l .pre .other .room)))
-    (λ c. whole (turn c))
-    (λ c. simp length-take (omega (arith, whole (turn (c .before)))))
-    (λ c κs. let g = c .before in
-    let l = turn g in
-    (walked-ready (l .loop .inv .1) (start l .pre .other) (omega arith) (g .get .result) (is-row g), simp length-take (omega (arith, start l .pre .words, whole l))))
+    (λ c κs. search needs)
+    (λ c. whole (turn (c .before)))
+    (λ c. simp length-take (omega (arith, whole (turn (c .before .before)))))
+    (λ c κs. let q = c .before in
+    let l = turn (q .before) in
+    (walked-ready (l .loop .inv .1) (start l .pre .other) (omega arith) (q .respelled .result) (means q), simp length-take (omega (arith, start l .pre .words, whole l))))
     (λ c. search needs)
     (λ c. lent (c .before .before .before .before .before) .size)
     (λ c. let a = c .before .before .before .before .before in
-    let g = got a in
-    let l = turn g in
+    let q = a .before .before in
+    let l = turn (got a) in
     merged-refused
-    (walked-refused (l .loop .inv .1) (start l .pre .other) (omega arith) (g .get .result) (is-row g) _ (a .step .result) _ (c .before .fault .given .1)
+    (walked-refused (l .loop .inv .1) (start l .pre .other) (omega arith) (q .respelled .result) (means q) _ (a .step .result) _ (c .before .fault .given .1)
     (a .step .ensures .0)))
     (λ c. search needs)
-    (λ c. omega arith)
-    (λ c. omega arith)
-    (λ c. let a = c .before .before .before .before .before in
-    let g = got a in
-    let l = turn g in (
-      lent a,
-      rw (same a)
-          (walked-next (l .loop .inv .1) (start l .pre .other) (omega arith) (g .get .result) (is-row g) _ _ (a .step .result) _ (c .before .next .given .1)
-          (a .step .ensures .0) (a .step .ensures .1)),
+    (λ c. let τ = start (turn (got (stepped c))) .pre in omega (arith, lent (stepped c) .size, τ .words, τ .whole))
+    (λ c. let τ = start (turn (got (stepped (c .before)))) .pre in simp length-take (omega (arith, lent (stepped (c .before)) .size, τ .words, τ .whole)))
+    (λ c. let x = c .before .before in omega (arith, small (turn (got (stepped x))) .0, goes x .joined .most))
+    (λ c κs. let x = c .before .before in
+    let g = got (stepped x) in
+    let l = turn g in
+    let s = start l .args in
+    let ω = goes x .joined in (
+      ranked-front (after (stepped x)) (s .base) (s .index + s .limit) (omega (arith, start l .pre .words)) (ω .ranked),
+      ω .from,
+      whole-as (is-row g) (start l .pre .other .whole (l .loop .k) (below x)),
+      l .loop .inv .2,
     ))
+    (λ c κs. search needs)
+    (λ c. let x = c .before .before .before .before in omega (arith, below x, small (turn (got (stepped x))) .1))
+    (λ c. let x = c .before .before .before .before in omega (arith, below x))
+    (λ c. let x = c .before .before .before .before in (lent (stepped x), goes x, c .before .section-met .ensures))
     (λ c. whole (c .before))
     (λ c. simp length-take (omega (arith, whole (c .before .before))))
-    (λ c. let τ = start (c .before .before) .pre in omega (arith, τ .words, τ .whole))
     (λ c κs. let l = c .before .before in
     let τ = start l .pre in
     let ω = l .loop .inv .1 in

@@ -3,7 +3,7 @@ use native.Mathlib.Omega.{arith}
 use Prim.Native.Nat.{ℕ, _+_, _/_, _-_}
 use Rattle.store.proofs.Halving.{Halved, halved-up, halved-down, halved-done}
 use Rattle.merge.specs.Placing.{Before}
-use Rattle.merge.proofs.PlaceLaws.{whole-as, before-falls, span-halved}
+use Rattle.merge.proofs.PlaceLaws.{before-falls, span-halved}
 use borrow.Author.Needs.{needs}
 use Rattle.merge.proofs.place.bound_entry.Statement.{statement}
 use Rattle.merge.proofs.place.bound_entry.Tie as tie
@@ -30,15 +30,12 @@ bound-entry-spec =
     (λ c. let s = c .before .before .before in span-halved (s .args .key) (s .pre .0) (c .gallop .ensures))
     (λ c. omega arith)
     (λ c. omega arith)
-    (λ c κs. let l = c .before in (start l .pre .0 .store, omega arith))
-    (λ c κs. let l = c .before .before in
-    (whole-as (c .get .ensures) (start l .pre .0 .whole (mid l) (omega arith)), start l .pre .1))
-    (λ c κs. tt)
+    (λ c κs. let l = c .before in (start l .pre .0, start l .pre .1, omega arith))
     (λ c. omega arith)
     (λ c. omega arith)
-    (λ c. let l = c .before .before .before .before .before in
+    (λ c. let l = c .before .before .before in
     halved-up (before-falls (start l .args .key) (start l .pre .0)) (l .loop .inv) (mid l) (omega arith) (omega arith) (cc))
     (λ c. omega arith)
-    (λ c. let l = c .before .before .before .before .before in
+    (λ c. let l = c .before .before .before in
     halved-down (before-falls (start l .args .key) (start l .pre .0)) (l .loop .inv) (mid l) (omega arith) (omega arith) (cc))
     (λ c. halved-done (c .before .loop .inv) (c .loop-test .left)))

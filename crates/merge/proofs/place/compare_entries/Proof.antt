@@ -1,5 +1,5 @@
 -- `place::compare_entries` meets its contract. Assumes nothing.
-use Rattle.merge.proofs.PlaceLaws.{by-item, by-section}
+use Rattle.merge.proofs.PlaceLaws.{by-lines}
 use borrow.Author.Needs.{needs}
 use Rattle.merge.proofs.place.compare_entries.Statement.{statement}
 use Rattle.merge.proofs.place.compare_entries.Tie as tie
@@ -8,8 +8,10 @@ pub compare-entries-spec : {M : Type 1} → statement M
 compare-entries-spec =
     tie.close
     (tie.spec
-    (λ c κs. let s = c .before in (s .pre .0 .named, s .pre .1 .named))
     (λ c κs. search needs)
-    (λ c κs. let s = c .before .before .before .before in (s .pre .0 .good, s .pre .1 .good))
-    (λ c. by-item _ _ _ (cc) (c .compare-items .ensures))
-    (λ c. by-section _ _ _ (cc) (c .before .before .compare-sections .ensures)))
+    (λ c κs. search needs)
+    (λ c. let l = c .before .before in
+    let s = l .before .before in
+    by-lines (s .pre .0) (s .pre .1) (l .lines-of-one .ensures (cc)) _ (c .compare-numbers .ensures))
+    (λ c κs. search needs)
+    (λ c. search needs))

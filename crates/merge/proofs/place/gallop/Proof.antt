@@ -3,7 +3,7 @@ use native.Mathlib.Omega.{arith}
 use Prim.Native.Nat.{ℕ, _+_, _-_, _≤_}
 use denote.Ref.{now}
 use Rattle.merge.specs.Placing.{Passed}
-use Rattle.merge.proofs.PlaceLaws.{whole-as, passed-up, spans}
+use Rattle.merge.proofs.PlaceLaws.{passed-up, spans}
 use borrow.Author.Needs.{needs}
 use Rattle.merge.proofs.place.gallop.Statement.{statement}
 use Rattle.merge.proofs.place.gallop.Tie as tie
@@ -30,18 +30,15 @@ gallop-spec =
     (λ c. search needs)
     (λ c. search needs)
     (λ c. search needs)
-    (λ c κs. search needs)
-    (λ c κs. let l = c .before .before in
-    (whole-as (c .get .ensures) (start l .pre .0 .whole (at l) (omega arith)), start l .pre .1))
-    (λ c κs. search needs)
+    (λ c κs. let l = c .before in (start l .pre .0, start l .pre .1, omega arith))
     (λ c. search needs)
     (λ c. search needs)
     (λ c. search needs)
     (λ c. omega arith)
-    (λ c. let l = c .before .before .before .before .before in
+    (λ c. let l = c .before .before .before in
     let a = start l .args in
     (omega arith, passed-up (a .key) (start l .pre .0) (at l) (omega arith) (cc)))
-    (λ c. let l = c .before .before .before .before .before in
+    (λ c. let l = c .before .before .before in
     let a = start l .args in
     spans (now (a .text)) (now (a .words)) (a .index) (a .n) (a .key) (l .loop .lo) (at l) (omega arith) (omega arith) (l .loop .inv .1) (λ h. cc))
     (λ c. let l = c .before in
