@@ -7,11 +7,12 @@ use Prim.Native.Nat.{ℕ, compare, Ordering}
 use native.Mathlib.Omega.{arith}
 use lib.Dec.{ltb}
 use lib.ListN.{length}
+use Rattle.map.proofs.Results.{impossible}
 use Rattle.model.specs.Order.{if_then_else_, lex}
 use Rattle.model.specs.Bytes.{Bytes, ascii, compareBytes, sameBytes}
 use Rattle.model.specs.Path.{Path, Component, root, current, parent, name, code, named, leading}
 use Rattle.model.proofs.KeyOrder.{bytes-same}
-use Rattle.order.specs.Pieces.{componentOf, rankOf}
+use Rattle.order.specs.Pieces.{dot, componentOf, rankOf}
 
 -- ---- one piece and those behind it
 
@@ -67,6 +68,47 @@ leading-append ([] ∷ []) [] h k = absurd (k refl)
 leading-append ([] ∷ []) (q ∷ qs) h k = refl
 leading-append ([] ∷ p ∷ ps) m h k = refl
 leading-append ((b ∷ bs) ∷ ps) m h k = refl
+
+-- ---- a piece that has a byte other than dots
+
+-- all bytes are dots
+abbrev Dots : Bytes → Type 0
+Dots [] = Unit {0}
+Dots (b ∷ bs) = (b ≡ dot) × Dots bs
+
+dots-at : (u : Bytes) (c : ℕ) (y : Bytes) → Dots (u ++ c ∷ y) → c ≡ dot
+dots-at [] c y δ = δ .0
+dots-at (b ∷ u) c y δ = dots-at u c y (δ .1)
+
+not-dots : (u : Bytes) (c : ℕ) (y dots : Bytes) → c ≢ dot → Dots dots → sameBytes (u ++ c ∷ y) dots ≡ false
+not-dots u c y dots h δ = go (sameBytes (u ++ c ∷ y) dots) refl
+  where
+    as-dots : (l : Bytes) → l ≡ dots → Dots l
+    as-dots l e = rw e δ
+
+    go : (t : Bool) → sameBytes (u ++ c ∷ y) dots ≡ t → t ≡ false
+    go true e = absurd (h (dots-at u c y (as-dots (u ++ c ∷ y) (bytes-same .same-eq (u ++ c ∷ y) dots e))))
+    go false e = refl
+
+tested-name : (t u : Bool) (piece : Bytes) → t ≡ false → u ≡ false → tested t u piece ≡ name piece
+tested-name t u piece e f = rw (e, f)
+
+is-name : (u : Bytes) (c : ℕ) (y : Bytes) → c ≢ dot → componentOf (u ++ c ∷ y) ≡ name (u ++ c ∷ y)
+is-name [] c y h =
+    tested-name _ _ (c ∷ y) (not-dots [] c y (ascii ".") h (refl, tt)) (not-dots [] c y (ascii "..") h (refl, (refl, tt)))
+is-name (b ∷ u) c y h =
+    tested-name _ _ (b ∷ (u ++ c ∷ y)) (not-dots (b ∷ u) c y (ascii ".") h (refl, tt)) (not-dots (b ∷ u) c y (ascii "..") h (refl, (refl, tt)))
+
+module _ (u : Bytes) (c : ℕ) (y : Bytes) (h : c ≢ dot) (pieces : List Bytes) where
+  pub named-name : named ((u ++ c ∷ y) ∷ pieces) ≡ name (u ++ c ∷ y) ∷ named pieces
+  named-name =
+      named-piece (u ++ c ∷ y) pieces
+      ∙ ap (λ (k : Component). if ltb 1 (rankOf k) then k ∷ named pieces else named pieces) (is-name u c y h)
+
+  pub first-name : leading ((u ++ c ∷ y) ∷ pieces) ++ named ((u ++ c ∷ y) ∷ pieces) ≡ name (u ++ c ∷ y) ∷ named pieces
+  first-name =
+      first-piece (u ++ c ∷ y) pieces (λ e. let z : root ≡ name (u ++ c ∷ y) = sym (ap componentOf e) ∙ is-name u c y h in impossible cc)
+      ∙ ap (λ (k : Component). k ∷ named pieces) (is-name u c y h)
 
 -- ---- ranks
 

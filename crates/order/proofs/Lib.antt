@@ -4,3 +4,4 @@ pub mod SplitLaws
 pub mod ComponentLaws
 pub mod PlaceLaws
 pub mod PathLaws
+pub mod NameLaws

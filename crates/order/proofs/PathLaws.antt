@@ -99,7 +99,7 @@ through xs ys =
     (named-append (split slash xs) (split slash ys))
     ∙ sym (append-assoc (leading (split slash xs ++ ([] ∷ []))) (named (split slash xs)) (named (split slash ys)))
 
-alike-through : (xs ys zs : Bytes) → comparePaths (components (xs ++ slash ∷ ys)) (components (xs ++ slash ∷ zs))
+pub alike-through : (xs ys zs : Bytes) → comparePaths (components (xs ++ slash ∷ ys)) (components (xs ++ slash ∷ zs))
     ≡ comparePaths (named (split slash ys)) (named (split slash zs))
 unfolding comparePaths
 alike-through xs ys zs =

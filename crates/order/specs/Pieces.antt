@@ -76,3 +76,11 @@ pub record NextComponent (path : Bytes) (from : ℕ) (r : Piece) : Type 0 where
 abbrev pub noneAgainst : Piece → Ordering
 noneAgainst (At s e) = Ordering·lt
 noneAgainst End = Ordering·eq
+
+abbrev pub dot : ℕ
+dot = 46
+
+-- a byte that only names have: a piece with it is neither empty nor made of dots, and goes on behind it
+pub record InName (b : ℕ) : Type 0 where
+  pub no-slash : b ≢ slash
+  pub no-dot : b ≢ dot

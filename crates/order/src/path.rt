@@ -7,12 +7,13 @@ use crate::is_equal;
 use crate::prefix::common_prefix;
 use crate::then_by;
 ghost use mathlib.Core.Path.{_≡_};
+ghost use mathlib.Core.Bool.{true};
 ghost use Prim.Native.Nat.{_≤_};
 ghost use lib.ListN.{length};
 ghost use Rattle.model.specs.Bytes.{compareBytes, sameBytes};
 ghost use Rattle.model.specs.Path.{code, components, comparePaths};
 ghost use Rattle.order.specs.Orders.{orderOf};
-ghost use Rattle.order.specs.Pieces.{PieceEnd, NameStart, componentOf, rankOf, isComponent, componentsFrom, NextComponent, noneAgainst};
+ghost use Rattle.order.specs.Pieces.{PieceEnd, NameStart, componentOf, rankOf, isComponent, componentsFrom, NextComponent, noneAgainst, InName};
 
 // Where the piece that starts at place p ends: at the next slash, or with the path.
 fn piece_end(path: &[u8], p: usize) -> usize
@@ -144,7 +145,21 @@ fn compare_from(a: &[u8], b: &[u8], from: usize) -> Order
     }
 }
 
-// Up to the last slash of what both spell alike the components are the same, so the comparison starts behind it.
+// Whether a byte can stand in names only.
+fn in_name(byte: u8) -> bool
+    ensures { λ r. ⌜ (r ≡ true → InName byte) ⌝ }
+{
+    if byte == b'/' {
+        return false;
+    }
+    if byte == b'.' {
+        return false;
+    }
+    true
+}
+
+// Up to the last slash of what both spell alike the components are the same, so the comparison starts behind it. Most paths first differ
+// inside a name, and the two bytes there decide.
 pub fn compare_paths(a: &[u8], b: &[u8]) -> Order
     ensures { λ r. ⌜ orderOf r ≡ comparePaths (components (now (a .entry))) (components (now (b .entry))) ⌝ }
 {
@@ -152,6 +167,17 @@ pub fn compare_paths(a: &[u8], b: &[u8]) -> Order
     if a.len() == n {
         if b.len() == n {
             return Order::Equal;
+        }
+    }
+    if n < a.len() {
+        if n < b.len() {
+            let x = a[n];
+            let y = b[n];
+            if in_name(x) {
+                if in_name(y) {
+                    return compare_numbers(x as u64, y as u64);
+                }
+            }
         }
     }
     compare_from(a, b, name_start(a, n))
