@@ -1,0 +1,4 @@
+pub mod EachLaws
+pub mod LengthLaws
+pub mod ReportLaws
+pub mod RowLaws

@@ -1,0 +1,125 @@
+-- What comes of a row is no longer than its words say, and rows one after the other. Assumes nothing.
+use Prim.Native.Nat.{ℕ, zero, suc, _+_, _-_, _/_, _%_, _≤_, _<_, min}
+use native.Mathlib.Omega.{arith}
+use native.Mathlib.Nat.{zero-add}
+use mathlib.Core.Path.{_≡_, refl, sym, ap, _∙_}
+use mathlib.Core.Logic.{_≢_}
+use mathlib.Core.Bool.{true}
+use mathlib.Core.List.{List, [], _∷_, _++_}
+use mathlib.Core.Option.{none, some}
+use lib.ListN.{length, take, drop, length-take}
+use Rattle.store.specs.declared.Row.{Row}
+use Rattle.store.specs.Places.{listed}
+use Rattle.store.specs.Store.{row}
+use Rattle.store.proofs.ListedLaws.{listed-split}
+use Rattle.model.specs.Bytes.{Bytes}
+use Rattle.model.specs.Limits.{u64-max}
+use Rattle.model.specs.Number.{decimal}
+use Rattle.model.specs.Report.{Entry, Report, sectionItem, functionItem, branchItem, lineItem}
+use Rattle.text.proofs.DecimalLaws.{decimal-most}
+use Rattle.items.specs.Items.{part, itemOf}
+use Rattle.closing.specs.Sections.{testOf, pathOf, entryOf, entryAt, entriesAt}
+use Rattle.emit.proofs.LentLaws.{item}
+use Rattle.bounding.specs.Bounding.{itemLines, sectionMost, entryMost, reportMost, Roomy}
+use Rattle.bounding.proofs.LengthLaws.{item-length}
+
+-- ---- a row
+
+part-most : (text : Bytes) (start len : ℕ) → length (part text start len) ≤ len
+part-most text start len = omega (arith, length-take len (drop start text))
+
+module _ (text : Bytes) (r : Row) where
+  -- by kind k and what is given, m
+  abbrev most : ℕ → ℕ → ℕ
+  most k m = sectionMost (testOf text r) (item text r k m) + length (itemLines (item text r k m))
+
+  pub line-most : (a b n : ℕ) → 2 < r .tag / 2 → length (decimal (r .k1)) ≤ a → length (decimal (r .count)) ≤ b → n ≡ min (r .k3 + (6 + a + b)) u64-max
+      → min (entryMost (entryOf text r)) u64-max ≤ n
+  unfolding itemOf sectionMost
+  line-most a b n h p q e = omega (arith, go (r .tag / 2) (r .tag % 2) h)
+    where
+      go : (k m : ℕ) → 2 < k → most k m ≤ r .k3 + (6 + a + b)
+      go zero m l = absurd (omega arith)
+      go (suc zero) m l = absurd (omega arith)
+      go (suc (suc zero)) m l = absurd (omega arith)
+      go (suc (suc (suc k))) zero l = omega (arith, item-length (lineItem (r .k1) (r .count) none))
+      go (suc (suc (suc k))) (suc m) l =
+          omega (arith, item-length (lineItem (r .k1) (r .count) (some (part text (r .k2) (r .k3)))), part-most text (r .k2) (r .k3))
+
+  pub branch-most : (a b c d n : ℕ) → r .tag / 2 ≡ 2 → length (decimal (r .k1)) ≤ a → length (decimal (r .k2)) ≤ b → length (decimal (r .k3)) ≤ c
+      → length (decimal (r .count)) ≤ d → 1 ≤ d → n ≡ 9 + (a + b + c) + d → min (entryMost (entryOf text r)) u64-max ≤ n
+  unfolding itemOf sectionMost
+  branch-most a b c d n h p q s t i e = omega (arith, go (r .tag / 2) (r .tag % 2) h)
+    where
+      go : (k m : ℕ) → k ≡ 2 → most k m ≤ 9 + (a + b + c) + d
+      go zero m l = absurd (omega arith)
+      go (suc zero) m l = absurd (omega arith)
+      go (suc (suc zero)) zero l = omega (arith, item-length (branchItem (r .k1) (r .k2) (r .k3) none))
+      go (suc (suc zero)) (suc m) l = omega (arith, item-length (branchItem (r .k1) (r .k2) (r .k3) (some (r .count))))
+      go (suc (suc (suc k))) m l = absurd (omega arith)
+
+  pub function-most : (a n : ℕ) → r .tag / 2 ≡ 1 → a ≡ min (r .k2 + r .k2) u64-max → n ≡ min (a + 52) u64-max → min (entryMost (entryOf text r)) u64-max ≤ n
+  unfolding itemOf sectionMost
+  function-most a n h e q = omega (arith, go (r .tag / 2) (r .tag % 2) h)
+    where
+      go : (k m : ℕ) → k ≡ 1 → most k m ≤ r .k2 + r .k2 + 52
+      go zero m l = absurd (omega arith)
+      go (suc zero) zero l =
+          omega (arith, item-length (functionItem (part text (r .k1) (r .k2)) none (r .count)), part-most text (r .k1) (r .k2), decimal-most (r .count))
+      go (suc zero) (suc m) l =
+          omega (
+            arith,
+            item-length (functionItem (part text (r .k1) (r .k2)) (some (r .k3)) (r .count)),
+            part-most text (r .k1) (r .k2),
+            decimal-most (r .k3),
+            decimal-most (r .count),
+          )
+      go (suc (suc k)) m l = absurd (omega arith)
+
+  pub section-row-most : (a n : ℕ) → r .tag / 2 ≤ 2 → r .tag / 2 ≢ 2 → r .tag / 2 ≢ 1 → a ≡ min (r .«test_len» + r .«path_len») u64-max
+      → n ≡ min (a + 80) u64-max → min (entryMost (entryOf text r)) u64-max ≤ n
+  unfolding itemOf sectionMost
+  section-row-most a n h b f e q = omega (arith, go (r .tag / 2) (r .tag % 2) (omega arith))
+    where
+      go : (k m : ℕ) → k ≡ 0 → most k m ≤ r .«test_len» + r .«path_len» + 80
+      go zero m l =
+          omega (
+            arith,
+            item-length (sectionItem (pathOf text r)),
+            part-most text (r .test) (r .«test_len»),
+            part-most text (r .path) (r .«path_len»),
+          )
+      go (suc k) m l = absurd (omega arith)
+
+-- ---- rows one after the other
+
+most-append : (es fs : Report) → reportMost (es ++ fs) ≡ reportMost es + reportMost fs
+unfolding reportMost
+most-append [] fs = sym (zero-add (reportMost fs))
+most-append (e ∷ es) fs = omega (arith, most-append es fs)
+
+most-next : (f : ℕ → Entry) (i : ℕ) → reportMost (listed f (i + 1)) ≡ reportMost (listed f i) + entryMost (f i)
+unfolding listed reportMost
+most-next f i =
+    let z : i + 0 ≡ i = omega arith in
+    let one : reportMost (listed (λ k. f (i + k)) 1) ≡ entryMost (f i) = rw z (omega arith) in
+    ap reportMost (listed-split f i 1) ∙ most-append (listed f i) (listed (λ k. f (i + k)) 1) ∙ ap (λ (n : ℕ). reportMost (listed f i) + n) one
+
+-- of `room`, the first i rows leave so much
+pub record Leaving (ws : List ℕ) (index room i left : ℕ) : Type 0 where
+  pub bytes : (text : Bytes) → reportMost (entriesAt text ws index i) + left ≤ room
+
+module _ {ws : List ℕ} {index room : ℕ} where
+  pub leaving-start : Leaving ws index room 0 room
+  unfolding listed reportMost
+  leaving-start = record { bytes = λ text. omega arith }
+
+  module _ {i left : ℕ} (ρ : Leaving ws index room i left) where
+    pub leaving-next : {r : Row} {n : ℕ} → room < u64-max → r ≡ row ws index i → ((text : Bytes) → min (entryMost (entryOf text r)) u64-max ≤ n) → n ≤ left
+        → Leaving ws index room (i + 1) (left - n)
+    leaving-next {r} {n} s e h l = record {
+      bytes = λ text. omega (arith, ρ .bytes text, most-next (entryAt text ws index) i, rw e at (h text));
+    }
+
+    pub leaving-end : {n : ℕ} → i ≤ n → n ≤ i → Roomy ws index n room true
+    leaving-end {n} h l text = omega (arith, rw (let z : i ≡ n = omega arith in z) at (ρ .bytes text))

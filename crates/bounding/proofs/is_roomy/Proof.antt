@@ -1,0 +1,27 @@
+-- `bounding::is_roomy` meets its contract: what the rows so far come to has been taken off the room. Assumes nothing.
+use Prim.Native.Nat.{_-_, _≤_}
+use borrow.Author.Needs.{needs}
+use Rattle.bounding.proofs.RowLaws.{Leaving, leaving-start, leaving-next, leaving-end}
+use Rattle.bounding.proofs.is_roomy.Statement.{statement}
+use Rattle.bounding.proofs.is_roomy.Tie as tie
+
+abbrev Inv-loop : tie.InvT-loop
+Inv-loop words index used n room left₀ i₀ left i = (i ≤ n) × Leaving words index room i left
+
+abbrev μ-loop : tie.MeasureT-loop
+μ-loop words index used n room left₀ i₀ left i = n - i
+
+pub is-roomy-spec : {M : Type 1} → statement M
+is-roomy-spec =
+    tie.close
+    (tie.spec
+    Inv-loop
+    μ-loop
+    (λ c. search (leaving-start, needs))
+    (λ c κs. search needs)
+    (λ c κs. search needs)
+    (λ c. search needs)
+    (λ c. search needs)
+    (λ c. search needs)
+    (λ c. search (leaving-next, needs))
+    (λ c. search (leaving-end, needs)))

@@ -1,0 +1,69 @@
+// An upper bound for the bytes that a report prints, told by its rows alone: where the output is as long, the lines need not be measured before
+// they are written.
+use store::Row;
+ghost use mathlib.Core.Path.{_≡_};
+ghost use mathlib.Core.List.{List};
+ghost use Prim.Native.Nat.{ℕ, _+_, _≤_, _<_, min};
+ghost use lib.ListN.{length};
+ghost use Rattle.store.specs.Store.{Store};
+ghost use Rattle.model.specs.Limits.{u64-max};
+ghost use Rattle.model.specs.Number.{decimal};
+ghost use Rattle.closing.specs.Sections.{entryOf};
+ghost use Rattle.bounding.specs.Bounding.{entryMost, Roomy};
+
+// How many digits v has at most: one test, since most numbers of a report are small.
+fn most_digits(v: u64) -> u64
+    ensures { λ r. ⌜ (length (decimal v) ≤ r) × (1 ≤ r) × (r ≤ 20) ⌝ }
+{
+    if v < 100_000 {
+        return 5;
+    }
+    20
+}
+
+// A sum, held at 2^64 − 1.
+fn held_sum(a: u64, b: u64) -> u64
+    ensures { λ r. ⌜ r ≡ min (a + b) u64-max ⌝ }
+{
+    if u64::MAX - a < b {
+        return u64::MAX;
+    }
+    a + b
+}
+
+// What comes of a row is at most so long: DA, BRDA, FN and FNDA, or all lines that a section has besides.
+fn row_most(row: Row) -> u64
+    ensures { λ r. ⌜ ((text : List ℕ) → min (entryMost (entryOf text row)) u64-max ≤ r) ⌝ }
+{
+    let kind = row.tag / 2;
+    if items::BRANCH < kind {
+        let numbers = 6 + most_digits(row.k1) + most_digits(row.count);
+        return held_sum(row.k3, numbers);
+    }
+    if kind == items::BRANCH {
+        let place = most_digits(row.k1) + most_digits(row.k2) + most_digits(row.k3);
+        return 9 + place + most_digits(row.count);
+    }
+    if kind == items::FUNCTION {
+        return held_sum(held_sum(row.k2, row.k2), 52);
+    }
+    held_sum(held_sum(row.test_len, row.path_len), 80)
+}
+
+// Whether the first n rows print at most `room` bytes. The answer may be no where they do, and never yes where they don't.
+pub fn is_roomy(words: &[u64], index: usize, used: usize, n: usize, room: usize) -> bool
+    requires { ⌜ Store (now words) index used × (n ≤ used) × (room < u64-max) ⌝ }
+    ensures { λ r. ⌜ Roomy (now (words .entry)) index n room r ⌝ }
+{
+    let mut left = room as u64;
+    let mut i = 0;
+    while i < n {
+        let most = row_most(store::get(words, index, used, i));
+        if left < most {
+            return false;
+        }
+        left = left - most;
+        i += 1;
+    }
+    true
+}
