@@ -6,3 +6,4 @@ pub mod TableLaws
 pub mod FunctionLaws
 pub mod StageLaws
 pub mod LoopLaws
+pub mod BoundLaws

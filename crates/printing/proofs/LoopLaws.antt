@@ -27,7 +27,7 @@ use Rattle.closing.specs.Sections.{entryAt, entriesAt}
 use Rattle.emit.specs.Emit.{RoomFor, Emitted}
 use Rattle.emit.proofs.EmitLaws.{room-as}
 use Rattle.printing.specs.declared.Printed.{Printed}
-use Rattle.printing.specs.Printing.{entriesFrom, printedFrom, Spacious, Spared, SectionPrinted}
+use Rattle.printing.specs.Printing.{entriesFrom, printedFrom, Spacious, Spared, SectionPrinted, Enough}
 use Rattle.printing.proofs.KindLaws.{first-own}
 use Rattle.printing.proofs.TableLaws.{spared-none, spared-both, row-kept, entries-kept}
 use Rattle.printing.proofs.GoingLaws.{Going, going-start, going-next, going-done, room-left}
@@ -102,12 +102,20 @@ module _ {printed : List ℕ → ℕ → Bytes} {write : Bool} {text ws₀ ws ou
 
 -- ---- the answer
 
--- the first pass: only the words from `spare` on change, and r is the needed length of all bytes
+-- a length that the bytes, as they were measured, need
+pub enough-measured : {out out₁ bytes : Bytes} {r : ℕ} → Emitted false out out₁ 0 bytes r → length out * 1 < 2 ^ 63 → Enough out out₁ bytes r
+enough-measured ε few = record { same = ε .after; short = λ h. omega (arith, ε .next); fits = λ h. omega (arith, ε .next) }
+
+-- and none where they surely fit
+pub enough-none : {out bytes : Bytes} → length bytes ≤ length out → Enough out out bytes 0
+enough-none h = record { same = refl; short = λ l. absurd (omega arith); fits = λ l. h }
+
+-- before the writing: only the words from `spare` on change, and `needed` is enough for all bytes
 pub record Measured (printed : List ℕ → ℕ → Bytes) (bytes : Bytes) (ws ws₁ out out₁ : List ℕ) (n spare needed : ℕ) : Type 0 where
   pub prints : Prints printed ws n spare
   pub is : printed ws 0 ≡ bytes
   pub spared : Spared ws ws₁ spare
-  pub emitted : Emitted false out out₁ 0 (printed ws 0) needed
+  pub enough : Enough out out₁ (printed ws 0) needed
   pub few : length out * 1 < 2 ^ 63
 
 module _ {printed : List ℕ → ℕ → Bytes} {bytes : Bytes} {ws ws₁ out out₁ : List ℕ} {n spare needed : ℕ}
@@ -115,14 +123,14 @@ module _ {printed : List ℕ → ℕ → Bytes} {bytes : Bytes} {ws ws₁ out ou
   again : printed ws₁ 0 ≡ bytes
   again = μ .prints .same ws₁ (μ .spared) 0 ∙ μ .is
 
-  needed-is : needed ≡ min (length bytes) u64-max
-  needed-is = μ .emitted .next ∙ ap (λ (m : ℕ). min m u64-max) (zero-add (length (printed ws 0)) ∙ ap length (μ .is))
-
   size : length out₁ ≡ length out
-  size = ap length (μ .emitted .after)
+  size = ap length (μ .enough .same)
 
   -- too short
   module _ (h : length out₁ < needed) where
+    needed-is : needed ≡ min (length bytes) u64-max
+    needed-is = μ .enough .short (omega (arith, size)) ∙ ap (λ (b : Bytes). min (length b) u64-max) (μ .is)
+
     is-short : written (length out) bytes ≡ refuseLength (length bytes)
     unfolding written
     is-short = let e : leb (length bytes) (length out) ≡ false = lt-leb (length bytes) (length out) (omega (arith, needed-is, size)) in rw e
@@ -135,12 +143,12 @@ module _ {printed : List ℕ → ℕ → Bytes} {bytes : Bytes} {ws ws₁ out ou
 
     pub short-out : out₁ ≡ outputAfter (written (length out) bytes) out
     unfolding outputAfter
-    short-out = μ .emitted .after ∙ sym (ap (λ (a : Answer Bytes). outputAfter a out) is-short)
+    short-out = μ .enough .same ∙ sym (ap (λ (a : Answer Bytes). outputAfter a out) is-short)
 
-  -- long enough, and written by the second pass
+  -- long enough, and written then
   module _ (h : needed ≤ length out₁) where
     fits : length bytes ≤ length out
-    fits = omega (arith, needed-is, size, μ .few)
+    fits = omega (arith, μ .enough .fits (omega (arith, size)), ap length (μ .is))
 
     is-written : written (length out) bytes ≡ accepted bytes
     unfolding written
@@ -151,7 +159,7 @@ module _ {printed : List ℕ → ℕ → Bytes} {bytes : Bytes} {ws ws₁ out ou
 
     module _ {out₂ : Bytes} {len : ℕ} (ε : Emitted true out₁ out₂ 0 (printed ws₁ 0) len) where
       second : Emitted true out out₂ 0 bytes len
-      second = rw (again, μ .emitted .after) at ε
+      second = rw (again, μ .enough .same) at ε
 
       pub written-answer : Written len ≡ writeAnswer (written (length out) bytes)
       unfolding writeAnswer

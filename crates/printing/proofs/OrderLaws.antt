@@ -1,5 +1,5 @@
 -- What is printed of items has one length, in whatever order they are. Assumes nothing.
-use Prim.Native.Nat.{ℕ, suc, _+_, Ordering, Ordering·lt, Ordering·eq, Ordering·gt}
+use Prim.Native.Nat.{ℕ, suc, _+_, Ordering}
 use native.Mathlib.Omega.{arith}
 use mathlib.Core.Path.{_≡_, refl, sym, ap, ap₂, _∙_}
 use mathlib.Core.Bool.{Bool, true, false}
@@ -8,7 +8,7 @@ use lib.Dec.{ltb}
 use lib.ListN.{length, length-append}
 use Rattle.model.specs.Order.{if_then_else_}
 use Rattle.model.specs.Bytes.{Bytes, newline}
-use Rattle.model.specs.Lists.{select, insertSorted, sort, each}
+use Rattle.model.specs.Lists.{select, sort, each}
 use Rattle.model.specs.Line.{printRecord}
 use Rattle.model.specs.Record.{Record, functionsFound, functionsHit}
 use Rattle.model.specs.Report.{Item, countOf}
@@ -16,29 +16,10 @@ use Rattle.model.specs.Tags.{defaultTag}
 use Rattle.model.specs.Printing.{startRecord, dataRecord, hits, group, printRecords}
 use Rattle.model.proofs.ListLaws.{each-append, sort-length}
 use Rattle.emit.proofs.PassLaws.{lines-append}
+use Rattle.bounding.proofs.EachLaws.{sort-each}
 use Rattle.printing.specs.Printing.{functionLines}
 
--- ---- sorted lists
-
-module _ {A B : Type 0} (f : A → List B) (c : A → A → Ordering) where
-  insert-each : (x : A) (l : List A) → length (each f (insertSorted c x l)) ≡ length (f x) + length (each f l)
-  unfolding each insertSorted
-  insert-each x [] = length-append (f x) []
-  insert-each x (y ∷ ys) = go (c x y) refl (insert-each x ys)
-    where
-      go : (o : Ordering) → c x y ≡ o → length (each f (insertSorted c x ys)) ≡ length (f x) + length (each f ys)
-          → length (each f (insertSorted c x (y ∷ ys))) ≡ length (f x) + length (f y ++ each f ys)
-      go Ordering·lt o ih = rw (o, insertSorted) (length-append (f x) (f y ++ each f ys))
-      go Ordering·eq o ih = rw (o, insertSorted) (length-append (f x) (f y ++ each f ys))
-      go Ordering·gt o ih =
-          rw (o, insertSorted)
-          (omega (arith, length-append (f y) (each f (insertSorted c x ys)), length-append (f y) (each f ys), ih))
-
-  -- sorted, the results are as long
-  pub sort-each : (l : List A) → length (each f (sort c l)) ≡ length (each f l)
-  unfolding each sort
-  sort-each [] = refl
-  sort-each (x ∷ xs) = omega (arith, insert-each x (sort c xs), sort-each xs, length-append (f x) (each f xs))
+-- ---- lists
 
 each-each : {A B C : Type 0} (g : B → List C) (f : A → List B) (l : List A) → each g (each f l) ≡ each (λ x. each g (f x)) l
 unfolding each

@@ -1,5 +1,5 @@
 -- A table printed: the entries from a place on, the runs of a section's rows, and the words that stay. Assumes nothing.
-use Prim.Native.Nat.{ℕ, _+_, _-_, _≤_, _<_}
+use Prim.Native.Nat.{ℕ, _+_, _-_, _≤_, _<_, min}
 use mathlib.Core.Path.{_≡_}
 use mathlib.Core.Logic.{_≢_}
 use mathlib.Core.Bool.{Bool}
@@ -10,7 +10,7 @@ use Rattle.store.specs.Places.{listed}
 use Rattle.store.specs.Rows.{word}
 use Rattle.store.specs.Store.{row}
 use Rattle.model.specs.Bytes.{Bytes}
-use Rattle.model.specs.Limits.{most-entries}
+use Rattle.model.specs.Limits.{u64-max, most-entries}
 use Rattle.model.specs.Lists.{each}
 use Rattle.model.specs.Record.{testName, sourceFile, functionsFound, functionsHit}
 use Rattle.model.specs.Tags.{defaultTag}
@@ -112,3 +112,11 @@ pub record SectionPrinted (printed : List ℕ → ℕ → Bytes) (write : Bool) 
   pub most : r .next ≤ n
   pub own : r .next < n → kindOf (row ws index (r .next)) ≡ 0
   pub spared : Spared ws ws′ spare
+
+-- ---- the answer
+
+-- r is a length that is enough for the bytes: where the output is shorter, the needed one, held at 2^64 − 1. The output stays
+pub record Enough (out out′ bytes : Bytes) (r : ℕ) : Type 0 where
+  pub same : out′ ≡ out
+  pub short : length out < r → r ≡ min (length bytes) u64-max
+  pub fits : r ≤ length out → length bytes ≤ length out

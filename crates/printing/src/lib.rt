@@ -1,5 +1,5 @@
 // The report of a table printed: `into_records` (document 01, "Printing"). "Sections in key order: TN, SF, functions, branches, lines,
-// end_of_record." The same code runs twice: it measures, and where the output is long enough it writes.
+// end_of_record." The same code runs twice where the output may be too short: it measures, and where the output is long enough it writes.
 use model::Fault;
 use model::Refusal;
 use model::WriteAnswer;
@@ -21,7 +21,7 @@ ghost use Rattle.closing.specs.Sections.{entriesAt};
 ghost use Rattle.section.specs.Table.{Table};
 ghost use Rattle.sorting.specs.Sorting.{itemsBy};
 ghost use Rattle.emit.specs.Emit.{RoomFor, Emitted, Printable};
-ghost use Rattle.printing.specs.Printing.{printedFrom, Spacious, Spared, RunOf, RunsOf, functionLines, FunctionRows, branchLines, lineLines, GroupRows, SectionPrinted};
+ghost use Rattle.printing.specs.Printing.{printedFrom, Spacious, Spared, RunOf, RunsOf, functionLines, FunctionRows, branchLines, lineLines, GroupRows, SectionPrinted, Enough};
 
 // Where the run of rows of a kind that starts at place `from` ends.
 fn run_end(words: &[u64], index: usize, used: usize, n: usize, from: usize, kind: u64) -> usize
@@ -200,6 +200,26 @@ pub fn too_short(needed: usize) -> WriteAnswer
     })
 }
 
+// A length that is enough for the report: what it needs where the output is shorter, and 0 where the output is surely long enough.
+fn enough(
+    text: &[u8],
+    words: &mut [u64],
+    index: usize,
+    used: usize,
+    n: usize,
+    spare: usize,
+    out: &mut [u8],
+) -> usize
+    requires { ⌜ Spacious (now text) (now words) index used n spare ⌝ }
+    ensures { λ r. ⌜ Enough (now (out .entry)) (now (out .exit)) (printedFrom (now (text .entry)) index n (now (words .entry)) 0) r ⌝ }
+    ensures { λ _. ⌜ Spared (now (words .entry)) (now (words .exit)) spare ⌝ }
+{
+    if bounding::is_roomy(words, index, used, n, out.len()) {
+        return 0;
+    }
+    print_sections(text, words, index, used, n, spare, out, false)
+}
+
 // Prints the report of the first n rows. An output "shorter than the bytes to be written, whose number is the needed length" stays. `spare`
 // is where the 2n free words start that functions are sorted in.
 pub fn print_report(
@@ -216,7 +236,7 @@ pub fn print_report(
     ensures { λ r. ⌜ r ≡ writeAnswer (written (length (now (out .entry))) (printReport defaultTag (entriesAt (now (text .entry)) (now (words .entry)) index n))) ⌝ }
     ensures { λ _. ⌜ now (out .exit) ≡ outputAfter (written (length (now (out .entry))) (printReport defaultTag (entriesAt (now (text .entry)) (now (words .entry)) index n))) (now (out .entry)) ⌝ }
 {
-    let needed = print_sections(text, words, index, used, n, spare, out, false);
+    let needed = enough(text, words, index, used, n, spare, out);
     if out.len() < needed {
         return too_short(needed);
     }

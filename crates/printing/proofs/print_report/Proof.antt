@@ -1,4 +1,4 @@
--- `printing::print_report` meets its contract: what was measured is refused or written. Assumes nothing.
+-- `printing::print_report` meets its contract: what is too long is refused, and the rest written. Assumes nothing.
 use native.Mathlib.Omega.{arith}
 use borrow.Author.Needs.{needs}
 use denote.Ref.{now}
@@ -16,20 +16,20 @@ abbrev spacious : (s : tie.Start)
     → Spacious (now (s .args .text)) (now (s .args .words)) (s .args .index) (s .args .used) (s .args .n) (s .args .spare)
 spacious s = record { table = s .pre .0 .0; few = s .pre .0 .1; behind = s .pre .1 .0; words = s .pre .1 .1 }
 
-abbrev start : tie.After-print-sections → tie.Start
+abbrev start : tie.After-enough → tie.Start
 start m = m .before .before .before .before .before .before
 
--- what the first pass promises
-abbrev measured : (m : tie.After-print-sections)
+-- what the length promises
+abbrev measured : (m : tie.After-enough)
     → Measured (printedFrom (now (start m .args .text)) (start m .args .index) (start m .args .n))
     (printReport defaultTag (entriesAt (now (start m .args .text)) (now (start m .args .words)) (start m .args .index) (start m .args .n)))
-    (now (start m .args .words)) (m .print-sections .last .1 .0) (now (start m .args .out))
-    (m .print-sections .last .1 .1 .1 .1 .1 .1 .0) (start m .args .n) (start m .args .spare) (m .print-sections .result)
+    (now (start m .args .words)) (m .enough .last .1 .0) (now (start m .args .out))
+    (m .enough .last .1 .1 .1 .1 .1 .1 .0) (start m .args .n) (start m .args .spare) (m .enough .result)
 measured m = record {
   prints = report-prints (spacious (start m));
   is = ap (printReport defaultTag) (entries-all (now (start m .args .text)) (now (start m .args .words)) (start m .args .index) (start m .args .n));
-  spared = m .print-sections .ensures .1;
-  emitted = m .print-sections .ensures .0;
+  spared = m .enough .ensures .1;
+  enough = m .enough .ensures .0;
   few = omega arith;
 }
 
@@ -37,7 +37,7 @@ pub print-report-spec : {M : Type 1} → statement M
 print-report-spec =
     tie.close
     (tie.spec
-    (λ c κs. (spacious (c .before .before .before .before .before), tt))
+    (λ c κs. spacious (c .before .before .before .before .before))
     (λ c κs. search needs)
     (λ c. search needs)
     (λ c. search needs)
@@ -49,4 +49,4 @@ print-report-spec =
     (λ c. search needs)
     (λ c. let w = c .before .before .before .before in
     let μ = measured (w .before .before .before .before .before .before .before .before) in
-    (written-answer μ (omega arith) (w .print-sections2 .ensures .0), written-out μ (omega arith) (w .print-sections2 .ensures .0))))
+    (written-answer μ (omega arith) (w .print-sections .ensures .0), written-out μ (omega arith) (w .print-sections .ensures .0))))
