@@ -4,3 +4,4 @@ pub mod KeepLaws
 pub mod RowsLaws
 pub mod KeptLaws
 pub mod SectionLaws
+pub mod ThinLaws

@@ -26,7 +26,7 @@ ghost use Rattle.closing.specs.Sections.{entriesAt};
 ghost use Rattle.section.specs.Table.{Table};
 ghost use Rattle.sorting.specs.Sorting.{itemsBy};
 ghost use Rattle.emit.specs.Emit.{RoomFor, Emitted, Printable};
-ghost use Rattle.printing.specs.Printing.{Spacious, Spared, RunsOf, FunctionRows, SectionPrinted};
+ghost use Rattle.printing.specs.Printing.{Spacious, Spared, RunsOf, FunctionRows, SectionPrinted, Enough};
 ghost use Rattle.line_num.specs.Pairs.{rangesIn};
 ghost use Rattle.filter.specs.Keeping.{chosen, keeps, Behind, Chosen};
 ghost use Rattle.filter.specs.Filtered.{filteredFrom, Holding, functionsLeft, KeptRows, Ready, keptLines};
@@ -325,6 +325,28 @@ fn filter_sections(
     at
 }
 
+// A length that is enough for the filtered report, as `printing::enough`: where all of the report fits, so does what stays of it.
+fn enough(
+    text: &[u8],
+    words: &mut [u64],
+    pairs: &[[u32; 2]],
+    count: usize,
+    index: usize,
+    used: usize,
+    n: usize,
+    spare: usize,
+    out: &mut [u8],
+) -> usize
+    requires { ⌜ Spacious (now text) (now words) index used n spare × (wellFormedRanges (rangesIn (now pairs)) count ≡ true) ⌝ }
+    ensures { λ r. ⌜ Enough (now (out .entry)) (now (out .exit)) (filteredFrom (take count (rangesIn (now (pairs .entry)))) (now (text .entry)) index n (now (words .entry)) 0) r ⌝ }
+    ensures { λ _. ⌜ Spared (now (words .entry)) (now (words .exit)) spare ⌝ }
+{
+    if bounding::is_roomy(words, index, used, n, out.len()) {
+        return 0;
+    }
+    filter_sections(text, words, pairs, count, index, used, n, spare, out, false)
+}
+
 // Prints the report of the first n rows, filtered by the first `count` pairs; the output and `spare` as for `printing::print_report`.
 pub fn print_filtered(
     text: &[u8],
@@ -342,7 +364,7 @@ pub fn print_filtered(
     ensures { λ r. ⌜ r ≡ writeAnswer (written (length (now (out .entry))) (printSections defaultTag (map (filterSection (take count (rangesIn (now (pairs .entry))))) (sections (entriesAt (now (text .entry)) (now (words .entry)) index n))))) ⌝ }
     ensures { λ _. ⌜ now (out .exit) ≡ outputAfter (written (length (now (out .entry))) (printSections defaultTag (map (filterSection (take count (rangesIn (now (pairs .entry))))) (sections (entriesAt (now (text .entry)) (now (words .entry)) index n))))) (now (out .entry)) ⌝ }
 {
-    let needed = filter_sections(text, words, pairs, count, index, used, n, spare, out, false);
+    let needed = enough(text, words, pairs, count, index, used, n, spare, out);
     if out.len() < needed {
         return printing::too_short(needed);
     }

@@ -1,4 +1,4 @@
--- `filter::print_filtered` meets its contract: what was measured is refused or written. Assumes nothing.
+-- `filter::print_filtered` meets its contract: what is too long is refused, and the rest written. Assumes nothing.
 use native.Mathlib.Omega.{arith}
 use borrow.Author.Needs.{needs}
 use denote.Ref.{now}
@@ -27,21 +27,21 @@ spacious s = record { table = s .pre .0 .0; few = s .pre .0 .1; behind = s .pre 
 abbrev ranges : tie.Start → List Range
 ranges s = take (s .args .count) (rangesIn (now (s .args .pairs)))
 
-abbrev start : tie.After-filter-sections → tie.Start
+abbrev start : tie.After-enough → tie.Start
 start m = m .before .before .before .before .before .before
 
--- what the first pass promises
-abbrev measured : (m : tie.After-filter-sections) → let a = start m .args in
+-- what the length promises
+abbrev measured : (m : tie.After-enough) → let a = start m .args in
     Measured (filteredFrom (ranges (start m)) (now (a .text)) (a .index) (a .n))
     (printSections defaultTag (map (filterSection (ranges (start m))) (sections (entriesAt (now (a .text)) (now (a .words)) (a .index) (a .n)))))
-    (now (a .words)) (m .filter-sections .last .1 .0) (now (a .out)) (m .filter-sections .last .1 .1 .1 .1 .1 .1 .1 .1 .0) (a .n) (a .spare)
-    (m .filter-sections .result)
+    (now (a .words)) (m .enough .last .1 .0) (now (a .out)) (m .enough .last .1 .1 .1 .1 .1 .1 .1 .1 .0) (a .n) (a .spare)
+    (m .enough .result)
 measured m = let a = start m .args in record {
   prints = filtered-prints (ranges (start m)) (spacious (start m));
   is = ap (λ (r : Report). printSections defaultTag (map (filterSection (ranges (start m))) (sections r)))
       (entries-all (now (a .text)) (now (a .words)) (a .index) (a .n));
-  spared = m .filter-sections .ensures .1;
-  emitted = m .filter-sections .ensures .0;
+  spared = m .enough .ensures .1;
+  enough = m .enough .ensures .0;
   few = omega arith;
 }
 
@@ -49,7 +49,7 @@ pub print-filtered-spec : {M : Type 1} → statement M
 print-filtered-spec =
     tie.close
     (tie.spec
-    (λ c κs. let s = c .before .before .before .before .before in (spacious s, (s .pre .0 .2, tt)))
+    (λ c κs. let s = c .before .before .before .before .before in (spacious s, s .pre .0 .2))
     (λ c κs. search needs)
     (λ c. search needs)
     (λ c. search needs)
@@ -62,4 +62,4 @@ print-filtered-spec =
     (λ c. search needs)
     (λ c. let w = c .before .before .before .before in
     let μ = measured (w .before .before .before .before .before .before .before .before) in
-    (written-answer μ (omega arith) (w .filter-sections2 .ensures .0), written-out μ (omega arith) (w .filter-sections2 .ensures .0))))
+    (written-answer μ (omega arith) (w .filter-sections .ensures .0), written-out μ (omega arith) (w .filter-sections .ensures .0))))

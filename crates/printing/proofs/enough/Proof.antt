@@ -4,6 +4,7 @@ use native.Mathlib.Omega.{arith}
 use borrow.Author.Needs.{needs}
 use denote.Ref.{now}
 use lib.ListN.{length}
+use Rattle.model.specs.Bytes.{Bytes}
 use Rattle.printing.specs.Printing.{printedFrom}
 use Rattle.printing.proofs.TableLaws.{spared-none}
 use Rattle.printing.proofs.LoopLaws.{enough-measured}
@@ -13,6 +14,9 @@ use Rattle.printing.proofs.enough.Tie as tie
 
 abbrev start : tie.After-is-roomy → tie.Start
 start b = b .before .before .before .before .before
+
+abbrev printed : tie.Start → Bytes
+printed s = printedFrom (now (s .args .text)) (s .args .index) (s .args .n) (now (s .args .words)) 0
 
 few : (b : tie.After-is-roomy) → length (now (start b .args .out)) * 1 < 2 ^ 63
 few b = omega arith
@@ -25,8 +29,7 @@ enough-spec =
     (λ c. search needs)
     (λ c. let b = c .before in
     let s = start b in (
-      roomy-enough (now (s .args .text)) (now (s .args .words)) (now (s .args .out))
-      (printedFrom (now (s .args .text)) (s .args .index) (s .args .n) (now (s .args .words)) 0)
+      roomy-enough (now (s .args .text)) (now (s .args .words)) (now (s .args .out)) (printed s)
       (s .args .index) (s .args .n) (b .is-roomy .result) (c .if1 .taken) (b .is-roomy .ensures) (printed-most (s .pre)),
       spared-none,
     ))
@@ -34,4 +37,5 @@ enough-spec =
     (λ c. search needs)
     (λ c. search needs)
     (λ c. let p = c .before .before .before .before in
-    (enough-measured (p .print-sections .ensures .0) (few (p .before .before .before .before)), p .print-sections .ensures .1)))
+    let b = p .before .before .before .before in
+    (enough-measured {bytes = printed (start b)} (p .print-sections .ensures .0) (few b), p .print-sections .ensures .1)))
