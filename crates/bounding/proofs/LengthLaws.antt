@@ -2,16 +2,16 @@
 use Prim.Native.Nat.{ℕ, zero, suc, _+_, _/_, _^_, _≤_, _<_}
 use native.Mathlib.Omega.{arith}
 use native.Mathlib.Nat.{pow-suc, div-lt-iff-lt-mul}
-use mathlib.Core.Path.{_≡_, refl, ap}
+use mathlib.Core.Path.{_≡_, refl}
 use mathlib.Core.Bool.{Bool, true, false}
-use mathlib.Core.List.{List, [], _∷_}
+use mathlib.Core.List.{[], _∷_}
 use mathlib.Core.Option.{none, some}
 use lib.Dec.{ltb, lit≤}
 use lib.ListN.{length, length-append}
 use borrow.Author.Tests.{ltb-true, ltb-false}
 use Rattle.model.specs.Bytes.{Bytes, joined}
 use Rattle.model.specs.Limits.{most-entries}
-use Rattle.model.specs.Line.{printTaken, printChecksum, printFields, printRecord}
+use Rattle.model.specs.Line.{printFields, printRecord}
 use Rattle.model.specs.Lists.{each}
 use Rattle.model.specs.Number.{decimal, decimalDigits}
 use Rattle.model.specs.Record.{Record, testName, sourceFile, functionsFound, functionsHit, branchesFound, branchesHit, linesFound, linesHit, endOfRecord}
@@ -20,6 +20,7 @@ use Rattle.model.specs.Tags.{defaultTag}
 use Rattle.model.specs.Printing.{startRecord, dataRecord, printRecords}
 use Rattle.model.proofs.NumberLaws.{decimalDigits-small, decimalDigits-large}
 use Rattle.emit.proofs.PassLaws.{lines}
+use Rattle.emit.proofs.LengthLaws.{dataLen, data-length}
 use Rattle.bounding.specs.Bounding.{itemLines}
 
 -- ---- numbers
@@ -67,22 +68,22 @@ end-length = refl
 
 -- ---- items
 
--- how long an item's own lines are
-abbrev pub itemLen : Item → ℕ
-itemLen (sectionItem spelling) = 0
-itemLen (functionItem name none count) = 7 + length (decimal count) + length name
-itemLen (functionItem name (some start) count) = 12 + length (decimal start) + length (decimal count) + length name + length name
-itemLen (branchItem line block branch none) = 10 + length (decimal line) + length (decimal block) + length (decimal branch)
-itemLen (branchItem line block branch (some taken)) = 9 + length (decimal line) + length (decimal block) + length (decimal branch) + length (decimal taken)
-itemLen (lineItem line count none) = 5 + length (decimal line) + length (decimal count)
-itemLen (lineItem line count (some checksum)) = 6 + length (decimal line) + length (decimal count) + length checksum
+-- how long FN is, where there is one
+abbrev pub startLen : Item → ℕ
+startLen (sectionItem spelling) = 0
+startLen (functionItem name none count) = 0
+startLen (functionItem name (some start) count) = 5 + length (decimal start) + length name
+startLen (branchItem line block branch taken) = 0
+startLen (lineItem line count checksum) = 0
 
-pub item-length : (i : Item) → length (itemLines i) ≡ itemLen i
-unfolding itemLines startRecord dataRecord printRecords each printRecord printFields joined printTaken printChecksum defaultTag
-item-length (sectionItem spelling) = refl
-item-length (functionItem name none count) = simp length-append (omega arith)
-item-length (functionItem name (some start) count) = simp length-append (omega arith)
-item-length (branchItem line block branch none) = simp length-append (omega arith)
-item-length (branchItem line block branch (some taken)) = simp length-append (omega arith)
-item-length (lineItem line count none) = simp length-append (omega arith)
-item-length (lineItem line count (some checksum)) = simp length-append (omega arith)
+start-length : (i : Item) → length (lines (startRecord i)) ≡ startLen i
+unfolding startRecord printRecords each printRecord printFields joined defaultTag
+start-length (sectionItem spelling) = refl
+start-length (functionItem name none count) = refl
+start-length (functionItem name (some start) count) = simp length-append (omega arith)
+start-length (branchItem line block branch taken) = refl
+start-length (lineItem line count checksum) = refl
+
+pub item-length : (i : Item) → length (itemLines i) ≡ startLen i + dataLen i
+unfolding itemLines
+item-length i = omega (arith, length-append (lines (startRecord i)) (lines (dataRecord i)), start-length i, data-length i)

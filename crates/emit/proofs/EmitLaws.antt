@@ -100,6 +100,13 @@ emitted-as write a b e w = rw e at w
 pub room-as : (write : Bool) (out : Bytes) (at : ℕ) (a b : Bytes) → a ≡ b → RoomFor write out at b → RoomFor write out at a
 room-as write out at a b e h = rw e h
 
+-- what is only measured
+pub emitted-past : (write : Bool) (out bytes : Bytes) (at r : ℕ) → write ≡ false → r ≡ min (at + length bytes) u64-max → Emitted write out out at bytes r
+emitted-past write out bytes at r e h = rw e (record { next = h; after = refl })
+
+pub emitted-measured : (write : Bool) (out bytes : Bytes) (at n r : ℕ) → write ≡ false → n ≡ length bytes → r ≡ min (at + n) u64-max → Emitted write out out at bytes r
+emitted-measured write out bytes at n r e q h = emitted-past write out bytes at r e (rw q at h)
+
 -- ---- one line, written into the rest of the output
 
 module _ (write : Bool) (writes : write ≡ true) (out : Bytes) (at : ℕ) (t : Bytes) (a : Record) (room : RoomFor write out at (lineIn t a)) where

@@ -93,7 +93,7 @@ module _ (text : Bytes) (row : Row) where
       (branchItem (row .k1) (row .k2) (row .k3) (ifGiven m (row .count)))
       (lineItem (row .k1) (row .count) (ifGiven m (part text (row .k2) (row .k3))))
 
-  item-is : (k : ℕ) → row .tag / 2 ≡ k → itemOf text row ≡ item k (row .tag % 2)
+  pub item-is : (k : ℕ) → row .tag / 2 ≡ k → itemOf text row ≡ item k (row .tag % 2)
   unfolding itemOf
   item-is k e = rw e
 

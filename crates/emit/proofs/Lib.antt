@@ -1,3 +1,4 @@
 pub mod EmitLaws
 pub mod LentLaws
 pub mod PassLaws
+pub mod LengthLaws

@@ -8,12 +8,12 @@ use model::WriteAnswer;
 use store::Row;
 ghost use mathlib.Core.Path.{_≡_};
 ghost use mathlib.Core.List.{List, [], _∷_};
-ghost use Prim.Native.Nat.{ℕ, _+_, _%_, _≤_};
+ghost use Prim.Native.Nat.{ℕ, _+_, _%_, _≤_, min};
 ghost use lib.ListN.{length};
 ghost use Rattle.store.specs.Places.{listed};
 ghost use Rattle.model.specs.Lists.{each};
 ghost use Rattle.model.specs.Answer.{accepted};
-ghost use Rattle.model.specs.Limits.{u32-max};
+ghost use Rattle.model.specs.Limits.{u32-max, u64-max};
 ghost use Rattle.model.specs.Record.{testName, sourceFile, endOfRecord};
 ghost use Rattle.model.specs.Tags.{defaultTag};
 ghost use Rattle.model.specs.Parts.{recordIn};
@@ -22,6 +22,16 @@ ghost use Rattle.model.specs.Valid.{Fits};
 ghost use Rattle.items.specs.Items.{part, itemOf, Good};
 ghost use Rattle.display.specs.Lines.{lineIn};
 ghost use Rattle.emit.specs.Emit.{RoomFor, Emitted, Printable, numberedItem, foundOf, hitOf, lentPart, lentTaken, lentChecksum, hitOne};
+
+// The place behind n bytes, held at 2^64 − 1.
+fn past(at: usize, n: usize) -> usize
+    ensures { λ r. ⌜ r ≡ min (at + n) u64-max ⌝ }
+{
+    if usize::MAX - at < n {
+        return usize::MAX;
+    }
+    at + n
+}
 
 // One record's line. A record with a part outside text has none.
 pub fn emit_record(text: &[u8], record: Record, out: &mut [u8], at: usize, write: bool) -> usize
@@ -35,11 +45,7 @@ pub fn emit_record(text: &[u8], record: Record, out: &mut [u8], at: usize, write
         };
         return at + n;
     }
-    let n = display::line_len(text, record);
-    if usize::MAX - at < n {
-        return usize::MAX;
-    }
-    at + n
+    past(at, display::line_len(text, record))
 }
 
 // FN, where a function has a start.
@@ -85,8 +91,8 @@ fn checksum_of(row: Row) -> Checksum
     Checksum::Given(part_of(row.k2, row.k3))
 }
 
-// FNDA, BRDA or DA.
-pub fn emit_data(text: &[u8], row: Row, out: &mut [u8], at: usize, write: bool) -> usize
+// FNDA, BRDA or DA, as a record.
+fn emit_item(text: &[u8], row: Row, out: &mut [u8], at: usize, write: bool) -> usize
     requires { ⌜ Good (now text) row × Fits (itemOf (now text) row) ⌝ }
     requires { ⌜ RoomFor write (now out) at (printRecords defaultTag (dataRecord (itemOf (now text) row))) ⌝ }
     ensures { λ r. ⌜ Emitted write (now (out .entry)) (now (out .exit)) at (printRecords defaultTag (dataRecord (itemOf (now (text .entry)) row))) r ⌝ }
@@ -117,6 +123,44 @@ pub fn emit_data(text: &[u8], row: Row, out: &mut [u8], at: usize, write: bool) 
         return emit_record(text, record, out, at, write);
     }
     at
+}
+
+// The place behind a row's FNDA, BRDA or DA, told by the row with no record made.
+fn past_data(row: Row, at: usize) -> usize
+    ensures { λ r. ⌜ ((text : List ℕ) → Good text row → r ≡ min (at + length (printRecords defaultTag (dataRecord (itemOf text row)))) u64-max) ⌝ }
+{
+    let kind = row.tag / 2;
+    if kind == items::LINE {
+        let numbers = 5 + text::decimal_len(row.k1) + text::decimal_len(row.count);
+        if row.tag % 2 == 0 {
+            return past(at, numbers);
+        }
+        return past(past(at, numbers + 1), row.k3 as usize);
+    }
+    if kind == items::BRANCH {
+        let key = text::decimal_len(row.k1) + text::decimal_len(row.k2) + text::decimal_len(row.k3);
+        if row.tag % 2 == 0 {
+            return past(at, key + 10);
+        }
+        return past(at, key + 9 + text::decimal_len(row.count));
+    }
+    if kind == items::FUNCTION {
+        let number = 7 + text::decimal_len(row.count);
+        return past(past(at, number), row.k2 as usize);
+    }
+    at
+}
+
+// FNDA, BRDA or DA.
+pub fn emit_data(text: &[u8], row: Row, out: &mut [u8], at: usize, write: bool) -> usize
+    requires { ⌜ Good (now text) row × Fits (itemOf (now text) row) ⌝ }
+    requires { ⌜ RoomFor write (now out) at (printRecords defaultTag (dataRecord (itemOf (now text) row))) ⌝ }
+    ensures { λ r. ⌜ Emitted write (now (out .entry)) (now (out .exit)) at (printRecords defaultTag (dataRecord (itemOf (now (text .entry)) row))) r ⌝ }
+{
+    if write {
+        return emit_item(text, row, out, at, write);
+    }
+    past_data(row, at)
 }
 
 // Every FN of the n rows whose numbers stand from word `numbers` on.

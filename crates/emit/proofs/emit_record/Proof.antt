@@ -1,6 +1,6 @@
 -- `emit::emit_record` meets its contract. Assumes nothing.
 use borrow.Author.Needs.{needs}
-use Rattle.emit.proofs.EmitLaws.{line-at, wrote-fits, wrote-line, wrote-none}
+use Rattle.emit.proofs.EmitLaws.{emitted-measured, line-at, wrote-fits, wrote-line, wrote-none}
 use Rattle.emit.proofs.emit_record.Statement.{statement}
 use Rattle.emit.proofs.emit_record.Tie as tie
 
@@ -20,7 +20,5 @@ emit-record-spec =
     (λ c. search needs)
     (λ c. search (wrote-line, needs))
     (λ c κs. search needs)
-    (λ c. search needs)
-    (λ c. search needs)
-    (λ c. search needs)
-    (λ c. search needs))
+    (λ c κs. search needs)
+    (λ c. search (emitted-measured, needs)))
