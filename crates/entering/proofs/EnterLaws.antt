@@ -91,11 +91,13 @@ module _ (text ws : List ℕ) (index used spare at n p : ℕ) (r : Row) (adds : 
   counted answer = bind answer (λ items. within used (at + length items) items)
 
   entered : (ws′ : List ℕ) (n′ p′ : ℕ) → adding whole ≡ accepted (allAt text ws′ index at n′ p′) → Parted text ws′ index used spare at n′ p′
-      → Same (row ws index) (row ws′ index) 0 at → Entering text ws ws′ index used spare at n p r adds (Items n′ p′)
-  entered ws′ n′ p′ q π′ s = record {
+      → Same (row ws index) (row ws′ index) 0 at → Same (row ws index) (row ws′ index) (at + n + p + 1) used
+      → Entering text ws ws′ index used spare at n p r adds (Items n′ p′)
+  entered ws′ n′ p′ q π′ s b = record {
     items = sym (ap counted q ∙ within-fits used (at + length (allAt text ws′ index at n′ p′)) (allAt text ws′ index at n′ p′) (omega (arith, parts-length π′, π′ .recent .room)));
     still = π′;
     others = s;
+    behind = b;
   }
 
   -- no row is free
@@ -107,6 +109,7 @@ module _ (text ws : List ℕ) (index used spare at n p : ℕ) (r : Row) (adds : 
         items = sym (ap counted (add-absent (combineOf adds) e whole c) ∙ within-past used (at + length (insert e whole)) (insert e whole) (omega (arith, length-insert e whole c, parts-length π)));
         still = tt;
         others = λ k x y. s k x (omega (arith, π .settled .room));
+        behind = λ k x y. s k (omega arith) y;
       }
 
   -- ---- the key stands at place i of the settled
@@ -136,6 +139,7 @@ module _ (text ws : List ℕ) (index used spare at n p : ℕ) (r : Row) (adds : 
               ∙ π .noted j l ∙ ap Insert (sym (χ .spare .above (spare + j) (omega arith)));
         })
         (λ k x y. χ .rows .others k (omega (arith, π .settled .room)) (omega arith))
+        (λ k x y. χ .rows .others k y (omega arith))
       where
         same : Same (row ws index) (row ws′ index) (at + n) (at + n + p)
         same k x y = χ .rows .others k (omega (arith, π .recent .room)) (omega arith)
@@ -146,6 +150,7 @@ module _ (text ws : List ℕ) (index used spare at n p : ℕ) (r : Row) (adds : 
           ∙ ap (mapAccepted (λ l. union l recent)) (run-at text ws index used at n r adds (π .settled) i i<n q ∙ ap (λ (a : Answer Item). mapAccepted (λ y. set settled i y) a) (sym (χ .item text)))));
       still = tt;
       others = λ k x y. χ .rows k x (omega (arith, π .settled .room));
+      behind = λ k x y. χ .rows k (omega arith) y;
     }
 
   -- ---- the key is not among the settled, and goes to place i of them
@@ -173,6 +178,7 @@ module _ (text ws : List ℕ) (index used spare at n p : ℕ) (r : Row) (adds : 
                 ∙ π .noted j l ∙ ap Insert (sym (χ .spare .above (spare + j) (omega arith)));
           })
           (λ o x y. χ .rows .others o (omega (arith, π .settled .room)) (omega arith))
+          (λ o x y. χ .rows .others o y (omega arith))
         where
           same : Same (row ws index) (row ws′ index) at (at + n)
           same o x y = χ .rows .others o (omega (arith, π .settled .room)) (omega arith)
@@ -182,6 +188,7 @@ module _ (text ws : List ℕ) (index used spare at n p : ℕ) (r : Row) (adds : 
         items = sym (ap counted (to-recent ∙ ap (mapAccepted (union settled)) (run-at text ws index used (at + n) p r adds (π .recent) k k<p q ∙ ap (λ (x : Answer Item). mapAccepted (λ y. set recent k y) x) (sym (χ .item text)))));
         still = tt;
         others = λ o x y. χ .rows o x (omega (arith, π .settled .room));
+        behind = λ o x y. χ .rows o (omega arith) y;
       }
 
     -- it is to go to place k of the recent ones
@@ -208,6 +215,7 @@ module _ (text ws : List ℕ) (index used spare at n p : ℕ) (r : Row) (adds : 
                 (ap (λ (o : ℕ). word ws′ (spare + o)) z ∙ ν .places .up (j - 1) (omega arith) (omega arith)) (π .noted (j - 1) (omega arith))));
           })
           (λ o x y. ν .others o x (omega arith))
+          (λ o x y. ν .behind o (omega arith) y)
         where
           same : Same (row ws index) (row ws′ index) at (at + n)
           same o x y = ν .others o (omega arith) y
@@ -233,6 +241,7 @@ module _ (text ws : List ℕ) (index used spare at n p : ℕ) (r : Row) (adds : 
       ∙ ap accepted (sym (none-recent text ws′ index at (n + 1) refl)))
       (parted-none (inserted-open text ws index used at n r adds (π .settled) n (omega arith) a ws′ last σ l ι))
       (λ o x y. ρ .others o (omega arith) (omega arith))
+      (λ o x y. ρ .others o y (omega arith))
     where
       last : Inserted (λ k. row ws index (at + k)) (λ k. row ws′ index (at + k)) n n r
       last = record { below = λ k m. ρ .others (at + k) (omega arith) (omega arith); here = ρ .there; up = λ k m o. absurd (omega arith) }
@@ -240,13 +249,14 @@ module _ (text ws : List ℕ) (index used spare at n p : ℕ) (r : Row) (adds : 
 -- ---- the recent ones come among the settled
 
 -- what was entered, once they have
-pub entered-woven : {text ws ws₁ ws₂ : List ℕ} {index used spare at n p : ℕ} {r : Row} {adds : Bool} (m k : ℕ)
+pub entered-woven : {text ws ws₁ ws₂ : List ℕ} {index used spare at n p : ℕ} {r : Row} {adds : Bool} (m k : ℕ) → m + k ≤ n + p + 1
     → Entering text ws ws₁ index used spare at n p r adds (Items m k) → Store ws₂ index used
     → Woven (row ws₁ index) (row ws₂ index) (λ j. word ws₁ (spare + j)) used at m k → Entering text ws ws₂ index used spare at n p r adds (Items (m + k) 0)
-entered-woven {text} {ws} {ws₁} {ws₂} {index} {used} {spare} {at} m k ε σ ω =
+entered-woven {text} {ws} {ws₁} {ws₂} {index} {used} {spare} {at} m k l ε σ ω =
     let ς = settled-now (ε .still) σ ω in
     record {
       items = ap accepted (none-recent text ws₂ index at (m + k) refl ∙ ς .items) ∙ ε .items;
       still = parted-none (ς .still);
       others = λ o x y. ς .others o x y ∙ ε .others o x y;
+      behind = λ o x y. ω .above o (omega arith) y ∙ ε .behind o x y;
     }

@@ -68,4 +68,5 @@ module _ {ws ws₁ ws₂ ws₃ : List ℕ} (index used spare from p k i : ℕ) (
       up = λ j l m. getD-set-other ws₃ (spare + k) (spare + suc j) i 0 (omega arith) ∙ μ .shifted (spare + suc j) (spare + j) (omega arith) (omega arith) (omega arith) ∙ older j;
     };
     others = λ m l h. same m (omega arith) ∙ β .below m l (omega arith) ∙ π .others m (omega arith) (omega arith);
+    behind = λ m l h. same m h ∙ β .above m (omega arith) h ∙ π .others m h (omega arith);
   }

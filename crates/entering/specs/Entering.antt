@@ -41,9 +41,11 @@ abbrev pub StillOpen : Bytes → List ℕ → ℕ → ℕ → ℕ → ℕ → En
 StillOpen text ws index used spare at (Items n p) = Parted text ws index used spare at n p
 StillOpen text ws index used spare at (Refused fault) = Unit {0}
 
--- the row is entered as the model enters its item, within the rows that there are; the rows before place at stay
+-- the row is entered as the model enters its item, within the rows that there are; the rows before place at stay, and so do those behind
+-- the one that is free for it
 pub record Entering (text ws ws′ : List ℕ) (index used spare at n p : ℕ) (r : Row) (adds : Bool) (a : Entered) : Type 0 where
   pub items : seen text ws′ index at a
       ≡ (add itemKey compareBytes (combineOf adds) (itemOf text r) (allAt text ws index at n p) >>= λ items. within used (at + length items) items)
   pub still : StillOpen text ws′ index used spare at a
   pub others : Same (row ws index) (row ws′ index) 0 at
+  pub behind : Same (row ws index) (row ws′ index) (at + n + p + 1) used

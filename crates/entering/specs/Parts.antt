@@ -50,6 +50,7 @@ pub record Noted (ws ws′ : List ℕ) (index used spare from p k i : ℕ) (r : 
   pub rows : Inserted (λ j. row ws index (from + j)) (λ j. row ws′ index (from + j)) p k r
   pub places : Inserted (λ j. word ws (spare + j)) (λ j. word ws′ (spare + j)) p k i
   pub others : Same (row ws index) (row ws′ index) 0 from
+  pub behind : Same (row ws index) (row ws′ index) (from + p + 1) used
 
 -- the recent ones have come among the settled
 pub record Settled (text ws ws′ : List ℕ) (index used at n p : ℕ) : Type 0 where

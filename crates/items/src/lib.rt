@@ -144,7 +144,7 @@ pub fn compare_items(text: &[u8], x: Row, y: Row) -> Order
 }
 
 // Whether x comes before y. Two lines are compared at once: a text has more of them than of all else.
-fn comes_before(text: &[u8], x: Row, y: Row) -> bool
+pub fn comes_before(text: &[u8], x: Row, y: Row) -> bool
     requires { ⌜ Good (now text) x × Good (now text) y ⌝ }
     ensures { λ r. ⌜ r ≡ isLess (compareItems (itemOf (now (text .entry)) x) (itemOf (now (text .entry)) y)) ⌝ }
 {

@@ -132,4 +132,4 @@ enter-recent-spec =
     let s = start (found₂ a) in
     let l = places (found₂ a) in
     let ε = entered-noted _ _ _ _ _ _ _ _ _ (s .args .adds) (s .pre .0 .0) (s .args .i) (s .pre .1 .2 .is) (j a) (gap a .within) (gap a .is) _ (omega arith) (s .pre .0 .1) (q .note .ensures) in
-    entered-woven (s .args .n) (s .args .p + 1) ε (w .weave .ensures .0) (w .weave .ensures .1)))
+    entered-woven (s .args .n) (s .args .p + 1) (omega arith) ε (w .weave .ensures .0) (w .weave .ensures .1)))
