@@ -1,0 +1,4 @@
+pub mod QueueLaws
+pub mod HeldLaws
+pub mod ReplayLaws
+pub mod EnterLaws

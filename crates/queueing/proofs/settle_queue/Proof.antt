@@ -1,0 +1,32 @@
+-- `queueing::settle_queue` meets its contract. Assumes nothing.
+use native.Mathlib.Omega.{arith}
+use Rattle.queueing.proofs.ReplayLaws.{emptied-already, queue-room, queue-inner, reordered-inner, emptied}
+use borrow.Author.Needs.{needs}
+use Rattle.queueing.proofs.settle_queue.Statement.{statement}
+use Rattle.queueing.proofs.settle_queue.Tie as tie
+
+abbrev start : tie.After-reorder-arg → tie.Start
+start a = a .before .before .before .before .before .before
+
+abbrev reordered : tie.After-replay-all-arg → tie.After-reorder
+reordered a = a .before .before .before
+
+pub settle-queue-spec : {M : Type 1} → statement M
+settle-queue-spec =
+    tie.close
+    (tie.spec
+    (λ c. emptied-already (c .before .before .before .before .pre .0) (omega arith))
+    (λ c. search needs)
+    (λ c κs. let s = start c in
+    let κ = s .pre .0 in
+    let l = queue-room κ (omega arith) in
+    ((κ .parts .settled .store, l, queue-inner κ (omega arith)), (s .pre .1, omega (arith, s .pre .2))))
+    (λ c κs. let r = reordered c in
+    let s = start (r .before) in
+    let κ = s .pre .0 in
+    ((r .reorder .ensures .store, queue-room κ (omega arith), reordered-inner κ (omega arith) (r .reorder .ensures)), (s .pre .1, omega (arith, s .pre .2, r .reorder .kept .1 .0))))
+    (λ c. search needs)
+    (λ c. let y = c .before .before in
+    let r = reordered (y .before) in
+    let s = start (r .before) in
+    emptied (s .pre .0) (omega arith) (r .reorder .ensures) (y .replay-all .ensures)))
