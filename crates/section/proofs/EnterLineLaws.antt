@@ -23,11 +23,14 @@ use Rattle.model.specs.Report.{Item, itemKey, within}
 use Rattle.model.specs.Reading.{State as ModelState, entries, open-section, enterItem}
 use Rattle.items.specs.Items.{itemOf}
 use Rattle.items.specs.Combining.{combineOf}
-use Rattle.entering.specs.declared.Entered.{Entered}
-use Rattle.entering.specs.declared.Entered.the-variants.{Items, Refused as NotEntered}
-use Rattle.entering.specs.Parts.{allAt, Parted}
-use Rattle.entering.specs.Entering.{Entering}
-use Rattle.entering.proofs.EnterLaws.{within-fits, within-past, parts-length}
+use Rattle.entering.proofs.EnterLaws.{within-fits, within-past}
+use Rattle.queueing.specs.declared.Sizes.{Sizes}
+use Rattle.queueing.specs.declared.Outcome.{Outcome}
+use Rattle.queueing.specs.declared.Outcome.the-variants.{Items, Refused as NotEntered}
+use Rattle.queueing.specs.Queue.{rowsOf, endOf, heldAt, Queued}
+use Rattle.queueing.specs.Entering.{Entering}
+use Rattle.queueing.proofs.QueueLaws.{add-most}
+use Rattle.queueing.proofs.HeldLaws.{held-length}
 use Rattle.section.specs.declared.State.{State}
 use Rattle.section.specs.declared.Step.the-variants.{Next, Refused}
 use Rattle.closing.specs.Late.{keptAt}
@@ -35,24 +38,6 @@ use Rattle.section.specs.Reading.{Ready, insideOf, settledOf, stateOf, V
 use Rattle.section.proofs.StateLaws.{kept-size, same-kept, same-sections, by-inside, withUsed, more-valid, more-state, step-as}
 
 -- ---- counts
-
-module _ {R E K : Type 0} (key : E → K) (cmp : K → K → Ordering) (combine : E → E → Result R E) where
-  -- a map has at most one entry more
-  add-most : (e : E) (m n : List E) → add key cmp combine e m ≡ accepted n → length n ≤ suc (length m)
-  add-most e [] n p = rw (← (accepted-inj p)) (omega arith)
-  add-most e (x ∷ xs) n p = go (cmp (key e) (key x)) p (λ ys q. add-most e xs ys q)
-    where
-      go : (o : Ordering)
-          → byOrder o (accepted (e ∷ x ∷ xs)) (mapAccepted (λ y. y ∷ xs) (combine x e))
-          (mapAccepted (λ ys. x ∷ ys) (add key cmp combine e xs)) ≡ accepted n
-          → ((ys : List E) → add key cmp combine e xs ≡ accepted ys → length ys ≤ suc (length xs)) → length n ≤ suc (length (x ∷ xs))
-      go Ordering·lt q r = rw (← (accepted-inj q)) (omega arith)
-      go Ordering·eq q r =
-          let (y, c, f) = mapAccepted-accepted (λ y. y ∷ xs) (combine x e) q in
-          rw (← f) (omega arith)
-      go Ordering·gt q r =
-          let (ys, c, f) = mapAccepted-accepted (λ ys. x ∷ ys) (add key cmp combine e xs) q in
-          rw (← f) (omega (arith, r ys c))
 
 module _ {A : Type 0} where
   within-accepted : (limit n : ℕ) (a : A) {b : A} → within limit n a ≡ accepted b → (n ≤ limit) × (a ≡ b)
@@ -77,11 +62,11 @@ pub count-open : (s : ModelState) (path : List ℕ) (l : List Item) → entries 
 unfolding entries open-section
 count-open s path l = refl
 
--- ---- the answer of `entering::enter` is the step's
+-- ---- the answer of `queueing::enter` is the step's
 
 -- the answer as a match has it
-pub entering-as : {text ws ws′ : List ℕ} {index used spare at n p : ℕ} {r : Row} {adds : Bool} {a b : Entered} → a ≡ b
-    → Entering text ws ws′ index used spare at n p r adds a → Entering text ws ws′ index used spare at n p r adds b
+pub entering-as : {text ws ws′ : List ℕ} {index used spare at : ℕ} {s : Sizes} {r : Row} {adds : Bool} {a b : Outcome} → a ≡ b
+    → Entering text ws ws′ index used spare at s r adds a → Entering text ws ws′ index used spare at s r adds b
 entering-as e ε = rw e at ε
 
 module _ {text ws : List ℕ} {index limit : ℕ} {st : State} (ζ : Valid text ws index limit st) (h : st .kept < st .used) (r : Row) (adds : Bool) where
@@ -109,11 +94,10 @@ module _ {text ws : List ℕ} {index limit : ℕ} {st : State} (ζ : Valid text 
   unfolding enterItem
   answer-refused p = rw p
 
-  pub entered-next : {ws′ : List ℕ} (m k : ℕ) → Entering text ws ws′ index (st .used) (index + limit) (st .kept + 1) (st .items)
-      (st .recent) r adds (Items m k)
-      → length ws′ ≡ length ws → StepOf text ws′ index limit answer (Next (insideOf st (st .used) m k (st .path)))
+  pub entered-next : {ws′ : List ℕ} (s : Sizes) → Entering text ws ws′ index (st .used) (index + limit) (st .kept + 1) (st .sizes) r adds (Items s)
+      → length ws′ ≡ length ws → StepOf text ws′ index limit answer (Next (insideOf st (st .used) s (st .path)))
   unfolding open-section
-  entered-next {ws′} m k ε len = go (bind-accepted added inRows (sym (ε .items)))
+  entered-next {ws′} s ε len = go (bind-accepted added inRows (sym (ε .items)))
     where
       others : Same (row ws index) (row ws′ index) 0 (st .kept)
       others j p q = ε .others j p (omega arith)
@@ -121,8 +105,8 @@ module _ {text ws : List ℕ} {index limit : ℕ} {st : State} (ζ : Valid text 
       kept : keptAt text ws′ index (settledOf st) (st .late) ≡ S .kept
       kept = same-kept ws′ ζ others
 
-      go : (l : List Item) × (added ≡ accepted l) × (inRows l ≡ accepted (allAt text ws′ index (st .kept + 1) m k))
-          → StepOf text ws′ index limit answer (Next (insideOf st (st .used) m k (st .path)))
+      go : (l : List Item) × (added ≡ accepted l) × (inRows l ≡ accepted (heldAt text ws′ index (st .kept + 1) s))
+          → StepOf text ws′ index limit answer (Next (insideOf st (st .used) s (st .path)))
       go (l, a, w) =
           let (fits, same) = within-accepted (st .used) (st .kept + 1 + length l) l w in
           record {
@@ -133,12 +117,12 @@ module _ {text ws : List ℕ} {index limit : ℕ} {st : State} (ζ : Valid text 
             valid = record {
               space = record {
                 room = record { rows = ζ .space .room .rows; words = omega (arith, ζ .space .room .words) };
-                store = ε .still .settled .store;
+                store = ε .still .parts .settled .store;
                 late = ζ .space .late;
                 kept = ζ .space .kept;
                 most = ζ .space .most;
               };
-              sections = same-sections ws′ ζ others (st .used) (ε .still .settled .store) (ζ .space .kept);
+              sections = same-sections ws′ ζ others (st .used) (ε .still .parts .settled .store) (ζ .space .kept);
               open-items = λ q. ε .still;
               opened = h;
               test = ζ .test;
@@ -146,19 +130,18 @@ module _ {text ws : List ℕ} {index limit : ℕ} {st : State} (ζ : Valid text 
             };
           }
 
-  pub entered-refused : {ws′ : List ℕ} (fault : Fault) → Entering text ws ws′ index (st .used) (index + limit) (st .kept + 1) (st .items)
-      (st .recent) r adds (NotEntered fault)
-      → (st .kept + 1 + st .items + st .recent < st .used) ⊎ (st .used ≡ limit) → StepOf text ws′ index limit answer (Refused fault)
+  pub entered-refused : {ws′ : List ℕ} (fault : Fault) → Entering text ws ws′ index (st .used) (index + limit) (st .kept + 1) (st .sizes) r adds (NotEntered fault)
+      → (endOf (st .kept + 1) (st .sizes) < st .used) ⊎ (st .used ≡ limit) → StepOf text ws′ index limit answer (Refused fault)
   entered-refused fault ε free = record { is = go added refl (ε .items); valid = tt }
     where
       -- the rows end only at the limit
       full : (l : List Item) → added ≡ accepted l → st .used < st .kept + 1 + length l → limit < st .kept + 1 + length l
       full l a m = by-free free
         where
-          by-free : (st .kept + 1 + st .items + st .recent < st .used) ⊎ (st .used ≡ limit) → limit < st .kept + 1 + length l
+          by-free : (endOf (st .kept + 1) (st .sizes) < st .used) ⊎ (st .used ≡ limit) → limit < st .kept + 1 + length l
           by-free (inl q) =
               let most = add-most itemKey compareBytes (combineOf adds) (itemOf text r) (S .items) l a in
-              let size : length (S .items) ≡ st .items + st .recent = parts-length (ζ .open-items h) in
+              let size : length (S .items) ≤ rowsOf (st .sizes) = held-length (ζ .open-items h) in
               absurd (omega arith)
           by-free (inr q) = omega arith
 
@@ -196,10 +179,10 @@ entered-none {text} {ws} {ws′} {index} {limit} {own} {st} ζ r adds ρ h = rec
 module _ {text ws ws₁ : List ℕ} {index limit own : ℕ} {st : State} (ζ : Valid text ws index limit st)
     (ρ : Ready ws ws₁ index (st .used) limit (st .kept) own)
     (len : length ws₁ ≡ length ws) (h : st .kept < own) where
-  pub own-room : st .kept + 1 + st .items + st .recent ≤ own
-  own-room = more-valid ζ ρ len .open-items h .recent .room
+  pub own-room : endOf (st .kept + 1) (st .sizes) ≤ own
+  own-room = more-valid ζ ρ len .open-items h .room
 
-  module _ {ws₂ : List ℕ} {used : ℕ} (ρ′ : Ready ws₁ ws₂ index own limit (st .kept + 1 + st .items + st .recent) used)
+  module _ {ws₂ : List ℕ} {used : ℕ} (ρ′ : Ready ws₁ ws₂ index own limit (endOf (st .kept + 1) (st .sizes)) used)
       (len′ : length ws₂ ≡ length ws₁) where
     there : Valid text ws₂ index limit (withUsed st used)
     there = more-valid (more-valid ζ ρ len) ρ′ len′
@@ -207,7 +190,7 @@ module _ {text ws ws₁ : List ℕ} {index limit own : ℕ} {st : State} (ζ : V
     own-there : st .kept < used
     own-there = omega (arith, ρ′ .more)
 
-    pub line-open : Parted text ws₂ index used (index + limit) (st .kept + 1) (st .items) (st .recent)
+    pub line-open : Queued text ws₂ index used (index + limit) (st .kept + 1) (st .sizes)
     line-open = there .open-items own-there
 
     module _ (r : Row) (adds : Bool) where
@@ -216,13 +199,12 @@ module _ {text ws ws₁ : List ℕ} {index limit own : ℕ} {st : State} (ζ : V
       same-answer = ap (λ (s : ModelState). counted limit (enterItem (combineOf adds) (itemOf text r) s))
           (more-state (more-valid ζ ρ len) ρ′ ∙ more-state ζ ρ)
 
-      pub line-next : {ws₃ : List ℕ} (m k : ℕ) → Entering text ws₂ ws₃ index used (index + limit) (st .kept + 1) (st .items) (st .recent) r adds
-          (Items m k) → length ws₃ ≡ length ws₂
+      pub line-next : {ws₃ : List ℕ} (s : Sizes) → Entering text ws₂ ws₃ index used (index + limit) (st .kept + 1) (st .sizes) r adds
+          (Items s) → length ws₃ ≡ length ws₂
           → StepOf text ws₃ index limit (counted limit (enterItem (combineOf adds) (itemOf text r) (stateOf text ws index st)))
-          (Next (insideOf st used m k (st .path)))
-      line-next m k ε len″ = step-as same-answer (entered-next there own-there r adds m k ε len″)
+          (Next (insideOf st used s (st .path)))
+      line-next s ε len″ = step-as same-answer (entered-next there own-there r adds s ε len″)
 
-      pub line-refused : {ws₃ : List ℕ} (fault : Fault) → Entering text ws₂ ws₃ index used (index + limit) (st .kept + 1) (st .items)
-          (st .recent) r adds (NotEntered fault)
+      pub line-refused : {ws₃ : List ℕ} (fault : Fault) → Entering text ws₂ ws₃ index used (index + limit) (st .kept + 1) (st .sizes) r adds (NotEntered fault)
           → StepOf text ws₃ index limit (counted limit (enterItem (combineOf adds) (itemOf text r) (stateOf text ws index st))) (Refused fault)
       line-refused fault ε = step-as same-answer (entered-refused there own-there r adds fault ε (ρ′ .free))

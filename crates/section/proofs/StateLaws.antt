@@ -1,5 +1,5 @@
 -- A valid state stays valid, and the same for the model, where rows are added behind those in use. Assumes nothing.
-use mathlib.Core.Path.{_≡_, refl, sym, ap, ap₂, _∙_}
+use mathlib.Core.Path.{_≡_, refl, sym, _∙_}
 use mathlib.Core.Logic.{inl, inr}
 use mathlib.Core.Bool.{Bool, true, false}
 use mathlib.Core.List.{List, []}
@@ -13,12 +13,12 @@ use Rattle.store.proofs.WordLaws.{kept-wider}
 use Rattle.model.specs.declared.Part.{Part}
 use Rattle.model.specs.Answer.{Answer}
 use Rattle.model.specs.Reading.{State as ModelState, outside}
-use Rattle.items.specs.Items.{partIn, itemOf, PartInside}
-use Rattle.items.specs.declared.Found.the-variants.{Insert}
-use Rattle.items.specs.Open.{place}
-use Rattle.entering.specs.Parts.{union, allAt, Parted}
-use Rattle.entering.proofs.RunLaws.{same-items, same-open}
+use Rattle.items.specs.Items.{partIn, PartInside}
+use Rattle.entering.specs.Parts.{union}
 use Rattle.entering.proofs.EnterLaws.{parted-none}
+use Rattle.queueing.specs.declared.Sizes.{Sizes}
+use Rattle.queueing.specs.Queue.{queuedOn, rowsOf, endOf, heldAt, Queued}
+use Rattle.queueing.proofs.HeldLaws.{same-held, same-queued}
 use Rattle.section.specs.declared.State.{State}
 use Rattle.section.specs.declared.Step.{Step}
 use Rattle.section.specs.declared.Step.the-variants.{Next}
@@ -62,56 +62,38 @@ ready-full σ l h = record {
   spare = record { below = λ j m. refl; above = λ j m. refl };
 }
 
--- ---- what rows say that are as they were
+-- ---- nothing is open
 
-module _ (text ws ws′ : List ℕ) (index : ℕ) where
-  pub same-all : (at n p : ℕ) → Same (row ws index) (row ws′ index) 0 (at + n + p) → allAt text ws′ index at n p ≡ allAt text ws index at n p
-  same-all at n p s =
-      ap₂ union (same-items text ws ws′ index at n (λ k a b. s k (omega arith) (omega arith)))
-      (same-items text ws ws′ index (at + n) p (λ k a b. s k (omega arith) (omega arith)))
+pub no-items : (text ws : List ℕ) (index at : ℕ) (s : Sizes) → rowsOf s ≡ 0 → heldAt text ws index at s ≡ []
+unfolding queuedOn union listed
+no-items text ws index at s z =
+    let x : s .settled ≡ 0 = omega arith in
+    let y : s .recent ≡ 0 = omega arith in
+    let q : s .queued ≡ 0 = omega arith in
+    rw (x, y, q)
 
-  same-parts : {used spare : ℕ} (used′ at n p : ℕ) → Parted text ws index used spare at n p → Store ws′ index used′ → at + n + p ≤ used′
-      → Same (row ws index) (row ws′ index) 0 (at + n + p)
-      → Kept ws ws′ 0 spare → Parted text ws′ index used′ spare at n p
-  same-parts {spare = spare} used′ at n p π σ l s κ =
-      record {
-        settled = same-open text ws ws′ index at n low used′ (π .settled) σ (omega arith);
-        recent = same-open text ws ws′ index (at + n) p high used′ (π .recent) σ l;
-        noted = λ j m. ap₂ place (ap (itemOf text) (s (at + n + j) (omega arith) (omega arith))) (same-items text ws ws′ index at n low)
-            ∙ π .noted j m
-            ∙ ap Insert (sym (κ .above (spare + j) (omega arith)));
-      }
-    where
-      low : Same (row ws index) (row ws′ index) at (at + n)
-      low k a b = s k (omega arith) (omega arith)
-
-      high : Same (row ws index) (row ws′ index) (at + n) (at + n + p)
-      high k a b = s k (omega arith) b
-
-pub no-items : (text ws : List ℕ) (index at n p : ℕ) → n + p ≡ 0 → allAt text ws index at n p ≡ []
-unfolding union listed
-no-items text ws index at n p z =
-    let x : n ≡ 0 = omega arith in
-    let y : p ≡ 0 = omega arith in
-    rw (x, y)
-
-none-open : {text ws : List ℕ} {index used spare at n p : ℕ} → Store ws index used → at ≤ used → n + p ≡ 0 → Parted text ws index used spare at n p
+none-open : {text ws : List ℕ} {index used spare at : ℕ} {s : Sizes} → Store ws index used → at ≤ used → rowsOf s ≡ 0 → Queued text ws index used spare at s
 unfolding listed
-none-open {text} {ws} {index} {used} {spare} {at} {n} {p} σ l z =
-    let x : n ≡ 0 = omega arith in
-    let y : p ≡ 0 = omega arith in
-    rw (x, y) (parted-none (record { store = σ; room = omega arith; inner = λ k m. absurd (omega arith); sorted = tt }))
+none-open {s = s} σ l z =
+    let x : s .settled ≡ 0 = omega arith in
+    let y : s .recent ≡ 0 = omega arith in
+    record {
+      parts = rw (x, y) (parted-none (record { store = σ; room = omega arith; inner = λ k m. absurd (omega arith); sorted = tt }));
+      alone = λ h. y;
+      room = omega arith;
+      inner = λ k m. absurd (omega arith);
+    }
 
 -- ---- states
 
 -- inside, the open section has its rows; outside, it has no items
 pub by-inside : {C : Type 0} {text ws : List ℕ} {index limit : ℕ} {st : State} → Valid text ws index limit st
-    → (st .kept < st .used → C) → (st .items + st .recent ≡ 0 → allAt text ws index (st .kept + 1) (st .items) (st .recent) ≡ [] → C) → C
+    → (st .kept < st .used → C) → (rowsOf (st .sizes) ≡ 0 → heldAt text ws index (st .kept + 1) (st .sizes) ≡ [] → C) → C
 by-inside {C} {text} {ws} {index} {limit} {st} ζ f g = go (st .inside) (ζ .opened)
   where
     go : (b : Bool) → Opened b st → C
     go true o = f o
-    go false o = g o (no-items text ws index (st .kept + 1) (st .items) (st .recent) o)
+    go false o = g o (no-items text ws index (st .kept + 1) (st .sizes) o)
 
 -- the kept entries are the first rows
 pub kept-rows : {text ws : List ℕ} {index limit : ℕ} {st : State} → Valid text ws index limit st → settledOf st + st .late ≡ st .kept
@@ -134,12 +116,12 @@ module _ {text ws : List ℕ} (ws′ : List ℕ) {index limit : ℕ} {st : State
 
 -- the state with more rows in use
 abbrev pub withUsed : State → ℕ → State
-withUsed st used = record { kept = st .kept; late = st .late; used = used; items = st .items; recent = st .recent; inside = st .inside; test = st .test; path = st .path }
+withUsed st used = record { kept = st .kept; late = st .late; used = used; sizes = st .sizes; inside = st .inside; test = st .test; path = st .path }
 
 module _ {text ws ws′ : List ℕ} {index limit place r : ℕ} {st : State} (ζ : Valid text ws index limit st)
     (ρ : Ready ws ws′ index (st .used) limit place r) where
-  items-below : st .kept < st .used → st .kept + 1 + st .items + st .recent ≤ st .used
-  items-below o = ζ .open-items o .recent .room
+  items-below : st .kept < st .used → endOf (st .kept + 1) (st .sizes) ≤ st .used
+  items-below o = ζ .open-items o .room
 
   pub more-valid : length ws′ ≡ length ws → Valid text ws′ index limit (withUsed st r)
   more-valid len =
@@ -153,9 +135,8 @@ module _ {text ws ws′ : List ℕ} {index limit place r : ℕ} {st : State} (ζ
         };
         sections = same-sections ws′ ζ (λ k p q. ρ .rows k p (omega (arith, ζ .space .kept))) r (ρ .store) (omega (arith, ζ .space .kept, ρ .more));
         open-items = λ h. by-inside ζ
-            (λ o. same-parts text ws ws′ index r (st .kept + 1) (st .items) (st .recent) (ζ .open-items o) (ρ .store)
-            (omega (arith, items-below o, ρ .more))
-            (λ k p q. ρ .rows k p (omega (arith, items-below o))) (ρ .spare))
+            (λ o. same-queued text ws ws′ index (st .kept + 1) (st .sizes) (λ k p q. ρ .rows k p (omega (arith, items-below o))) r (ζ .open-items o) (ρ .store)
+            (omega (arith, items-below o, ρ .more)) (ρ .spare))
             (λ z e. none-open (ρ .store) (omega arith) z);
         opened = still (st .inside) (ζ .opened);
         test = ζ .test;
@@ -175,16 +156,16 @@ module _ {text ws ws′ : List ℕ} {index limit place r : ℕ} {st : State} (ζ
     items = items i;
   }
     where
-      items : allAt text ws′ index (st .kept + 1) (st .items) (st .recent) ≡ allAt text ws index (st .kept + 1) (st .items) (st .recent)
+      items : heldAt text ws′ index (st .kept + 1) (st .sizes) ≡ heldAt text ws index (st .kept + 1) (st .sizes)
       items =
           by-inside ζ
-          (λ o. same-all text ws ws′ index (st .kept + 1) (st .items) (st .recent) (λ k p q. ρ .rows k p (omega (arith, items-below o))))
-          (λ z e. no-items text ws′ index (st .kept + 1) (st .items) (st .recent) z ∙ sym e)
+          (λ o. same-held text ws ws′ index (st .kept + 1) (st .sizes) (λ k p q. ρ .rows k p (omega (arith, items-below o))))
+          (λ z e. no-items text ws′ index (st .kept + 1) (st .sizes) z ∙ sym e)
 
 -- a state whose own row has a place may be inside
 pub inside-valid : {text ws : List ℕ} {index limit : ℕ} {st : State} {path : Part} → Valid text ws index limit st → st .kept < st .used
     → PartInside text path
-    → Valid text ws index limit (insideOf st (st .used) (st .items) (st .recent) path)
+    → Valid text ws index limit (insideOf st (st .used) (st .sizes) path)
 inside-valid ζ h i = record {
   space = record { room = ζ .space .room; store = ζ .space .store; late = ζ .space .late; kept = ζ .space .kept; most = ζ .space .most };
   sections = ζ .sections;
@@ -223,7 +204,7 @@ start-valid ρ =
     (omega arith)
 
 pub start-state : (text ws : List ℕ) (index : ℕ) → stateOf text ws index (outsideOf 0 0 0 (record { start = 0; len = 0 })) ≡ outside [] []
-unfolding outside union listed
+unfolding outside queuedOn union listed
 start-state text ws index = refl
 
 -- ---- answers

@@ -14,7 +14,8 @@ use Rattle.model.specs.Answer.{Answer, accepted, _>>=_, refuse}
 use Rattle.model.specs.Report.{within}
 use Rattle.model.specs.Reading.{State as ModelState, entries}
 use Rattle.items.specs.Items.{partIn, PartInside}
-use Rattle.entering.specs.Parts.{allAt, Parted}
+use Rattle.queueing.specs.declared.Sizes.{Sizes}
+use Rattle.queueing.specs.Queue.{rowsOf, heldAt, Queued}
 use Rattle.section.specs.declared.State.{State}
 use Rattle.section.specs.declared.Step.{Step}
 use Rattle.section.specs.declared.Step.the-variants.{Next, Refused}
@@ -39,17 +40,15 @@ pub record Ready (ws ws′ : List ℕ) (index used limit place r : ℕ) : Type 0
 
 -- ---- states
 
-abbrev pub insideOf : State → ℕ → ℕ → ℕ → Part → State
-insideOf st used items recent path = record
-    { kept = st .kept; late = st .late; used = used; items = items; recent = recent; inside = true; test = st .test; path = path }
+abbrev pub insideOf : State → ℕ → Sizes → Part → State
+insideOf st used sizes path = record { kept = st .kept; late = st .late; used = used; sizes = sizes; inside = true; test = st .test; path = path }
 
 abbrev pub outsideOf : ℕ → ℕ → ℕ → Part → State
 outsideOf kept late used test = record {
   kept = kept;
   late = late;
   used = used;
-  items = 0;
-  recent = 0;
+  sizes = record { settled = 0; recent = 0; queued = 0; turns = 0 };
   inside = false;
   test = test;
   path = record { start = 0; len = 0 };
@@ -66,13 +65,13 @@ stateOf text ws index st = record {
   test = partIn text (st .test);
   inside = st .inside;
   path = partIn text (st .path);
-  items = allAt text ws index (st .kept + 1) (st .items) (st .recent);
+  items = heldAt text ws index (st .kept + 1) (st .sizes);
 }
 
 -- inside, the section's own row has a place; outside, nothing is open
 abbrev pub Opened : Bool → State → Type 0
 Opened true st = st .kept < st .used
-Opened false st = st .items + st .recent ≡ 0
+Opened false st = rowsOf (st .sizes) ≡ 0
 
 -- the words have room for the state
 pub record Space (ws : List ℕ) (index limit : ℕ) (st : State) : Type 0 where
@@ -86,7 +85,7 @@ pub record Space (ws : List ℕ) (index limit : ℕ) (st : State) : Type 0 where
 pub record Valid (text ws : List ℕ) (index limit : ℕ) (st : State) : Type 0 where
   pub space : Space ws index limit st
   pub sections : InParts text ws index (st .used) (settledOf st) (st .late)
-  pub open-items : st .kept < st .used → Parted text ws index (st .used) (index + limit) (st .kept + 1) (st .items) (st .recent)
+  pub open-items : st .kept < st .used → Queued text ws index (st .used) (index + limit) (st .kept + 1) (st .sizes)
   pub opened : Opened (st .inside) st
   pub test : PartInside text (st .test)
   pub path : PartInside text (st .path)

@@ -2,10 +2,12 @@
 // answers the model's next state, read back from the words, or the fault; entries are counted after the record took effect.
 use closing::late::close;
 use closing::late::settle;
-use entering::Entered;
-use entering::enter;
 use model::Fault;
 use model::Part;
+use queueing::Outcome;
+use queueing::Sizes;
+use queueing::enter;
+use queueing::settle_all;
 use store::Row;
 ghost use mathlib.Core.Path.{_≡_};
 ghost use mathlib.Core.List.{List, []};
@@ -17,14 +19,13 @@ ghost use Rattle.items.specs.Items.{partIn, PartInside, itemOf, Inner};
 ghost use Rattle.items.specs.Combining.{Adds, combineOf};
 ghost use Rattle.section.specs.Reading.{Room, Ready, insideOf, outsideOf, stateOf, Space, Valid, StepBy, AllSettled};
 
-// How many entries are kept, and how many of them are late ones behind the settled; how many rows are in use; how many items of the open
-// section are settled and how many recent; the last test name and path.
+// How many entries are kept, and how many of them are late ones behind the settled; how many rows are in use; the sizes of the open
+// section; the last test name and path.
 pub struct State {
     pub kept: usize,
     pub late: usize,
     pub used: usize,
-    pub items: usize,
-    pub recent: usize,
+    pub sizes: Sizes,
     pub inside: bool,
     pub test: Part,
     pub path: Part,
@@ -36,16 +37,15 @@ pub enum Step {
 }
 
 // A section is open.
-fn inside(state: State, used: usize, items: usize, recent: usize, path: Part) -> State
-    ensures { λ r. ⌜ r ≡ insideOf state used items recent path ⌝ }
+fn inside(state: State, used: usize, sizes: Sizes, path: Part) -> State
+    ensures { λ r. ⌜ r ≡ insideOf state used sizes path ⌝ }
 {
     let test = state.test;
     State {
         kept: state.kept,
         late: state.late,
         used: used,
-        items: items,
-        recent: recent,
+        sizes: sizes,
         inside: true,
         test: test,
         path: path,
@@ -57,12 +57,17 @@ fn outside(kept: usize, late: usize, used: usize, test: Part) -> State
     ensures { λ r. ⌜ r ≡ outsideOf kept late used test ⌝ }
 {
     let none = Part { start: 0, len: 0 };
+    let empty = Sizes {
+        settled: 0,
+        recent: 0,
+        queued: 0,
+        turns: 0,
+    };
     State {
         kept: kept,
         late: late,
         used: used,
-        items: 0,
-        recent: 0,
+        sizes: empty,
         inside: false,
         test: test,
         path: none,
@@ -107,20 +112,20 @@ pub fn enter_line(
     ensures { λ r. ⌜ StepBy (enterItem (combineOf adds) (itemOf (now (text .entry)) row)) (now (text .entry)) (now (words .entry)) (now (words .exit)) index limit state r ⌝ }
 {
     let kept = state.kept;
-    let n = state.items;
-    let p = state.recent;
+    let sizes = state.sizes;
     let path = state.path;
     let own = ready(words, index, state.used, limit, kept);
     if own <= kept {
         return Step::Refused(Fault::TooManyEntries);
     }
-    let used = ready(words, index, own, limit, kept + 1 + n + p);
+    let end = kept + 1 + sizes.settled + sizes.recent + sizes.queued;
+    let used = ready(words, index, own, limit, end);
     let spare = index + limit;
-    match enter(text, words, index, used, spare, kept + 1, n, p, row, adds) {
-        Entered::Items(settled, recent) => {
-            return Step::Next(inside(state, used, settled, recent, path));
+    match enter(text, words, index, used, spare, kept + 1, sizes, row, adds) {
+        Outcome::Items(next) => {
+            return Step::Next(inside(state, used, next, path));
         }
-        Entered::Refused(fault) => {
+        Outcome::Refused(fault) => {
             return Step::Refused(fault);
         }
     }
@@ -147,25 +152,24 @@ pub fn open_line(words: &mut [u64], index: usize, limit: usize, state: State, pa
     if used <= kept {
         return Step::Refused(Fault::TooManyEntries);
     }
-    Step::Next(inside(state, used, state.items, state.recent, path))
+    Step::Next(inside(state, used, state.sizes, path))
 }
 
-// end_of_record: the open section is kept, its recent items among the settled, unless nothing is in it.
+// end_of_record: the open section is kept, all its items settled, unless nothing is in it.
 pub fn end_line(text: &[u8], words: &mut [u64], index: usize, limit: usize, state: State) -> Step
     requires { ⌜ Valid (now text) (now words) index limit state ⌝ }
     ensures { λ r. ⌜ StepBy (effect endOfRecord) (now (text .entry)) (now (words .entry)) (now (words .exit)) index limit state r ⌝ }
 {
     let none = Part { start: 0, len: 0 };
-    let n = state.items;
-    let p = state.recent;
+    let sizes = state.sizes;
     let kept = state.kept;
     let late = state.late;
     let used = state.used;
-    if n + p == 0 {
+    if sizes.settled + sizes.recent + sizes.queued == 0 {
         return Step::Next(outside(kept, late, used, none));
     }
     let spare = index + limit;
-    weaving::weave(words, index, used, kept + 1, n, p, spare);
+    let items = settle_all(text, words, index, used, spare, kept + 1, sizes);
     let test = state.test;
     let path = state.path;
     let key = Row {
@@ -187,7 +191,7 @@ pub fn end_line(text: &[u8], words: &mut [u64], index: usize, limit: usize, stat
         spare,
         kept - late,
         late,
-        n + p,
+        items,
         key,
     );
     Step::Next(outside(after.settled + after.late, after.late, used, none))
