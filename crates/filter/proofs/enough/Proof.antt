@@ -37,7 +37,7 @@ enough-spec =
     (λ c. let b = c .before in
     let s = start b in (
       roomy-enough (now (s .args .text)) (now (s .args .words)) (now (s .args .out)) (printed s)
-      (s .args .index) (s .args .n) (b .is-roomy .result) (c .if1 .taken) (b .is-roomy .ensures) (filtered-most (ranges s) (s .pre .0)),
+          (s .args .index) (s .args .n) (b .is-roomy .result) (c .if1 .taken) (b .is-roomy .ensures) (filtered-most (ranges s) (s .pre .0)),
       spared-none,
     ))
     (λ c κs. let s = start (c .before .before .before) in (s .pre .0, (s .pre .1, tt)))

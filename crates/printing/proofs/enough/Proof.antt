@@ -30,7 +30,7 @@ enough-spec =
     (λ c. let b = c .before in
     let s = start b in (
       roomy-enough (now (s .args .text)) (now (s .args .words)) (now (s .args .out)) (printed s)
-      (s .args .index) (s .args .n) (b .is-roomy .result) (c .if1 .taken) (b .is-roomy .ensures) (printed-most (s .pre)),
+          (s .args .index) (s .args .n) (b .is-roomy .result) (c .if1 .taken) (b .is-roomy .ensures) (printed-most (s .pre)),
       spared-none,
     ))
     (λ c κs. (start (c .before .before .before) .pre, tt))
