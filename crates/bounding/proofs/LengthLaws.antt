@@ -5,7 +5,6 @@ use native.Mathlib.Nat.{pow-suc, div-lt-iff-lt-mul}
 use mathlib.Core.Path.{_≡_, refl}
 use mathlib.Core.Bool.{Bool, true, false}
 use mathlib.Core.List.{[], _∷_}
-use mathlib.Core.Option.{none, some}
 use lib.Dec.{ltb, lit≤}
 use lib.ListN.{length, length-append}
 use borrow.Author.Tests.{ltb-true, ltb-false}
@@ -15,12 +14,12 @@ use Rattle.model.specs.Line.{printFields, printRecord}
 use Rattle.model.specs.Lists.{each}
 use Rattle.model.specs.Number.{decimal, decimalDigits}
 use Rattle.model.specs.Record.{Record, testName, sourceFile, functionsFound, functionsHit, branchesFound, branchesHit, linesFound, linesHit, endOfRecord}
-use Rattle.model.specs.Report.{Item, sectionItem, functionItem, branchItem, lineItem}
+use Rattle.model.specs.Report.{Item}
 use Rattle.model.specs.Tags.{defaultTag}
 use Rattle.model.specs.Printing.{startRecord, dataRecord, printRecords}
 use Rattle.model.proofs.NumberLaws.{decimalDigits-small, decimalDigits-large}
 use Rattle.emit.proofs.PassLaws.{lines}
-use Rattle.emit.proofs.LengthLaws.{dataLen, data-length}
+use Rattle.emit.proofs.LengthLaws.{startLen, start-length, dataLen, data-length}
 use Rattle.bounding.specs.Bounding.{itemLines}
 
 -- ---- numbers
@@ -67,22 +66,6 @@ unfolding printRecords each printRecord defaultTag
 end-length = refl
 
 -- ---- items
-
--- how long FN is, where there is one
-abbrev pub startLen : Item → ℕ
-startLen (sectionItem spelling) = 0
-startLen (functionItem name none count) = 0
-startLen (functionItem name (some start) count) = 5 + length (decimal start) + length name
-startLen (branchItem line block branch taken) = 0
-startLen (lineItem line count checksum) = 0
-
-start-length : (i : Item) → length (lines (startRecord i)) ≡ startLen i
-unfolding startRecord printRecords each printRecord printFields joined defaultTag
-start-length (sectionItem spelling) = refl
-start-length (functionItem name none count) = refl
-start-length (functionItem name (some start) count) = simp length-append (omega arith)
-start-length (branchItem line block branch taken) = refl
-start-length (lineItem line count checksum) = refl
 
 pub item-length : (i : Item) → length (itemLines i) ≡ startLen i + dataLen i
 unfolding itemLines

@@ -1,4 +1,4 @@
--- How long the data lines of items are, and what a row says of that. Assumes nothing.
+-- How long the lines of items are, and what a row says of that. Assumes nothing.
 use Prim.Native.Nat.{ℕ, _+_, _/_, _%_, _≤_, min}
 use native.Mathlib.Omega.{arith}
 use mathlib.Core.Path.{_≡_, refl, ap, _∙_}
@@ -14,7 +14,7 @@ use Rattle.model.specs.Lists.{each}
 use Rattle.model.specs.Number.{decimal}
 use Rattle.model.specs.Report.{Item, sectionItem, functionItem, branchItem, lineItem}
 use Rattle.model.specs.Tags.{defaultTag}
-use Rattle.model.specs.Printing.{dataRecord, printRecords}
+use Rattle.model.specs.Printing.{startRecord, dataRecord, printRecords}
 use Rattle.items.specs.Items.{part, itemOf, Good}
 use Rattle.emit.proofs.LentLaws.{item, item-is}
 use Rattle.emit.proofs.PassLaws.{lines}
@@ -37,6 +37,22 @@ data-length (branchItem line block branch none) = simp length-append (omega arit
 data-length (branchItem line block branch (some taken)) = simp length-append (omega arith)
 data-length (lineItem line count none) = simp length-append (omega arith)
 data-length (lineItem line count (some checksum)) = simp length-append (omega arith)
+
+-- how long FN is, where there is one
+abbrev pub startLen : Item → ℕ
+startLen (sectionItem spelling) = 0
+startLen (functionItem name none count) = 0
+startLen (functionItem name (some start) count) = 5 + length (decimal start) + length name
+startLen (branchItem line block branch taken) = 0
+startLen (lineItem line count checksum) = 0
+
+pub start-length : (i : Item) → length (lines (startRecord i)) ≡ startLen i
+unfolding startRecord printRecords each printRecord printFields joined defaultTag
+start-length (sectionItem spelling) = refl
+start-length (functionItem name none count) = refl
+start-length (functionItem name (some start) count) = simp length-append (omega arith)
+start-length (branchItem line block branch taken) = refl
+start-length (lineItem line count checksum) = refl
 
 -- ---- rows
 
@@ -79,3 +95,11 @@ module _ (text : Bytes) (row : Row) where
         let few = good .kind in
         let z : row .tag / 2 ≡ 0 = omega arith in
         omega (arith, data-at 0 (row .tag % 2) z refl)
+
+    pub past-start : (a n : ℕ) → row .tag ≡ 3 → a ≡ length (decimal (row .k3)) → n ≡ min (at + (5 + a)) u64-max → r ≡ min (n + row .k2) u64-max
+        → r ≡ min (at + length (lines (startRecord (itemOf text row)))) u64-max
+    past-start a n e p h l =
+        let k : row .tag / 2 ≡ 1 = omega arith in
+        let m : row .tag % 2 ≡ 1 = omega arith in
+        let is = ap (λ (i : Item). length (lines (startRecord i))) (item-is text row 1 k ∙ ap (item text row 1) m) ∙ start-length (item text row 1 1) in
+        omega (arith, is, part-length text (row .k1) (row .k2) (good .name k))

@@ -48,6 +48,15 @@ pub fn emit_record(text: &[u8], record: Record, out: &mut [u8], at: usize, write
     past(at, display::line_len(text, record))
 }
 
+// The place behind the FN of a function that has a start, told by its row.
+fn past_start(row: Row, at: usize) -> usize
+    requires { ⌜ row .tag ≡ 3 ⌝ }
+    ensures { λ r. ⌜ ((text : List ℕ) → Good text row → r ≡ min (at + length (printRecords defaultTag (startRecord (itemOf text row)))) u64-max) ⌝ }
+{
+    let number = 5 + text::decimal_len(row.k3);
+    past(past(at, number), row.k2 as usize)
+}
+
 // FN, where a function has a start.
 pub fn emit_start(text: &[u8], row: Row, out: &mut [u8], at: usize, write: bool) -> usize
     requires { ⌜ Good (now text) row × Fits (itemOf (now text) row) ⌝ }
@@ -57,11 +66,14 @@ pub fn emit_start(text: &[u8], row: Row, out: &mut [u8], at: usize, write: bool)
     if row.tag != items::FUNCTION * 2 + 1 {
         return at;
     }
-    let record = Record::FunctionName {
-        start: row.k3 as u32,
-        name: part_of(row.k1, row.k2),
-    };
-    emit_record(text, record, out, at, write)
+    if write {
+        let record = Record::FunctionName {
+            start: row.k3 as u32,
+            name: part_of(row.k1, row.k2),
+        };
+        return emit_record(text, record, out, at, write);
+    }
+    past_start(row, at)
 }
 
 fn part_of(start: u64, len: u64) -> Part

@@ -1,7 +1,8 @@
 -- `emit::emit_start` meets its contract. Assumes nothing.
 use native.Mathlib.Omega.{arith}
 use borrow.Author.Needs.{needs}
-use Rattle.emit.proofs.EmitLaws.{room-as, emitted-as, emitted-empty}
+use denote.Ref.{now}
+use Rattle.emit.proofs.EmitLaws.{room-as, emitted-as, emitted-empty, emitted-past}
 use Rattle.emit.proofs.LentLaws.{start-line, no-start, start-fits}
 use Rattle.emit.proofs.emit_start.Statement.{statement}
 use Rattle.emit.proofs.emit_start.Tie as tie
@@ -17,4 +18,7 @@ emit-start-spec =
     (λ c κs. search needs)
     (λ c κs. search (room-as, start-line, needs))
     (λ c. search needs)
-    (λ c. search (emitted-as, start-line, needs)))
+    (λ c. search (emitted-as, start-line, needs))
+    (λ c κs. search needs)
+    (λ c. let s = c .before .before .before .before .before .before in
+    emitted-past (s .args .write) (now (s .args .out)) _ (s .args .at) _ (c .before .if2 .left) (c .past-start .ensures (now (s .args .text)) (s .pre .0 .0))))
