@@ -1,6 +1,8 @@
 pub mod RunLaws
 pub mod MergingLaws
 pub mod SortedLaws
+pub mod CountLaws
+pub mod DigitLaws
 pub mod StableLaws
 pub mod RankLaws
 pub mod PickLaws
