@@ -1,7 +1,19 @@
+-- `reader::read_line_at` meets its contract: one law for each way out. Assumes nothing.
+use native.Mathlib.Omega.{arith}
+use denote.Ref.{now}
 use borrow.Author.Needs.{needs}
 use Rattle.reader.proofs.LineLaws.{line-end, line-end-fits, next-fits, record-at, done-refused, done-step, done-next}
 use Rattle.reader.proofs.read_line_at.Statement.{statement}
 use Rattle.reader.proofs.read_line_at.Tie as tie
+
+abbrev line : tie.After-known-told2 → tie.After-read-record
+line c = c .before .before .before .before .before .before .before .before .before .before
+
+abbrev cut : tie.After-known-told2 → tie.After-find
+cut c = line c .before .before
+
+abbrev start : tie.After-find → tie.Start
+start f = f .before .before .before .before
 
 pub read-line-at-spec : {M : Type 1} → statement M
 read-line-at-spec =
@@ -26,7 +38,13 @@ read-line-at-spec =
     (λ c κs. search needs)
     (λ c. search needs)
     (λ c. search (done-step, needs))
-    (λ c. search (line-end-fits, needs))
-    (λ c. search (next-fits, needs))
+    (λ c. let f = cut c in line-end-fits (now (start f .args .text)) (start f .args .at) (f .find .result) (start f .pre .1) (f .find .ensures .1) (omega arith))
+    (λ c. let f = cut c in next-fits (now (start f .args .text)) (start f .args .at) (f .find .result) (start f .pre .1) (f .find .ensures .1) (omega arith))
     (λ c. search needs)
-    (λ c. search (done-next, needs)))
+    (λ c. let d = c .before in
+    let t = d .before .before .before .before in
+    let g = t .before .before .before in
+    let r = line c in
+    let f = cut c in
+    done-next _ _ _ _ _ _ _ _ (start f .pre .1) (f .find .ensures .0) (f .find .ensures .1) (r .read-record .result) (r .read-record .ensures .0) (g .got .given .0 .0) (g .got .given .1)
+    (r .read-record .ensures .1) (t .step .last .1 .0) (t .step .result) (t .step .ensures) (d .done .given .0 .0) (d .done .given .1)))
