@@ -27,8 +27,12 @@ use Rattle.queueing.proofs.QueueLaws.{queued-length, queued-append, que
 pub held-length : {text ws : List ℕ} {index used spare at : ℕ} {s : Sizes} → Queued text ws index used spare at s
     → length (heldAt text ws index at s) ≤ rowsOf s
 held-length {text} {ws} {index} {used} {spare} {at} {s} κ =
-    omega (arith, queued-length (itemsAt text ws index (at + s .settled + s .recent) (s .queued)) (allAt text ws index at (s .settled) (s .recent)), parts-length (κ .parts),
-    length-listed (itemFrom text ws index (at + s .settled + s .recent)) (s .queued))
+    omega (
+      arith,
+      queued-length (itemsAt text ws index (at + s .settled + s .recent) (s .queued)) (allAt text ws index at (s .settled) (s .recent)),
+      parts-length (κ .parts),
+      length-listed (itemFrom text ws index (at + s .settled + s .recent)) (s .queued),
+    )
 
 -- the last of i + 1 items
 pub items-last : (f : ℕ → Item) (i : ℕ) → listed f (i + 1) ≡ listed f i ++ f i ∷ []
