@@ -128,26 +128,24 @@ pub emptied-already : {text ws : List ℕ} {index used spare at : ℕ} {s : Size
     → Emptied text ws ws index used spare at s s
 emptied-already κ z = record { items = refl; still = κ; none = z; others = λ k x y. refl }
 
-module _ {text ws : List ℕ} {index used spare at : ℕ} {s : Sizes} (κ : Queued text ws index used spare at s) (q : s .queued ≢ 0) where
-  pub queue-room : at + (s .settled + s .queued) ≤ used
-  queue-room = omega (arith, κ .room)
+module _ {text ws : List ℕ} {index used spare at m : ℕ} {s : Sizes} (κ : Queued text ws index used spare at s) (q : s .queued ≢ 0) where
+  pub queue-inner : m ≤ s .settled + s .queued → (k : ℕ) → k < m → Inner text (row ws index (at + k))
+  queue-inner l k h = all-inner κ (κ .alone q) k (omega arith)
 
-  pub queue-inner : (k : ℕ) → k < s .settled + s .queued → Inner text (row ws index (at + k))
-  queue-inner = all-inner κ (κ .alone q)
-
-  module _ {ws₁ : List ℕ} (ρ : Reordered text ws ws₁ index used at (s .settled + s .queued)) where
-    pub reordered-inner : (k : ℕ) → k < s .settled + s .queued → Inner text (row ws₁ index (at + k))
-    reordered-inner k l = go (ρ .each k l)
+  module _ {ws₁ : List ℕ} (ρ : Reordered text ws ws₁ index used at m) where
+    pub reordered-inner : m ≤ s .settled + s .queued → (k : ℕ) → k < m → Inner text (row ws₁ index (at + k))
+    reordered-inner l k h = go (ρ .each k h)
       where
-        go : (j : ℕ) × (j < s .settled + s .queued) × (row ws₁ index (at + k) ≡ row ws index (at + j)) → Inner text (row ws₁ index (at + k))
-        go (j, m, e) = rw e (queue-inner j m)
+        go : (j : ℕ) × (j < m) × (row ws₁ index (at + k) ≡ row ws index (at + j)) → Inner text (row ws₁ index (at + k))
+        go (j, i, e) = rw e (queue-inner l j i)
 
-    pub emptied : {ws₂ : List ℕ} {r : Sizes} → Replayed text ws₁ ws₂ index used spare at (s .settled + s .queued) r → Emptied text ws ws₂ index used spare at s r
-    emptied {ws₂} {r} η = record {
+    pub emptied : {ws₂ : List ℕ} {r : Sizes} → m ≡ s .settled + s .queued → Replayed text ws₁ ws₂ index used spare at m r → Emptied text ws ws₂ index used spare at s r
+    emptied {ws₂} {r} e η = record {
       items =
           none-queued text ws₂ index at r (η .none)
           ∙ η .items
-          ∙ queued-keys (itemsAt text ws₁ index at (s .settled + s .queued)) (itemsAt text ws index at (s .settled + s .queued)) (ρ .keys)
+          ∙ queued-keys (itemsAt text ws₁ index at m) (itemsAt text ws index at m) (ρ .keys)
+          ∙ ap (λ (k : ℕ). queuedOn [] (itemsAt text ws index at k)) e
           ∙ all-queued κ (κ .alone q);
       still = queued-none r (η .none) (η .still);
       none = η .none;

@@ -1,6 +1,6 @@
 -- `queueing::settle_queue` meets its contract. Assumes nothing.
 use native.Mathlib.Omega.{arith}
-use Rattle.queueing.proofs.ReplayLaws.{emptied-already, queue-room, queue-inner, reordered-inner, emptied}
+use Rattle.queueing.proofs.ReplayLaws.{emptied-already, queue-inner, reordered-inner, emptied}
 use borrow.Author.Needs.{needs}
 use Rattle.queueing.proofs.settle_queue.Statement.{statement}
 use Rattle.queueing.proofs.settle_queue.Tie as tie
@@ -19,14 +19,17 @@ settle-queue-spec =
     (λ c. search needs)
     (λ c κs. let s = start c in
     let κ = s .pre .0 in
-    let l = queue-room κ (omega arith) in
-    ((κ .parts .settled .store, l, queue-inner κ (omega arith)), (s .pre .1, omega (arith, s .pre .2))))
+    let z = κ .alone (omega arith) in
+    ((κ .parts .settled .store, omega (arith, κ .room), queue-inner κ (omega arith) (omega arith)), (s .pre .1, omega (arith, s .pre .2, κ .room))))
     (λ c κs. let r = reordered c in
     let s = start (r .before) in
     let κ = s .pre .0 in
-    ((r .reorder .ensures .store, queue-room κ (omega arith), reordered-inner κ (omega arith) (r .reorder .ensures)), (s .pre .1, omega (arith, s .pre .2, r .reorder .kept .1 .0))))
+    let z = κ .alone (omega arith) in (
+      (r .reorder .ensures .store, omega (arith, κ .room), reordered-inner κ (omega arith) (r .reorder .ensures) (omega arith)),
+      (s .pre .1, omega (arith, s .pre .2, r .reorder .kept .1 .0)),
+    ))
     (λ c. search needs)
     (λ c. let y = c .before .before in
     let r = reordered (y .before) in
     let s = start (r .before) in
-    emptied (s .pre .0) (omega arith) (r .reorder .ensures) (y .replay-all .ensures)))
+    emptied (s .pre .0) (omega arith) (r .reorder .ensures) (omega arith) (y .replay-all .ensures)))
