@@ -16,7 +16,7 @@ use Rattle.model.specs.Bytes.{Bytes}
 use Rattle.model.specs.Limits.{u64-max}
 use Rattle.model.specs.Number.{decimal}
 use Rattle.model.specs.Report.{Entry, Report, sectionItem, functionItem, branchItem, lineItem}
-use Rattle.text.proofs.DecimalLaws.{decimal-most}
+use Rattle.decimal.proofs.DecimalLaws.{decimal-most}
 use Rattle.items.specs.Items.{part, itemOf}
 use Rattle.closing.specs.Sections.{testOf, pathOf, entryOf, entryAt, entriesAt}
 use Rattle.emit.proofs.LentLaws.{item}

@@ -18,7 +18,7 @@ use Rattle.model.specs.Bytes.{Bytes, ascii}
 use Rattle.model.specs.Number.{decimal}
 use Rattle.model.specs.Tags.{defaultTag}
 use Rattle.model.specs.Output.{written, outputAfter}
-use Rattle.text.specs.Put.{putLen, over}
+use Rattle.decimal.specs.Put.{putLen, over}
 use Rattle.text.proofs.ByteLaws.{drop-end, drop-next}
 use Rattle.display.specs.Shape.{TagOf, separated, shown, lastLen, lastField, inside, sepAfter, headOf}
 use Rattle.display.specs.declared.shape.Last.{Last}

@@ -27,8 +27,8 @@ use Rattle.model.specs.Limits.{u64-max}
 use Rattle.model.specs.Output.{written, outputAfter}
 use Rattle.model.specs.Calls.{writeAnswer}
 use Rattle.model.specs.Parts.{partOf, takenIn, checksumIn, recordIn, printLine}
-use Rattle.text.specs.Put.{over}
-use Rattle.text.proofs.PutLaws.{written-fits}
+use Rattle.decimal.specs.Put.{over}
+use Rattle.decimal.proofs.PutLaws.{written-fits}
 use Rattle.display.specs.Shape.{ShapeOf, separated, shown, lastLen, lastField, inside, sepAfter, headOf, shapeFields, shapeLine, Fitting, neededAt, kindOf, numbersOf, lastOf}
 use Rattle.display.specs.Lines.{lineOf, lineIn}
 use Rattle.display.specs.declared.shape.Last.{Last}

@@ -10,8 +10,8 @@ use mir.Syntax.{w64}
 use Rattle.model.specs.Bytes.{Bytes}
 use Rattle.model.specs.Answer.{Answer}
 use Rattle.model.specs.Output.{written, outputAfter}
-use Rattle.text.specs.Put.{putLen, over}
-use Rattle.text.proofs.PutLaws.{written-fits}
+use Rattle.decimal.specs.Put.{putLen, over}
+use Rattle.decimal.proofs.PutLaws.{written-fits}
 use Rattle.text.proofs.ByteLaws.{drop-end}
 
 -- a part up to the end

@@ -21,9 +21,9 @@ use Rattle.model.specs.Bytes.{Bytes}
 use Rattle.model.specs.Number.{decimal}
 use Rattle.model.specs.Output.{outputAfter}
 use Rattle.model.specs.Tags.{defaultTag}
-use Rattle.text.specs.Put.{over}
+use Rattle.decimal.specs.Put.{over}
 use Rattle.text.proofs.ByteLaws.{drop-next}
-use Rattle.text.proofs.DecimalLaws.{decimal-most}
+use Rattle.decimal.proofs.DecimalLaws.{decimal-most}
 use Rattle.display.specs.Shape.{ShapeOf, separated, shown, lastLen, lastField, inside, sepAfter, headOf, shapeFields, shapeLine, Fitting}
 use Rattle.display.specs.declared.shape.Last.{Last}
 use Rattle.display.specs.declared.shape.Last.the-variants as L

@@ -5,7 +5,7 @@ ghost use mathlib.Core.List.{_∷_};
 ghost use mathlib.Core.Bool.{true};
 ghost use lib.ListN.{length};
 ghost use Rattle.model.specs.Number.{decimal};
-ghost use Rattle.text.specs.Put.{over};
+ghost use Rattle.decimal.specs.Put.{over};
 ghost use Rattle.display.specs.Shape.{separated, shown, lastLen, lastField, inside, sepAfter, headOf, shapeFields, shapeLine, Fitting};
 use crate::shape;
 use crate::shape::Last;
@@ -19,7 +19,7 @@ fn put_number(sep: u8, v: u64, out: &mut [u8]) -> usize
     ensures { λ r. ⌜ (r ≡ 1 + length (decimal v)) × (now (out .exit) ≡ over (sep ∷ decimal v) (now (out .entry))) ⌝ }
 {
     out[0] = sep;
-    let n = text::put_decimal(v, &mut out[1..]);
+    let n = decimal::put_decimal(v, &mut out[1..]);
     1 + n
 }
 
@@ -29,7 +29,7 @@ fn put_text(sep: u8, s: &[u8], out: &mut [u8]) -> usize
     ensures { λ r. ⌜ (r ≡ 1 + length (now (s .entry))) × (now (out .exit) ≡ over (sep ∷ now (s .entry)) (now (out .entry))) ⌝ }
 {
     out[0] = sep;
-    let n = text::put_bytes(s, &mut out[1..]);
+    let n = decimal::put_bytes(s, &mut out[1..]);
     1 + n
 }
 
@@ -41,7 +41,7 @@ fn numbers_len(numbers: [u64; 4], count: usize) -> usize
     let mut n = 0;
     let mut i = 0;
     while i < count {
-        n = n + 1 + text::decimal_len(numbers[i]);
+        n = n + 1 + decimal::decimal_len(numbers[i]);
         i += 1;
     }
     n

@@ -3,7 +3,7 @@ ghost use mathlib.Core.Path.{_≡_};
 ghost use Prim.Native.Nat.{_≤_};
 ghost use lib.ListN.{length};
 ghost use Rattle.model.specs.Tags.{defaultTag};
-ghost use Rattle.text.specs.Put.{over};
+ghost use Rattle.decimal.specs.Put.{over};
 ghost use Rattle.display.specs.Shape.{TagOf};
 use model::Kind;
 
@@ -87,7 +87,7 @@ fn put_any(kind: Kind, out: &mut [u8]) -> usize
     let t = tag_of(kind);
     let bytes = t.bytes;
     let len = t.len;
-    text::put_bytes(&bytes[..len], out)
+    decimal::put_bytes(&bytes[..len], out)
 }
 
 // Writes the tag of a kind at the front of out. Most lines are DA and BRDA: their tags are known where they are written.
@@ -96,8 +96,8 @@ pub fn put_tag(kind: Kind, out: &mut [u8]) -> usize
     ensures { λ r. ⌜ (r ≡ length (defaultTag kind)) × (now (out .exit) ≡ over (defaultTag kind) (now (out .entry))) ⌝ }
 {
     match kind {
-        Kind::LineData => text::put_bytes(b"DA", out),
-        Kind::BranchData => text::put_bytes(b"BRDA", out),
+        Kind::LineData => decimal::put_bytes(b"DA", out),
+        Kind::BranchData => decimal::put_bytes(b"BRDA", out),
         _ => put_any(kind, out),
     }
 }

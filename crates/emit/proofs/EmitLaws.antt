@@ -18,7 +18,7 @@ use Rattle.model.specs.Limits.{u64-max}
 use Rattle.model.specs.Output.{outputAfter}
 use Rattle.model.specs.Parts.{printLine}
 use Rattle.model.specs.Tags.{defaultTag}
-use Rattle.text.specs.Put.{over}
+use Rattle.decimal.specs.Put.{over}
 use Rattle.text.proofs.ByteLaws.{drop-end}
 use Rattle.display.specs.Lines.{lineIn}
 use Rattle.display.proofs.OverLaws.{to-end}

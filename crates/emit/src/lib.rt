@@ -143,21 +143,23 @@ fn past_data(row: Row, at: usize) -> usize
 {
     let kind = row.tag / 2;
     if kind == items::LINE {
-        let numbers = 5 + text::decimal_len(row.k1) + text::decimal_len(row.count);
+        let numbers = 5 + decimal::decimal_len(row.k1) + decimal::decimal_len(row.count);
         if row.tag % 2 == 0 {
             return past(at, numbers);
         }
         return past(past(at, numbers + 1), row.k3 as usize);
     }
     if kind == items::BRANCH {
-        let key = text::decimal_len(row.k1) + text::decimal_len(row.k2) + text::decimal_len(row.k3);
+        let key = decimal::decimal_len(row.k1)
+            + decimal::decimal_len(row.k2)
+            + decimal::decimal_len(row.k3);
         if row.tag % 2 == 0 {
             return past(at, key + 10);
         }
-        return past(at, key + 9 + text::decimal_len(row.count));
+        return past(at, key + 9 + decimal::decimal_len(row.count));
     }
     if kind == items::FUNCTION {
-        let number = 7 + text::decimal_len(row.count);
+        let number = 7 + decimal::decimal_len(row.count);
         return past(past(at, number), row.k2 as usize);
     }
     at

@@ -1,4 +1,2 @@
 pub mod ByteLaws
-pub mod PutLaws
 pub mod NumberLaws
-pub mod DecimalLaws

@@ -11,7 +11,7 @@ use Rattle.model.specs.declared.LineAnswer.{LineAnswer}
 use Rattle.model.specs.declared.WriteAnswer.{WriteAnswer}
 use Rattle.model.specs.declared.InsertAnswer.{InsertAnswer}
 use Rattle.model.specs.declared.QueryAnswer.{QueryAnswer}
-use Rattle.text.proofs.PutLaws.{Putting, put-next, put-out}
+use Rattle.decimal.proofs.PutLaws.{Putting, put-next, put-out}
 use Rattle.words.specs.Words.{branchWords, lineDataWords, recordWords, lineWords, writeWords, insertWords, queryWords, holding}
 
 module _ (words : List ℕ) where

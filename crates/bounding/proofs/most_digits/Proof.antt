@@ -1,6 +1,6 @@
 -- `bounding::most_digits` meets its contract. Assumes nothing.
 use borrow.Author.Needs.{needs}
-use Rattle.text.proofs.DecimalLaws.{decimal-most}
+use Rattle.decimal.proofs.DecimalLaws.{decimal-most}
 use Rattle.bounding.proofs.LengthLaws.{five-digits}
 use Rattle.bounding.proofs.most_digits.Statement.{statement}
 use Rattle.bounding.proofs.most_digits.Tie as tie

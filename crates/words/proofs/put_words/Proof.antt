@@ -2,7 +2,7 @@ use borrow.Author.Needs.{needs}
 use Rattle.words.proofs.WordLaws.{words-next, words-done}
 use Prim.Native.Nat.{_-_}
 use lib.ListN.{length}
-use Rattle.text.proofs.PutLaws.{Putting, short-out, put-start}
+use Rattle.decimal.proofs.PutLaws.{Putting, short-out, put-start}
 use Rattle.words.proofs.put_words.Statement.{statement}
 use Rattle.words.proofs.put_words.Tie as tie
 

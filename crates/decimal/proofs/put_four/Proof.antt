@@ -1,9 +1,9 @@
 use borrow.Author.Needs.{needs}
 use native.Mathlib.Omega.{arith}
 use lib.ListN.{length-set}
-use Rattle.text.proofs.DecimalLaws.{two-long, two-out}
-use Rattle.text.proofs.put_four.Statement.{statement}
-use Rattle.text.proofs.put_four.Tie as tie
+use Rattle.decimal.proofs.DecimalLaws.{two-long, two-out}
+use Rattle.decimal.proofs.put_four.Statement.{statement}
+use Rattle.decimal.proofs.put_four.Tie as tie
 
 pub put-four-spec : {M : Type 1} → statement M
 put-four-spec =

@@ -10,8 +10,8 @@ use borrow.Author.Tests.{le-leb, lt-leb}
 use Rattle.model.specs.Bytes.{Bytes}
 use Rattle.model.specs.Answer.{accepted, refuseLength}
 use Rattle.model.specs.Output.{written, outputAfter}
-use Rattle.text.specs.Put.{putLen, over}
+use Rattle.decimal.specs.Put.{putLen, over}
 use Rattle.text.proofs.ByteLaws.{drop-next}
 
 -- an output that holds them, and one that is too short
 pub written-fits : (s : Bytes) (room : ℕ) → length s ≤ room → written room s ≡ accepted s

@@ -1,9 +1,9 @@
 use borrow.Author.Needs.{needs}
 use native.Mathlib.Omega.{arith}
 use lib.ListN.{length-set}
-use Rattle.text.proofs.DecimalLaws.{four-long, four-out}
-use Rattle.text.proofs.put_eight.Statement.{statement}
-use Rattle.text.proofs.put_eight.Tie as tie
+use Rattle.decimal.proofs.DecimalLaws.{four-long, four-out}
+use Rattle.decimal.proofs.put_eight.Statement.{statement}
+use Rattle.decimal.proofs.put_eight.Tie as tie
 
 pub put-eight-spec : {M : Type 1} → statement M
 put-eight-spec =

@@ -15,9 +15,9 @@ use Rattle.model.specs.Bytes.{Bytes}
 use Rattle.model.specs.Number.{decimal, decimalDigits}
 use Rattle.model.proofs.NumberLaws.{decimalDigits-small, decimalDigits-large}
 use Rattle.model.specs.Output.{written, outputAfter}
-use Rattle.text.specs.Put.{putLen, over}
+use Rattle.decimal.specs.Put.{putLen, over}
 use Rattle.text.proofs.ByteLaws.{drop-next}
-use Rattle.text.proofs.PutLaws.{short-len, short-out, fits-len, fits-out}
+use Rattle.decimal.proofs.PutLaws.{short-len, short-out, fits-len, fits-out}
 
 -- the last k digits of n
 unfoldable pub lastDigits : ℕ → ℕ → Bytes

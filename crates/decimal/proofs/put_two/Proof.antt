@@ -1,7 +1,7 @@
 use borrow.Author.Needs.{needs}
-use Rattle.text.proofs.DecimalLaws.{one-long, one-out, pair-long, pair-out}
-use Rattle.text.proofs.put_two.Statement.{statement}
-use Rattle.text.proofs.put_two.Tie as tie
+use Rattle.decimal.proofs.DecimalLaws.{one-long, one-out, pair-long, pair-out}
+use Rattle.decimal.proofs.put_two.Statement.{statement}
+use Rattle.decimal.proofs.put_two.Tie as tie
 
 pub put-two-spec : {M : Type 1} → statement M
 put-two-spec =

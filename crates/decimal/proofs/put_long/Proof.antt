@@ -2,9 +2,9 @@ use borrow.Author.Needs.{needs}
 use lib.ListN.{length}
 use mathlib.Core.Path.{_≡_}
 use Rattle.model.specs.Number.{decimal}
-use Rattle.text.proofs.DecimalLaws.{Filling, fill-start, fill-more, fill-out, digits-short-len, digits-short-out, digits-len}
-use Rattle.text.proofs.put_long.Statement.{statement}
-use Rattle.text.proofs.put_long.Tie as tie
+use Rattle.decimal.proofs.DecimalLaws.{Filling, fill-start, fill-more, fill-out, digits-short-len, digits-short-out, digits-len}
+use Rattle.decimal.proofs.put_long.Statement.{statement}
+use Rattle.decimal.proofs.put_long.Tie as tie
 
 abbrev Inv-loop : tie.InvT-loop
 Inv-loop v out₀ n rest₀ i₀ out rest i = (n ≡ length (decimal v)) × Filling v out₀ out rest i

@@ -1,9 +1,9 @@
 use borrow.Author.Needs.{needs}
 use lib.ListN.{length}
 use Prim.Native.Nat.{_-_}
-use Rattle.text.proofs.PutLaws.{Putting, short-len, short-out, put-start, put-next, put-len, put-out}
-use Rattle.text.proofs.put_bytes.Statement.{statement}
-use Rattle.text.proofs.put_bytes.Tie as tie
+use Rattle.decimal.proofs.PutLaws.{Putting, short-len, short-out, put-start, put-next, put-len, put-out}
+use Rattle.decimal.proofs.put_bytes.Statement.{statement}
+use Rattle.decimal.proofs.put_bytes.Tie as tie
 
 abbrev Inv-loop : tie.InvT-loop
 Inv-loop s out₀ i₀ out i = Putting s out₀ out i
