@@ -53,7 +53,7 @@ fn past_start(row: Row, at: usize) -> usize
     requires { ⌜ row .tag ≡ 3 ⌝ }
     ensures { λ r. ⌜ ((text : List ℕ) → Good text row → r ≡ min (at + length (printRecords defaultTag (startRecord (itemOf text row)))) u64-max) ⌝ }
 {
-    let number = 5 + text::decimal_len(row.k3);
+    let number = 5 + decimal::decimal_len(row.k3);
     past(past(at, number), row.k2 as usize)
 }
 
