@@ -4,7 +4,7 @@ use native.Mathlib.Omega.{arith}
 use mathlib.Core.Path.{_≡_, refl, sym, ap, _∙_}
 use mathlib.Core.Bool.{true, false}
 use mathlib.Core.List.{List}
-use lib.Dec.{isEq}
+use lib.Dec.{isEq, ltb}
 use Rattle.store.specs.declared.Row.{Row}
 use Rattle.store.specs.Places.{Cut}
 use Rattle.store.proofs.PlaceLaws.{by-eq}
@@ -14,10 +14,11 @@ use Rattle.map.proofs.Orderings.{is-eq}
 use Rattle.map.proofs.Results.{impossible}
 use Rattle.model.specs.Order.{isLess}
 use Rattle.model.specs.Bytes.{Bytes}
-use Rattle.model.specs.Report.{Entry, SectionKey, sectionKey, entryKey, compareItems, compareSections, compareKeys}
+use Rattle.model.specs.Report.{Entry, sectionKey, entryKey, compareItems, compareSections, compareKeys}
 use Rattle.model.proofs.KeyOrder.{keys-order, sections-order}
 use Rattle.items.specs.declared.Found.the-variants.{At, Insert}
-use Rattle.items.proofs.CompareLaws.{lines}
+use Rattle.items.specs.Items.{itemOf}
+use Rattle.items.proofs.CompareLaws.{lines, lines-before}
 use Rattle.items.proofs.SearchLaws.{is-lt, sorted-at}
 use Rattle.closing.specs.Sections.{entryOf, entryAt, keyOf, Whole}
 use Rattle.merge.specs.Naming.{LinesOfOne}
@@ -41,14 +42,17 @@ by-section a b o h e = e ∙ go (compareSections (sectionKey a) (sectionKey b)) 
     go Ordering·gt h = refl
 
 -- the numbers of two lines decide
-pub by-lines : {text : Bytes} {x y : Row} → Whole text x → Whole text y → LinesOfOne x y
-    → (o : Ordering) → o ≡ compare (x .k1) (y .k1) → o ≡ compareEntries (entryOf text x) (entryOf text y)
-by-lines {text} {x} {y} wx wy both o e =
-    by-item (entryOf text x) (entryOf text y) o (sym (ap isEq sections))
-    (lines text x y (wx .good) (wy .good) (omega (arith, both .left, both .right)) (omega (arith, both .left, both .right)) (both .left) o e)
-  where
-    sections : compareSections (keyOf text x) (keyOf text y) ≡ Ordering·eq
-    sections = ap (compareSections (keyOf text x)) (sym (same-key text (both .names))) ∙ sections-order .same (keyOf text x)
+module _ {text : Bytes} {x y : Row} (wx : Whole text x) (wy : Whole text y) (both : LinesOfOne x y) where
+  of-one : (o : Ordering) → o ≡ compareItems (itemOf text x) (itemOf text y) → o ≡ compareEntries (entryOf text x) (entryOf text y)
+  of-one o = by-item (entryOf text x) (entryOf text y) o
+      (sym (ap isEq (ap (compareSections (keyOf text x)) (sym (same-key text (both .names))) ∙ sections-order .same (keyOf text x))))
+
+  pub by-lines : (o : Ordering) → o ≡ compare (x .k1) (y .k1) → o ≡ compareEntries (entryOf text x) (entryOf text y)
+  by-lines o e =
+      of-one o (lines text x y (wx .good) (wy .good) (omega (arith, both .left, both .right)) (omega (arith, both .left, both .right)) (both .left) o e)
+
+  pub less-lines : ltb (x .k1) (y .k1) ≡ isLess (compareEntries (entryOf text x) (entryOf text y))
+  less-lines = lines-before text x y (wx .good) (wy .good) (both .left) (both .right) ∙ ap isLess (of-one _ refl)
 
 -- a row that the store handed out
 pub whole-as : {text : Bytes} {r q : Row} → r ≡ q → Whole text q → Whole text r

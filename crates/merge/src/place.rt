@@ -48,7 +48,7 @@ pub fn compare_entries(text: &[u8], x: Row, y: Row) -> Order
     compare_rows(text, x, y)
 }
 
-// Whether the entry at a place comes before the key.
+// Whether the entry at a place comes before the key. Two lines are compared here as well, so that this is told without a call.
 fn stands_before(
     text: &[u8],
     words: &[u64],
@@ -62,7 +62,10 @@ fn stands_before(
     ensures { λ r. ⌜ r ≡ Before (now (text .entry)) (now (words .entry)) index key at ⌝ }
 {
     let other = store::get(words, index, used, at);
-    order::is_less(compare_entries(text, other, key))
+    if lines_of_one(other, key) {
+        return other.k1 < key.k1;
+    }
+    order::is_less(compare_rows(text, other, key))
 }
 
 // Places between which the key's is.
