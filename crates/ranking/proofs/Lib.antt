@@ -1,8 +1,6 @@
-pub mod RunLaws
-pub mod MergingLaws
-pub mod SortedLaws
 pub mod CountLaws
 pub mod DigitLaws
+pub mod InsertLaws
 pub mod StableLaws
 pub mod RankLaws
 pub mod PickLaws

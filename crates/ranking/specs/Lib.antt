@@ -1,4 +1,3 @@
-pub mod Runs
 pub mod Ranks
 pub mod Digits
 pub mod Reordered
