@@ -54,9 +54,6 @@ module _ (text : List ℕ) (at len : ℕ) where
   pub line-end-fits : at < length text → len ≤ length (restOf text at) → length text < 2 ^ 64 → Fits w64 (at + len)
   line-end-fits h e b = record { fits = omega (arith, line-end h e) }
 
-  pub next-fits : at < length text → len ≤ length (restOf text at) → length text * 1 < 2 ^ 63 → Fits w64 (at + len + 1)
-  next-fits h e b = record { fits = omega (arith, line-end h e) }
-
 module _ (text : List ℕ) (at len : ℕ) (got : LineAnswer) where
   pub record-at : (lent : LentRecord) → got ≡ A.Read lent → partsInside (lineOf text at len) got → RecordAt text at len lent
   record-at lent e i =

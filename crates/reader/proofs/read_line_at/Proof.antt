@@ -1,8 +1,10 @@
 -- `reader::read_line_at` meets its contract: one law for each way out. Assumes nothing.
+use Prim.Native.Nat.{_+_, _≤_, _<_, _^_}
 use native.Mathlib.Omega.{arith}
+use lib.ListN.{length}
 use denote.Ref.{now}
 use borrow.Author.Needs.{needs}
-use Rattle.reader.proofs.LineLaws.{line-end, line-end-fits, next-fits, record-at, done-refused, done-step, done-next}
+use Rattle.reader.proofs.LineLaws.{line-end, line-end-fits, record-at, done-refused, done-step, done-next}
 use Rattle.reader.proofs.read_line_at.Statement.{statement}
 use Rattle.reader.proofs.read_line_at.Tie as tie
 
@@ -14,6 +16,17 @@ cut c = line c .before .before
 
 abbrev start : tie.After-find → tie.Start
 start f = f .before .before .before .before
+
+-- the line ends within the text, as far as `omega` needs it
+record Places (f : tie.After-find) : Type 0 where
+  inside : start f .args .at + f .find .result ≤ length (now (start f .args .text))
+  fits : length (now (start f .args .text)) < 2 ^ 63
+
+places : (f : tie.After-find) → Places f
+places f = record {
+  inside = line-end (now (start f .args .text)) (start f .args .at) (f .find .result) (start f .pre .1) (f .find .ensures .1);
+  fits = omega arith;
+}
 
 pub read-line-at-spec : {M : Type 1} → statement M
 read-line-at-spec =
@@ -38,8 +51,8 @@ read-line-at-spec =
     (λ c κs. search needs)
     (λ c. search needs)
     (λ c. search (done-step, needs))
-    (λ c. let f = cut c in line-end-fits (now (start f .args .text)) (start f .args .at) (f .find .result) (start f .pre .1) (f .find .ensures .1) (omega arith))
-    (λ c. let f = cut c in next-fits (now (start f .args .text)) (start f .args .at) (f .find .result) (start f .pre .1) (f .find .ensures .1) (omega arith))
+    (λ c. let p = places (cut c) in omega arith)
+    (λ c. let p = places (cut c) in omega arith)
     (λ c. search needs)
     (λ c. let d = c .before in
     let t = d .before .before .before .before in
