@@ -2,12 +2,12 @@
 use mathlib.Core.Path.{_≡_, refl, sym, ap, ap₂, _∙_}
 use mathlib.Core.Logic.{_≢_}
 use mathlib.Core.Bool.{Bool, true, false, not}
-use mathlib.Core.List.{List, [], _∷_, _++_}
+use mathlib.Core.List.{List}
 use Prim.Native.Nat.{ℕ, _+_, _-_, _≤_, _<_}
 use native.Mathlib.Omega.{arith}
 use lib.ListN.{length}
 use Rattle.store.specs.declared.Row.{Row}
-use Rattle.store.specs.Places.{listed, Same, Put}
+use Rattle.store.specs.Places.{Same, Put}
 use Rattle.store.specs.Rows.{Kept}
 use Rattle.store.specs.Store.{row, Store}
 use Rattle.store.proofs.PlaceLaws.{by-eq}
@@ -21,12 +21,12 @@ use Rattle.model.specs.Answer.{Answer}
 use Rattle.model.specs.Report.{Item, itemKey, compareItems, within}
 use Rattle.model.specs.Order.{isLess}
 use Rattle.items.specs.Items.{itemOf, Inner}
-use Rattle.items.specs.Open.{itemFrom, itemsAt, itemAt}
+use Rattle.items.specs.Open.{itemFrom, itemsAt}
 use Rattle.items.specs.Combining.{combineOf}
 use Rattle.items.proofs.SearchLaws.{found-last}
 use Rattle.entering.specs.declared.Entered.{Entered}
 use Rattle.entering.specs.declared.Entered.the-variants as E
-use Rattle.entering.specs.Parts.{insert, allAt, Parted}
+use Rattle.entering.specs.Parts.{insert, allAt}
 use Rattle.entering.specs.Entering.{Entering as Exact}
 use Rattle.entering.proofs.EnterLaws.{within-fits, entered-last}
 use Rattle.queueing.specs.declared.Sizes.{Sizes}

@@ -1,9 +1,9 @@
 -- The queue is settled: its rows are put into another order and entered one after the other. Assumes nothing.
 use mathlib.Core.Path.{_≡_, refl, sym, ap, ap₂, _∙_}
 use mathlib.Core.Logic.{_≢_}
-use mathlib.Core.Bool.{Bool, false}
-use mathlib.Core.List.{List, [], _∷_, _++_}
-use Prim.Native.Nat.{ℕ, suc, _+_, _≤_, _<_}
+use mathlib.Core.Bool.{false}
+use mathlib.Core.List.{List, []}
+use Prim.Native.Nat.{ℕ, _+_, _≤_, _<_}
 use native.Mathlib.Omega.{arith}
 use lib.ListN.{length}
 use Rattle.store.specs.declared.Row.{Row}
@@ -23,7 +23,7 @@ use Rattle.entering.specs.Parts.{insert, union, allAt, Parted, Settled}
 use Rattle.entering.specs.Entering.{seen, Entering}
 use Rattle.entering.proofs.EnterLaws.{within-fits, parts-length, parted-none}
 use Rattle.queueing.specs.declared.Sizes.{Sizes}
-use Rattle.queueing.specs.Queue.{queuedOn, heldAt, Queued, OneMore, Replayed, Emptied, InOrder}
+use Rattle.queueing.specs.Queue.{queuedOn, Queued, OneMore, Replayed, Emptied, InOrder}
 use Rattle.queueing.proofs.QueueLaws.{insert-added, insert-length, queued-last, queued-keys}
 use Rattle.queueing.proofs.HeldLaws.{none-queued, queued-none, all-inner, all-queued, items-last}
 

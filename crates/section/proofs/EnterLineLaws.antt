@@ -3,7 +3,7 @@ use mathlib.Core.Path.{_≡_, refl, sym, ap, _∙_}
 use mathlib.Core.Logic.{_⊎_, inl, inr}
 use mathlib.Core.Bool.{Bool, true, false, cond}
 use mathlib.Core.List.{List, [], _∷_}
-use Prim.Native.Nat.{ℕ, suc, _+_, _≤_, _<_, Ordering, Ordering·lt, Ordering·eq, Ordering·gt}
+use Prim.Native.Nat.{ℕ, suc, _+_, _≤_, _<_}
 use native.Mathlib.Omega.{arith}
 use borrow.Author.Tests.{leb-true, leb-false}
 use lib.Dec.{leb}
@@ -11,9 +11,9 @@ use lib.ListN.{length}
 use Rattle.store.specs.declared.Row.{Row}
 use Rattle.store.specs.Places.{Same}
 use Rattle.store.specs.Store.{row}
-use Rattle.map.specs.Result.{Result, accepted, refused, bind, mapAccepted}
-use Rattle.map.specs.Keyed.{byOrder, add}
-use Rattle.map.proofs.Results.{accepted-inj, not-accepted, not-refused, mapAccepted-accepted, bind-accepted}
+use Rattle.map.specs.Result.{accepted, refused, bind}
+use Rattle.map.specs.Keyed.{add}
+use Rattle.map.proofs.Results.{accepted-inj, not-accepted, not-refused, bind-accepted}
 use Rattle.model.specs.declared.Fault.{Fault}
 use Rattle.model.specs.declared.Fault.the-variants.{TooManyEntries}
 use Rattle.model.specs.declared.Refusal.{Refusal}

@@ -1,5 +1,4 @@
 -- `queueing::replay` meets its contract: the row is never refused. Assumes nothing.
-use native.Mathlib.Omega.{arith}
 use Rattle.items.proofs.CompareLaws.{inner-as}
 use Rattle.queueing.proofs.ReplayLaws.{never-refused, one-more}
 use borrow.Author.Needs.{needs}
