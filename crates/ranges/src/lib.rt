@@ -1,11 +1,18 @@
 // Ranges of lines (document 01, "After the gather"): "a lent slice of start and end pairs (u32) and a number of pairs used", a pair as
-// the struct `model::Range`. The borrow checker covers no function over a slice of structs, so those that take one are thin and proved
-// by hand; what they decide is decided by functions on numbers.
+// the struct `model::Range`. The borrow checker covers no function over a slice of structs: those that take one are thin and proved by
+// hand, and what they decide is decided by functions on numbers.
+use model::Fault;
+use model::QueryAnswer;
 use model::Range;
 ghost use mathlib.Core.Path.{_≡_};
-ghost use Prim.Native.Nat.{_<_};
+ghost use mathlib.Core.Bool.{_&&_, _||_};
+ghost use Prim.Native.Nat.{_+_, _<_, min, max};
+ghost use lib.Dec.{leb};
 ghost use lib.ListN.{length, getD, set};
+ghost use Rattle.model.specs.Ranges.{queryCall};
+ghost use Rattle.model.specs.Calls.{queryAnswer};
 ghost use Rattle.line_num.specs.Pairs.{pair};
+ghost use Rattle.ranges.specs.Scans.{scanStart, passesBy, staysBy, scannedBy, scanOf, scanAnswer};
 
 pub fn range_at(list: &[Range], i: usize) -> Range
     requires { ⌜ i < length (now list) ⌝ }
@@ -19,4 +26,180 @@ pub fn put_range(list: &mut [Range], i: usize, range: Range)
     ensures { λ _. ⌜ now (list .exit) ≡ set (now (list .entry)) i range ⌝ }
 {
     list[i] = range;
+}
+
+// A pass over the ranges used: it asks for the lines from start to end, and tells what becomes of them as a range that is put in.
+pub struct Scan {
+    start: u32,
+    end: u32,
+    // the ranges so far are in order, and the next has to start at `least` or later
+    well: bool,
+    least: u64,
+    // one of them holds a line asked for
+    held: bool,
+    // the range that is put down next, behind `at` others: the one to put in, or, once that is past, the one read last
+    past: bool,
+    low: u32,
+    high: u32,
+    at: usize,
+}
+
+fn scan_start(start: u32, end: u32) -> Scan
+    ensures { λ r. ⌜ r ≡ scanStart start end ⌝ }
+{
+    Scan {
+        start,
+        end,
+        well: true,
+        least: 0,
+        held: false,
+        past: false,
+        low: start,
+        high: end,
+        at: 0,
+    }
+}
+
+fn in_order(well: bool, least: u64, x: Range) -> bool
+    ensures { λ r. ⌜ r ≡ (well && leb least (x .start) && leb (x .start) (x .end)) ⌝ }
+{
+    if !well {
+        return false;
+    }
+    if (x.start as u64) < least {
+        return false;
+    }
+    x.start <= x.end
+}
+
+fn holds_one(held: bool, x: Range, start: u32, end: u32) -> bool
+    ensures { λ r. ⌜ r ≡ (held || (leb (x .start) end && leb start (x .end))) ⌝ }
+{
+    if held {
+        return true;
+    }
+    if end < x.start {
+        return false;
+    }
+    start <= x.end
+}
+
+fn passes(found: Scan, x: Range) -> bool
+    ensures { λ r. ⌜ r ≡ passesBy found x ⌝ }
+{
+    if found.past {
+        return true;
+    }
+    if x.end as u64 + 1 < found.low as u64 {
+        return false;
+    }
+    (found.high as u64) + 1 < x.start as u64
+}
+
+fn stays(found: Scan, x: Range) -> bool
+    ensures { λ r. ⌜ r ≡ staysBy found x ⌝ }
+{
+    if found.past {
+        return false;
+    }
+    x.end as u64 + 1 < found.low as u64
+}
+
+// One more than `at`, at most `next`: a sum that always fits.
+fn counted(at: usize, next: usize) -> usize
+    ensures { λ r. ⌜ r ≡ min (at + 1) next ⌝ }
+{
+    if at < next {
+        return at + 1;
+    }
+    next
+}
+
+fn scanned(found: Scan, next: usize, x: Range) -> Scan
+    ensures { λ r. ⌜ r ≡ scannedBy found next x ⌝ }
+{
+    let well = in_order(found.well, found.least, x);
+    let held = holds_one(found.held, x, found.start, found.end);
+    let least = x.end as u64 + 2;
+    if passes(found, x) {
+        return Scan {
+            start: found.start,
+            end: found.end,
+            well,
+            least,
+            held,
+            past: true,
+            low: x.start,
+            high: x.end,
+            at: counted(found.at, next),
+        };
+    }
+    if stays(found, x) {
+        return Scan {
+            start: found.start,
+            end: found.end,
+            well,
+            least,
+            held,
+            past: false,
+            low: found.low,
+            high: found.high,
+            at: counted(found.at, next),
+        };
+    }
+    Scan {
+        start: found.start,
+        end: found.end,
+        well,
+        least,
+        held,
+        past: false,
+        low: line_num::lesser(found.low, x.start),
+        high: line_num::greater(found.high, x.end),
+        at: found.at,
+    }
+}
+
+// How many ranges there are to read.
+fn within(used: usize, len: usize) -> usize
+    ensures { λ r. ⌜ r ≡ min used len ⌝ }
+{
+    if used < len {
+        return used;
+    }
+    len
+}
+
+fn scan_all(list: &[Range], used: usize, start: u32, end: u32) -> Scan
+    ensures { λ r. ⌜ r ≡ scanOf (now (list .entry)) used start end ⌝ }
+{
+    let n = within(used, list.len());
+    let mut found = scan_start(start, end);
+    let mut i = 0;
+    while i < n {
+        let x = list[i];
+        i += 1;
+        found = scanned(found, i, x);
+    }
+    found
+}
+
+fn query_answer(found: Scan, used: usize, len: usize) -> QueryAnswer
+    ensures { λ r. ⌜ r ≡ queryAnswer (scanAnswer found used len) ⌝ }
+{
+    if len < used {
+        return QueryAnswer::Refused(refusal::unplaced(Fault::MalformedRanges));
+    }
+    if !found.well {
+        return QueryAnswer::Refused(refusal::unplaced(Fault::MalformedRanges));
+    }
+    QueryAnswer::Holds(found.held)
+}
+
+// "A query (s, e) says yes if some pair has start ≤ e and end ≥ s."
+pub fn query(list: &[Range], used: usize, s: u32, e: u32) -> QueryAnswer
+    ensures { λ r. ⌜ r ≡ queryAnswer (queryCall (now (list .entry)) used s e) ⌝ }
+{
+    let found = scan_all(list, used, s, e);
+    query_answer(found, used, list.len())
 }
