@@ -161,6 +161,17 @@ unfolding ascending ascendingFrom
 ascends-all [] = refl
 ascends-all (x ∷ xs) = sym (ascends x xs 0 (omega arith))
 
+-- the pass tells whether the slice is well formed
+pub scan-formed : (slice : List Range) (used s e : ℕ) → (leb used (length slice) && scanOf slice used s e .well) ≡ wellFormedRanges slice used
+unfolding scanOf wellFormedRanges
+scan-formed slice used s e = rw (scan-well (scanStart s e) 0 (take used slice), ascends-all (take used slice))
+
+-- the range to put in stays what it was
+pub scan-asked : (f : Scan) (i : ℕ) (xs : List Range) → (scanFrom f i xs .start ≡ f .start) × (scanFrom f i xs .end ≡ f .end)
+unfolding scanFrom scannedBy
+scan-asked f i [] = (refl, refl)
+scan-asked f i (x ∷ xs) = scan-asked (scannedBy f (i + 1) x) (i + 1) xs
+
 pub query-told : (slice : List Range) (used s e : ℕ) → scanAnswer (scanOf slice used s e) used (length slice) ≡ queryCall slice used s e
 unfolding scanAnswer scanOf queryCall wellFormedRanges holds
 query-told slice used s e = rw (scan-well (scanStart s e) 0 (take used slice), scan-held (scanStart s e) 0 (take used slice), ascends-all (take used slice))

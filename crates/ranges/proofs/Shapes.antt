@@ -14,8 +14,14 @@ use Rattle.model.specs.declared.Range.{Range}
 use Rattle.model.proofs.Range as T
 use Rattle.model.proofs.Range.Laws as T′
 use Rattle.ranges.specs.declared.Scan.{Scan}
+use Rattle.ranges.specs.declared.Plan.{Plan}
+use Rattle.ranges.specs.declared.Put.{Put}
 use Rattle.ranges.proofs.Scan as S
 use Rattle.ranges.proofs.Scan.Laws as S′
+use Rattle.ranges.proofs.Plan as P
+use Rattle.ranges.proofs.Plan.Laws as P′
+use Rattle.ranges.proofs.Put as U
+use Rattle.ranges.proofs.Put.Laws as U′
 
 abbrev pub RangeT : RattleType
 RangeT = T.the-row
@@ -31,6 +37,36 @@ ScanT = S.the-row
 
 abbrev pub scan-val : Scan → Val
 scan-val = LL.val S.the-type S′.the-laws
+
+abbrev pub PlanT : RattleType
+PlanT = P.the-row
+
+abbrev pub plan-vals : Plan → List Val
+plan-vals = LL.vals P.the-type P′.the-laws
+
+abbrev pub plan-val : Plan → Val
+plan-val = LL.val P.the-type P′.the-laws
+
+pub plan-told : (p : Plan) (v : Val) → Is PlanT p (v ∷ []) → v ≡ plan-val p
+plan-told p v is = ap only (LL.tells P.the-type P′.the-laws p (v ∷ []) is)
+
+pub plan-is : (p : Plan) (v : Val) → Is PlanT p (v ∷ []) → Is PlanT p (plan-val p ∷ [])
+plan-is p v is = subst (λ (u : Val). Is PlanT p (u ∷ [])) (plan-told p v is) is
+
+abbrev pub PutT : RattleType
+PutT = U.the-row
+
+abbrev pub put-val : Put → Val
+put-val = LL.val U.the-type U′.the-laws
+
+pub put-told : (u : Put) (v : Val) → Is PutT u (v ∷ []) → v ≡ put-val u
+put-told u v is = ap only (LL.tells U.the-type U′.the-laws u (v ∷ []) is)
+
+pub put-at-fits : (u : Put) (v : Val) → Is PutT u (v ∷ []) → u .at < 2 ^ 64
+put-at-fits u v is = LL.owed U.the-type U′.the-laws u (v ∷ []) is .0 .1
+
+pub put-range-is : (u : Put) (v : Val) → Is PutT u (v ∷ []) → Is RangeT (u .range) (range-val (u .range) ∷ [])
+put-range-is u v is = LL.owed U.the-type U′.the-laws u (v ∷ []) is .1 .0
 
 -- a pass that is owned has its machine value
 pub scan-told : (f : Scan) (v : Val) → Is ScanT f (v ∷ []) → v ≡ scan-val f

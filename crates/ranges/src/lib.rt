@@ -2,17 +2,19 @@
 // the struct `model::Range`. The borrow checker covers no function over a slice of structs: those that take one are thin and proved by
 // hand, and what they decide is decided by functions on numbers.
 use model::Fault;
+use model::InsertAnswer;
 use model::QueryAnswer;
 use model::Range;
 ghost use mathlib.Core.Path.{_≡_};
 ghost use mathlib.Core.Bool.{_&&_, _||_};
-ghost use Prim.Native.Nat.{_+_, _<_, min, max};
+ghost use Prim.Native.Nat.{_+_, _-_, _<_, _^_, min, max};
 ghost use lib.Dec.{leb};
 ghost use lib.ListN.{length, getD, set};
-ghost use Rattle.model.specs.Ranges.{queryCall};
-ghost use Rattle.model.specs.Calls.{queryAnswer};
+ghost use Rattle.model.specs.Ranges.{queryCall, insertCall, sliceAfter};
+ghost use Rattle.model.specs.Calls.{queryAnswer, insertAnswer};
 ghost use Rattle.line_num.specs.Pairs.{pair};
 ghost use Rattle.ranges.specs.Scans.{scanStart, passesBy, staysBy, scannedBy, scanOf, scanAnswer};
+ghost use Rattle.ranges.specs.Turns.{planBy, planOf, answerOf, Fits, readAt, putAt, rewritten};
 
 pub fn range_at(list: &[Range], i: usize) -> Range
     requires { ⌜ i < length (now list) ⌝ }
@@ -160,7 +162,7 @@ fn scanned(found: Scan, next: usize, x: Range) -> Scan
     }
 }
 
-// How many ranges there are to read.
+// The lesser of two places, or of a number and a length.
 fn within(used: usize, len: usize) -> usize
     ensures { λ r. ⌜ r ≡ min used len ⌝ }
 {
@@ -202,4 +204,151 @@ pub fn query(list: &[Range], used: usize, s: u32, e: u32) -> QueryAnswer
 {
     let found = scan_all(list, used, s, e);
     query_answer(found, used, list.len())
+}
+
+// What an insert does to the slice, in so many turns: the first `woven` read the ranges used, one each, and put them down again with
+// the range among them; the others fill the places from `from` on, with one range below place n and zeros behind.
+pub struct Plan {
+    woven: usize,
+    from: usize,
+    n: usize,
+    turns: usize,
+    start: u32,
+    end: u32,
+    low: u32,
+    high: u32,
+}
+
+// A range and its place.
+pub struct Put {
+    at: usize,
+    range: Range,
+}
+
+fn planned(found: Scan, woven: usize, from: usize, n: usize, turns: usize) -> Plan
+    ensures { λ r. ⌜ r ≡ planBy found woven from n turns ⌝ }
+{
+    Plan {
+        woven,
+        from,
+        n,
+        turns,
+        start: found.start,
+        end: found.end,
+        low: found.low,
+        high: found.high,
+    }
+}
+
+fn plan_of(found: Scan, used: usize, len: usize) -> Plan
+    requires { ⌜ len < 2 ^ 63 ⌝ }
+    ensures { λ r. ⌜ r ≡ planOf found used len ⌝ }
+{
+    if len < used {
+        return planned(found, 0, 0, 0, 0);
+    }
+    if !found.well {
+        return planned(found, 0, 0, 0, 0);
+    }
+    if found.end < found.start {
+        return planned(found, 0, used, used, len - used);
+    }
+    if found.at < len {
+        return planned(found, used, found.at, found.at + 1, used + (len - found.at));
+    }
+    planned(found, 0, 0, 0, 0)
+}
+
+fn insert_answer(found: Scan, used: usize, len: usize) -> InsertAnswer
+    ensures { λ r. ⌜ r ≡ answerOf found used len ⌝ }
+{
+    if len < used {
+        return InsertAnswer::Refused(refusal::unplaced(Fault::MalformedRanges));
+    }
+    if !found.well {
+        return InsertAnswer::Refused(refusal::unplaced(Fault::MalformedRanges));
+    }
+    if found.end < found.start {
+        return InsertAnswer::Used(used);
+    }
+    if found.at < len {
+        return InsertAnswer::Used(found.at + 1);
+    }
+    InsertAnswer::Refused(refusal::unplaced(Fault::RangesFull))
+}
+
+fn read_at(plan: Plan, t: usize) -> usize
+    requires { ⌜ plan .from + (t - plan .woven) < 2 ^ 64 ⌝ }
+    ensures { λ r. ⌜ r ≡ readAt plan t ⌝ }
+{
+    if t < plan.woven {
+        return t;
+    }
+    plan.from + (t - plan.woven)
+}
+
+fn put_at(plan: Plan, found: Scan, t: usize, k: usize, x: Range) -> Put
+    ensures { λ r. ⌜ r ≡ putAt plan found t k x ⌝ }
+{
+    if t < plan.woven {
+        if passes(found, x) {
+            return Put {
+                at: within(found.at, k),
+                range: Range {
+                    start: found.low,
+                    end: found.high,
+                },
+            };
+        }
+        if stays(found, x) {
+            return Put {
+                at: within(found.at, k),
+                range: x,
+            };
+        }
+        return Put { at: k, range: x };
+    }
+    if k < plan.n {
+        return Put {
+            at: k,
+            range: Range {
+                start: plan.low,
+                end: plan.high,
+            },
+        };
+    }
+    Put {
+        at: k,
+        range: Range { start: 0, end: 0 },
+    }
+}
+
+fn rewrite(list: &mut [Range], plan: Plan)
+    requires { ⌜ Fits plan (length (now list)) ⌝ }
+    ensures { λ _. ⌜ now (list .exit) ≡ rewritten plan (now (list .entry)) ⌝ }
+{
+    let turns = plan.turns;
+    let mut found = scan_start(plan.start, plan.end);
+    let mut t = 0;
+    while t < turns {
+        let k = read_at(plan, t);
+        let x = list[k];
+        let put = put_at(plan, found, t, k, x);
+        let at = put.at;
+        list[at] = put.range;
+        t += 1;
+        found = scanned(found, t, x);
+    }
+}
+
+// "Insert drops start > end, joins overlaps and neighbours, answers the new number of pairs, zeroes those past it, and gives 15 exactly
+// if the slice can't hold the result."
+pub fn insert(list: &mut [Range], used: usize, start: u32, end: u32) -> InsertAnswer
+    ensures { λ r. ⌜ (r ≡ insertAnswer (insertCall (now (list .entry)) used (pair start end))) × (now (list .exit) ≡ sliceAfter (insertCall (now (list .entry)) used (pair start end)) (now (list .entry))) ⌝ }
+{
+    let len = list.len();
+    let found = scan_all(list, used, start, end);
+    let plan = plan_of(found, used, len);
+    rewrite(list, plan);
+    insert_answer(found, used, len)
 }

@@ -59,6 +59,7 @@ use Rattle.ranges.specs.Scans.{scanStart, scannedBy, scanFrom, scanOf}
 use Rattle.ranges.proofs.Scan as S
 use Rattle.ranges.proofs.Scan.Laws as S′
 use Rattle.ranges.proofs.Shapes.{RangeT, range-vals, range-val, ScanT, scan-val, scan-told, scan-is, offset-fits, next-fits, by-cases}
+use Rattle.ranges.proofs.Calls.{Within, within-of, to-within, goes-within, Started, started-of, to-start, goes-start, Scanned, scanned-of, to-scanned, goes-scanned}
 use Rattle.ranges.proofs.ScanLaws.{scan-begun, scan-next, scan-done}
 use Rattle.ranges.proofs.within as within
 use Rattle.ranges.proofs.within.Symbol as within-def
@@ -89,50 +90,6 @@ half = tyInt w32
 
 abbrev slice : Ty
 slice = sliceTy (tyRef (named 0) imm (pointee (RangeT .written)))
-
-module _ {M : Type 1} (𝓤 : URA M) (H : Heap 𝓤) (A : Atoms 𝓤) (mem : Memory → SProp 𝓤) (run : Routine → Fun 𝓤) where
-  -- the contracts that the proof cites
-  abbrev Within : Contract 𝓤
-  Within = tripleOf 𝓤 H A within.signature (within.spec 𝓤 H A mem run)
-
-  abbrev Started : Contract 𝓤
-  Started = tripleOf 𝓤 H A scan-start.signature (scan-start.spec 𝓤 H A mem run)
-
-  abbrev Scanned : Contract 𝓤
-  Scanned = tripleOf 𝓤 H A scanned.signature (scanned.spec 𝓤 H A mem run)
-
-  -- of each callee's `ensured`, the clause alone
-  within-of : (u n r : ℕ) → ent 𝓤 (ensured 𝓤 H A within.ended (within.clauses 𝓤 H A mem run) tt (u, (n, tt)) tt r) (fact 𝓤 (r ≡ min u n))
-  within-of u n r = exE 𝓤 _ (λ ws. snd∗ 𝓤 (sem 𝓤 H A (lasts within.ended tt (u, (n, tt)) ws)) (fact 𝓤 (r ≡ min u n)))
-
-  started-of : (s e : ℕ) (r : Scan) → ent 𝓤 (ensured 𝓤 H A scan-start.ended (scan-start.clauses 𝓤 H A mem run) tt (s, (e, tt)) tt r) (fact 𝓤 (r ≡ scanStart s e))
-  started-of s e r = exE 𝓤 _ (λ ws. snd∗ 𝓤 (sem 𝓤 H A (lasts scan-start.ended tt (s, (e, tt)) ws)) (fact 𝓤 (r ≡ scanStart s e)))
-
-  scanned-of : (f : Scan) (n : ℕ) (x : Range) (r : Scan) → ent 𝓤 (ensured 𝓤 H A scanned.ended (scanned.clauses 𝓤 H A mem run) tt (f, (n, (x, tt))) tt r) (fact 𝓤 (r ≡ scannedBy f n x))
-  scanned-of f n x r = exE 𝓤 _ (λ ws. snd∗ 𝓤 (sem 𝓤 H A (lasts scanned.ended tt (f, (n, (x, tt))) ws)) (fact 𝓤 (r ≡ scannedBy f n x)))
-
-module _ {M : Type 1} (𝓤 : URA M) (H : Heap 𝓤) (A : Atoms 𝓤) (W : Given 𝓤 H A) (mem : Memory → SProp 𝓤) (run : Routine → Fun 𝓤) where
-  abbrev to-within : ℕ → ℕ → Within 𝓤 H A mem run .Ghost
-  to-within u n = ((tt, tt, tt, (u, (n, tt)), (vint w64 u ∷ [], (vint w64 n ∷ [], tt))), tt)
-
-  goes-within : (u n : ℕ) → u < 2 ^ 64 → n < 2 ^ 64 → ent 𝓤 (emp 𝓤) (Within 𝓤 H A mem run .pre (to-within u n))
-  goes-within u n u-fits n-fits =
-      qed W [] ∵ nothing ! $ owned ! usize (Is usize) (uint-makes 𝓤 H A W w64) n _ (refl, n-fits) $ join ! $ owned ! usize (Is usize) (uint-makes 𝓤 H A W w64) u _ (refl, u-fits) $ join ! $ nothing ! $ join ! $ frame ! $ done !
-
-  abbrev to-start : ℕ → ℕ → Started 𝓤 H A mem run .Ghost
-  to-start s e = ((tt, tt, tt, (s, (e, tt)), (vint w32 s ∷ [], (vint w32 e ∷ [], tt))), tt)
-
-  goes-start : (s e : ℕ) → s < 2 ^ 32 → e < 2 ^ 32 → ent 𝓤 (emp 𝓤) (Started 𝓤 H A mem run .pre (to-start s e))
-  goes-start s e s-fits e-fits =
-      qed W [] ∵ nothing ! $ owned ! u32 (Is u32) (uint-makes 𝓤 H A W w32) e _ (refl, e-fits) $ join ! $ owned ! u32 (Is u32) (uint-makes 𝓤 H A W w32) s _ (refl, s-fits) $ join ! $ nothing ! $ join ! $ frame ! $ done !
-
-  abbrev to-scanned : Scan → ℕ → Range → Scanned 𝓤 H A mem run .Ghost
-  to-scanned f n x = ((tt, tt, tt, (f, (n, (x, tt))), (scan-val f ∷ [], (vint w64 n ∷ [], (range-val x ∷ [], tt)))), tt)
-
-  goes-scanned : (f : Scan) (n : ℕ) (x : Range) → Is ScanT f (scan-val f ∷ []) → n < 2 ^ 64 → Is RangeT x (range-val x ∷ []) → ent 𝓤 (emp 𝓤) (Scanned 𝓤 H A mem run .pre (to-scanned f n x))
-  goes-scanned f n x fs n-fits xs =
-      qed W [] ∵ nothing ! $ owned ! RangeT (Is RangeT) (LL.makes T.the-type T′.the-plain 𝓤 H A) x _ xs $ join ! $ owned ! usize (Is usize) (uint-makes 𝓤 H A W w64) n _ (refl, n-fits) $ join ! $
-      owned ! ScanT (Is ScanT) (LL.makes S.the-type S′.the-plain 𝓤 H A) f _ fs $ join ! $ nothing ! $ join ! $ frame ! $ done !
 
 module _ {M : Type 1} (𝓤 : URA M) (H : Heap 𝓤) (A : Atoms 𝓤) (W : Given 𝓤 H A) (mem : Memory → SProp 𝓤) (run : Routine → Fun 𝓤) (κ : Lft) (q : Share) (b o : ℕ) (γ : GName) (ys : List Range) (used s e : ℕ)
     (room : Room RangeT (length ys)) (used-fits : used < 2 ^ 64) (s-fits : s < 2 ^ 32) (e-fits : e < 2 ^ 32) where

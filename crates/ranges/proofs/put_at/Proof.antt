@@ -1,0 +1,19 @@
+-- `ranges::put_at` meets its contract. Assumes nothing.
+use borrow.Author.Needs.{needs}
+use Rattle.ranges.proofs.TurnLaws.{put-past, put-stays, put-joined, put-last, put-zero}
+use Rattle.ranges.proofs.put_at.Statement.{statement}
+use Rattle.ranges.proofs.put_at.Tie as tie
+
+pub put-at-spec : {M : Type 1} → statement M
+put-at-spec =
+    tie.close
+    (tie.spec
+    (λ c κs. search needs)
+    (λ c κs. search needs)
+    (λ c. search (put-past, needs))
+    (λ c κs. search needs)
+    (λ c κs. search needs)
+    (λ c. search (put-stays, needs))
+    (λ c. search (put-joined, needs))
+    (λ c. search (put-last, needs))
+    (λ c. search (put-zero, needs)))

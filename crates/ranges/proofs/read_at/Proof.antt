@@ -1,0 +1,13 @@
+-- `ranges::read_at` meets its contract. Assumes nothing.
+use borrow.Author.Needs.{needs}
+use Rattle.ranges.proofs.TurnLaws.{read-woven, read-behind}
+use Rattle.ranges.proofs.read_at.Statement.{statement}
+use Rattle.ranges.proofs.read_at.Tie as tie
+
+pub read-at-spec : {M : Type 1} → statement M
+read-at-spec =
+    tie.close
+    (tie.spec
+    (λ c. search (read-woven, needs))
+    (λ c. search needs)
+    (λ c. search (read-behind, needs)))
