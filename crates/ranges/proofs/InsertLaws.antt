@@ -4,12 +4,12 @@ use native.Mathlib.Nat.{add-suc, add-zero}
 use native.Mathlib.Omega.{arith}
 use native.Mathlib.Numerals.{add-one}
 use mathlib.Core.Path.{_≡_, refl, sym, ap, _∙_}
-use mathlib.Core.Bool.{Bool, true, false, _&&_}
+use mathlib.Core.Bool.{Bool, true, false, not, _&&_}
 use mathlib.Core.List.{List, [], _∷_, _++_, append-assoc, append-nil}
 use lib.Dec.{leb, ltb}
 use lib.ListN.{length, getD, set, take, drop, replicate, length-set, length-take, length-append, drop-of-length-le, replicate-append-replicate}
 use lib.Seq.{take-all, length-take-le, drop-cons, append-snoc, getD-take, getD-set-other, take-set-le, take-suc-set}
-use borrow.Author.Tests.{le-leb, lt-leb, lt-ltb, le-ltb, ltb-true, ltb-false, leb-true}
+use borrow.Author.Tests.{not-true, not-false, le-leb, lt-leb, lt-ltb, le-ltb, ltb-true, ltb-false}
 use Rattle.model.specs.declared.Range.{Range}
 use Rattle.model.specs.Order.{if_then_else_}
 use Rattle.model.specs.declared.Fault.the-variants.{RangesFull, MalformedRanges}
@@ -26,7 +26,7 @@ use Rattle.ranges.specs.declared.Put.{Put}
 use Rattle.ranges.specs.Scans.{scanStart, passesBy, staysBy, scannedBy, scanFrom, scanOf}
 use Rattle.ranges.specs.Turns.{planBy, planOf, answerOf, Fits, readAt, putAt, turned, after, rewritten}
 use Rattle.ranges.proofs.ScanLaws.{passes-on, scan-begun, scan-next, scan-done, scan-formed, scan-asked}
-use Rattle.ranges.proofs.TurnLaws.{read-woven, read-behind, put-past, put-stays, put-joined}
+use Rattle.ranges.proofs.TurnLaws.{plan-short, plan-ill, plan-dropped, plan-put, plan-full, answer-short, answer-ill, answer-dropped, answer-put, answer-full, read-woven, read-behind, put-past, put-stays, put-joined}
 
 -- ---- what is still to be put down after a pass so far: its range and the ranges behind, joined until the range is past
 
@@ -308,70 +308,27 @@ module _ (slice : List Range) (used : ℕ) (r : Range) where
     unfolding insertCall
     call-full h = rw (well, is, lt-leb (length ranges) (length slice) h)
 
-and-first : (a b : Bool) → (a && b) ≡ true → a ≡ true
-and-first true b e = refl
-and-first false b e = e
-
-and-second : (a b : Bool) → (a && b) ≡ true → b ≡ true
-and-second true b e = e
-and-second false b e = impossible cc
-
 -- what an insert may come to
 module _ (f : Scan) (used len : ℕ) {A : Type 0} where
-  by-outcome : ((leb used len && f .well) ≡ false → A) → ((leb used len && f .well) ≡ true → f .end < f .start → A)
-      → ((leb used len && f .well) ≡ true → f .start ≤ f .end → f .at < len → A) → ((leb used len && f .well) ≡ true → f .start ≤ f .end → len ≤ f .at → A) → A
-  by-outcome ill dropped put full =
-      by-test (leb used len && f .well)
-      (λ w. by-test (ltb (f .end) (f .start)) (λ d. dropped w (ltb-true (f .end) (f .start) d))
-      (λ d. by-test (ltb (f .at) len) (λ l. put w (ltb-false (f .end) (f .start) d) (ltb-true (f .at) len l)) (λ l. full w (ltb-false (f .end) (f .start) d) (ltb-false (f .at) len l))))
-      ill
+  by-outcome : (len < used → A) → (used ≤ len → not (f .well) ≡ true → A) → (used ≤ len → not (f .well) ≡ false → f .end < f .start → A)
+      → (used ≤ len → not (f .well) ≡ false → f .start ≤ f .end → f .at < len → A) → (used ≤ len → not (f .well) ≡ false → f .start ≤ f .end → len ≤ f .at → A) → A
+  by-outcome short ill dropped put full =
+      by-test (ltb len used) (λ h. short (ltb-true len used h)) (λ h.
+      let i : used ≤ len = ltb-false len used h in
+      by-test (not (f .well)) (ill i) (λ t.
+      by-test (ltb (f .end) (f .start)) (λ d. dropped i t (ltb-true (f .end) (f .start) d)) (λ d.
+      let o : f .start ≤ f .end = ltb-false (f .end) (f .start) d in
+      by-test (ltb (f .at) len) (λ l. put i t o (ltb-true (f .at) len l)) (λ l. full i t o (ltb-false (f .at) len l)))))
 
-module _ (f : Scan) (used len : ℕ) where
-  plan-ill : (leb used len && f .well) ≡ false → planOf f used len ≡ planBy f 0 0 0 0
-  unfolding planOf
-  plan-ill w = rw w
-
-  answer-ill : (leb used len && f .well) ≡ false → answerOf f used len ≡ Insert.Refused (unplaced MalformedRanges)
-  unfolding answerOf
-  answer-ill w = rw w
-
-  module _ (w : (leb used len && f .well) ≡ true) where
-    pub inside : used ≤ len
-    inside = leb-true used len (and-first (leb used len) (f .well) w)
-
-    plan-dropped : f .end < f .start → planOf f used len ≡ planBy f 0 used used (len - used)
-    unfolding planOf
-    plan-dropped d = rw (w, lt-ltb (f .end) (f .start) d)
-
-    answer-dropped : f .end < f .start → answerOf f used len ≡ Insert.Used used
-    unfolding answerOf
-    answer-dropped d = rw (w, lt-ltb (f .end) (f .start) d)
-
-    module _ (right : f .start ≤ f .end) where
-      plan-put : f .at < len → planOf f used len ≡ planBy f used (f .at) (f .at + 1) (used + (len - f .at))
-      unfolding planOf
-      plan-put l = rw (w, le-ltb (f .end) (f .start) right, lt-ltb (f .at) len l)
-
-      answer-put : f .at < len → answerOf f used len ≡ Insert.Used (f .at + 1)
-      unfolding answerOf
-      answer-put l = rw (w, le-ltb (f .end) (f .start) right, lt-ltb (f .at) len l)
-
-      plan-full : len ≤ f .at → planOf f used len ≡ planBy f 0 0 0 0
-      unfolding planOf
-      plan-full l = rw (w, le-ltb (f .end) (f .start) right, le-ltb (f .at) len l)
-
-      answer-full : len ≤ f .at → answerOf f used len ≡ Insert.Refused (unplaced RangesFull)
-      unfolding answerOf
-      answer-full l = rw (w, le-ltb (f .end) (f .start) right, le-ltb (f .at) len l)
-
-  -- the turns stay within the slice
-  pub plan-fits : Fits (planOf f used len) len
-  plan-fits =
-      by-outcome f used len
-      (λ w. rw (plan-ill w) (omega arith, omega arith))
-      (λ w d. let h = inside w in rw (plan-dropped w d) (omega arith, omega (arith, h)))
-      (λ w d l. let h = inside w in rw (plan-put w d l) (omega (arith, h), omega (arith, h)))
-      (λ w d l. rw (plan-full w d l) (omega arith, omega arith))
+-- the turns stay within the slice
+pub plan-fits : (f : Scan) (used len : ℕ) → Fits (planOf f used len) len
+plan-fits f used len =
+    by-outcome f used len
+    (λ h. rw (← (plan-short f used len h (planBy f 0 0 0 0) refl)) (omega arith, omega arith))
+    (λ i t. rw (← (plan-ill f used len i t (planBy f 0 0 0 0) refl)) (omega arith, omega arith))
+    (λ i t d. rw (← (plan-dropped f used len i t d (planBy f 0 used used (len - used)) refl)) (omega arith, omega arith))
+    (λ i t o l. rw (← (plan-put f used len i t o l (planBy f used (f .at) (f .at + 1) (used + (len - f .at))) refl)) (omega arith, omega arith))
+    (λ i t o l. rw (← (plan-full f used len i t o l (planBy f 0 0 0 0) refl)) (omega arith, omega arith))
 
 module _ (slice : List Range) (used s e : ℕ) where
   abbrev F : Scan
@@ -388,66 +345,74 @@ module _ (slice : List Range) (used s e : ℕ) where
   unfolding rewritten after
   nothing-done = refl
 
-  called-ill : (leb used (length slice) && F .well) ≡ false → Called
+  called-ill : (leb used (length slice) && F .well) ≡ false → planBy F 0 0 0 0 ≡ planOf F used (length slice) → Insert.Refused (unplaced MalformedRanges) ≡ answerOf F used (length slice) → Called
   unfolding insertAnswer sliceAfter
-  called-ill w =
+  called-ill w plan answer =
       let c : insertCall slice used (pair s e) ≡ refuse MalformedRanges = call-ill slice used (pair s e) (sym (scan-formed slice used s e) ∙ w) in
-      (answer-ill F used (length slice) w ∙ rw c, ap (λ (p : Plan). rewritten p slice) (plan-ill F used (length slice) w) ∙ nothing-done ∙ rw c)
+      (sym answer ∙ rw c, ap (λ (p : Plan). rewritten p slice) (sym plan) ∙ nothing-done ∙ rw c)
 
-  module _ (w : (leb used (length slice) && F .well) ≡ true) where
-    formed : wellFormedRanges slice used ≡ true
-    formed = sym (scan-formed slice used s e) ∙ w
+  called-none : length slice < used → Called
+  called-none h = called-ill (rw (lt-leb used (length slice) h)) (plan-short F used (length slice) h (planBy F 0 0 0 0) refl) (answer-short F used (length slice) h (unplaced MalformedRanges) refl)
 
-    fits-in : used ≤ length slice
-    fits-in = inside F used (length slice) w
+  module _ (i : used ≤ length slice) where
+    called-unordered : not (F .well) ≡ true → Called
+    called-unordered t =
+        called-ill (rw (le-leb used (length slice) i, not-true (F .well) t)) (plan-ill F used (length slice) i t (planBy F 0 0 0 0) refl)
+        (answer-ill F used (length slice) i t (unplaced MalformedRanges) refl)
 
-    called-dropped : F .end < F .start → Called
-    unfolding insertAnswer sliceAfter insertRange
-    called-dropped d =
-        let turned-round : e < s = omega (arith, asked .0, asked .1) in
-        let long : length (take used slice) ≡ used = length-take-le used slice fits-in in
-        let c : insertCall slice used (pair s e) ≡ accepted (take used slice) = call-fits slice used (pair s e) formed (take used slice) (rw (lt-leb s e turned-round)) (omega (arith, long, fits-in)) in (
-          answer-dropped F used (length slice) w d ∙ rw (c, long),
-          ap (λ (p : Plan). rewritten p slice) (plan-dropped F used (length slice) w d)
-              ∙ rewritten-dropped (planBy F 0 used used (length slice - used)) slice (omega arith) refl refl fits-in refl ∙ rw (c, long),
-        )
+    module _ (t : not (F .well) ≡ false) where
+      formed : wellFormedRanges slice used ≡ true
+      formed = sym (scan-formed slice used s e) ∙ rw (le-leb used (length slice) i, not-false (F .well) t)
 
-    module _ (right : F .start ≤ F .end) where
-      in-order : s ≤ e
-      in-order = omega (arith, asked .0, asked .1)
-
-      joined : insertRange (pair s e) (take used slice) ≡ joinInto (pair s e) (take used slice)
-      unfolding insertRange
-      joined = rw (le-leb s e in-order)
-
-      abbrev P : Plan
-      P = planBy F used (F .at) (F .at + 1) (used + (length slice - F .at))
-
-      as-asked : F ≡ scanOf slice used (F .start) (F .end)
-      as-asked = sym (ap (λ (n : ℕ). scanOf slice used n (F .end)) (asked .0) ∙ ap (λ (n : ℕ). scanOf slice used s n) (asked .1))
-
-      same-range : joinInto (pair (F .start) (F .end)) (take used slice) ≡ joinInto (pair s e) (take used slice)
-      same-range = ap (λ (n : ℕ). joinInto (pair n (F .end)) (take used slice)) (asked .0) ∙ ap (λ (n : ℕ). joinInto (pair s n) (take used slice)) (asked .1)
-
-      long : length (joinInto (pair s e) (take used slice)) ≡ F .at + 1
-      long = ap length (sym same-range) ∙ joined-length P slice fits-in F as-asked refl refl refl
-
-      called-put : F .at < length slice → Called
-      unfolding insertAnswer sliceAfter
-      called-put l =
-          let c : insertCall slice used (pair s e) ≡ accepted (joinInto (pair s e) (take used slice)) = call-fits slice used (pair s e) formed (joinInto (pair s e) (take used slice)) joined (omega (arith, long)) in (
-            answer-put F used (length slice) w right l ∙ rw (c, long),
-            ap (λ (p : Plan). rewritten p slice) (plan-put F used (length slice) w right l)
-                ∙ rewritten-put P slice fits-in F as-asked refl refl refl refl l refl
-                ∙ ap (λ (l : List Range). l ++ replicate (length slice - (F .at + 1)) (pair 0 0)) same-range ∙ rw (c, long),
+      called-dropped : F .end < F .start → Called
+      unfolding insertAnswer sliceAfter insertRange
+      called-dropped d =
+          let turned-round : e < s = omega (arith, asked .0, asked .1) in
+          let long : length (take used slice) ≡ used = length-take-le used slice i in
+          let c : insertCall slice used (pair s e) ≡ accepted (take used slice) = call-fits slice used (pair s e) formed (take used slice) (rw (lt-leb s e turned-round)) (omega (arith, long)) in (
+            sym (answer-dropped F used (length slice) i t d) ∙ rw (c, long),
+            ap (λ (p : Plan). rewritten p slice) (sym (plan-dropped F used (length slice) i t d (planBy F 0 used used (length slice - used)) refl))
+                ∙ rewritten-dropped (planBy F 0 used used (length slice - used)) slice (omega arith) refl refl i refl ∙ rw (c, long),
           )
 
-      called-full : length slice ≤ F .at → Called
-      unfolding insertAnswer sliceAfter
-      called-full l =
-          let c : insertCall slice used (pair s e) ≡ refuse RangesFull = call-full slice used (pair s e) formed (joinInto (pair s e) (take used slice)) joined (omega (arith, long)) in
-          (answer-full F used (length slice) w right l ∙ rw c, ap (λ (p : Plan). rewritten p slice) (plan-full F used (length slice) w right l) ∙ nothing-done ∙ rw c)
+      module _ (right : F .start ≤ F .end) where
+        in-order : s ≤ e
+        in-order = omega (arith, asked .0, asked .1)
+
+        joined : insertRange (pair s e) (take used slice) ≡ joinInto (pair s e) (take used slice)
+        unfolding insertRange
+        joined = rw (le-leb s e in-order)
+
+        abbrev P : Plan
+        P = planBy F used (F .at) (F .at + 1) (used + (length slice - F .at))
+
+        as-asked : F ≡ scanOf slice used (F .start) (F .end)
+        as-asked = sym (ap (λ (n : ℕ). scanOf slice used n (F .end)) (asked .0) ∙ ap (λ (n : ℕ). scanOf slice used s n) (asked .1))
+
+        same-range : joinInto (pair (F .start) (F .end)) (take used slice) ≡ joinInto (pair s e) (take used slice)
+        same-range = ap (λ (n : ℕ). joinInto (pair n (F .end)) (take used slice)) (asked .0) ∙ ap (λ (n : ℕ). joinInto (pair s n) (take used slice)) (asked .1)
+
+        long : length (joinInto (pair s e) (take used slice)) ≡ F .at + 1
+        long = ap length (sym same-range) ∙ joined-length P slice i F as-asked refl refl refl
+
+        called-put : F .at < length slice → Called
+        unfolding insertAnswer sliceAfter
+        called-put l =
+            let c : insertCall slice used (pair s e) ≡ accepted (joinInto (pair s e) (take used slice)) = call-fits slice used (pair s e) formed (joinInto (pair s e) (take used slice)) joined (omega (arith, long)) in (
+              sym (answer-put F used (length slice) i t right l) ∙ rw (c, long),
+              ap (λ (p : Plan). rewritten p slice) (sym (plan-put F used (length slice) i t right l P refl))
+                  ∙ rewritten-put P slice i F as-asked refl refl refl refl l refl
+                  ∙ ap (λ (l : List Range). l ++ replicate (length slice - (F .at + 1)) (pair 0 0)) same-range ∙ rw (c, long),
+            )
+
+        called-full : length slice ≤ F .at → Called
+        unfolding insertAnswer sliceAfter
+        called-full l =
+            let c : insertCall slice used (pair s e) ≡ refuse RangesFull = call-full slice used (pair s e) formed (joinInto (pair s e) (take used slice)) joined (omega (arith, long)) in (
+              sym (answer-full F used (length slice) i t right l (unplaced RangesFull) refl) ∙ rw c,
+              ap (λ (p : Plan). rewritten p slice) (sym (plan-full F used (length slice) i t right l (planBy F 0 0 0 0) refl)) ∙ nothing-done ∙ rw c,
+            )
 
   -- after the pass, the turns and the answer are the model's
   pub insert-told : Called
-  insert-told = by-outcome F used (length slice) called-ill called-dropped called-put called-full
+  insert-told = by-outcome F used (length slice) called-none called-unordered called-dropped called-put called-full
