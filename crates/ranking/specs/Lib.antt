@@ -1,3 +1,4 @@
 pub mod Ranks
+pub mod Arranged
 pub mod Digits
 pub mod Reordered
