@@ -152,8 +152,24 @@ fn seat(
     Found::Insert(i)
 }
 
-// The key's place among the n entries, those before place `from` coming before it. The entry at `from` is tried first: one comparison for
-// a key that stands there or goes there.
+// The key's place among the n entries, those before place `from` coming before it.
+fn find_later(
+    text: &[u8],
+    words: &[u64],
+    index: usize,
+    used: usize,
+    n: usize,
+    from: usize,
+    key: Row,
+) -> Found
+    requires { ⌜ Ranked (now text) (now words) index used n × Whole (now text) key × (from ≤ n) × Passed (now text) (now words) index key from ⌝ }
+    ensures { λ r. ⌜ Seated (now (text .entry)) (now (words .entry)) index n key r ⌝ }
+{
+    let i = bound_entry(text, words, index, used, n, from, key);
+    seat(text, words, index, used, n, i, key)
+}
+
+// The same, where the entry at `from` is tried first: one comparison for a key that stands there or goes there.
 fn find_from(
     text: &[u8],
     words: &[u64],
@@ -177,8 +193,7 @@ fn find_from(
     if order::is_equal(order) {
         return Found::At(from);
     }
-    let i = bound_entry(text, words, index, used, n, from + 1, key);
-    seat(text, words, index, used, n, i, key)
+    find_later(text, words, index, used, n, from + 1, key)
 }
 
 // The same, where the key's place is likely to be `at`.
@@ -197,12 +212,12 @@ fn find_near(
     ensures { λ r. ⌜ Seated (now (text .entry)) (now (words .entry)) index n key r ⌝ }
 {
     if stands_before(text, words, index, used, n, at, key) {
-        return find_from(text, words, index, used, n, at + 1, key);
+        return find_later(text, words, index, used, n, at + 1, key);
     }
     if stands_before(text, words, index, used, n, at - 1, key) {
         return seat(text, words, index, used, n, at, key);
     }
-    find_from(text, words, index, used, n, from, key)
+    find_later(text, words, index, used, n, from, key)
 }
 
 // The same, where the key before it lay `gap` places behind where its search began: keys of texts that interleave have regular gaps.

@@ -25,5 +25,4 @@ find-from-spec =
     (λ c. omega arith)
     (λ c κs. let s = start (c .before .before .before .before .before .before) in
     (s .pre .0, s .pre .1, omega arith, passed-greater (s .args .key) (s .pre .0) (s .args .from) (omega arith) (cc) (cc)))
-    (λ c κs. let s = start (c .before .before .before .before .before .before .before) in (s .pre .0, s .pre .1, c .bound-entry .ensures))
     (λ c. search needs))
