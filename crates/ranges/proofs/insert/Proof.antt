@@ -63,6 +63,7 @@ use Rattle.ranges.proofs.Scan.Laws as S′
 use Rattle.ranges.proofs.Plan as P
 use Rattle.ranges.proofs.Plan.Laws as P′
 use Rattle.ranges.proofs.Shapes.{RangeT, ScanT, scan-val, scan-told, scan-is, PlanT, plan-val, plan-told, plan-is}
+use Rattle.ranges.proofs.Calls.{Asked, asks, ScanAll, to-scan, goes-scan, scan-of}
 use Rattle.ranges.proofs.InsertLaws.{plan-fits, insert-told}
 use Rattle.ranges.proofs.scan_all as scan-all
 use Rattle.ranges.proofs.scan_all.Symbol as scan-all-def
@@ -110,9 +111,6 @@ lent-mut = tyRef erased mut (pointee (RangeT .written))
 
 module _ {M : Type 1} (𝓤 : URA M) (H : Heap 𝓤) (A : Atoms 𝓤) (mem : Memory → SProp 𝓤) (run : Routine → Fun 𝓤) where
   -- the contracts that the proof cites
-  abbrev ScanAll : Contract 𝓤
-  ScanAll = tripleOf 𝓤 H A scan-all.signature (scan-all.spec 𝓤 H A mem run)
-
   abbrev Planning : Contract 𝓤
   Planning = tripleOf 𝓤 H A plan-of.signature (plan-of.spec 𝓤 H A mem run)
 
@@ -158,22 +156,9 @@ module _ {M : Type 1} (𝓤 : URA M) (H : Heap 𝓤) (A : Atoms 𝓤) (W : Given
       qed W (‵ (flft κ q) ∷ ‵ (finally RangeT γ zs) ∷ ‵ (AnswerT .own y (w ∷ [])) ∷ []) ∵
       suffices ! _ (ends-at 𝓤 H A insert.ended stayed (insert.clauses 𝓤 H A mem run) W (((κ, tt), (q, tt), tt, a, at), tt) w y (zs, (tt, (tt, (tt, tt)))) (long, (tt, (tt, (tt, tt))))) $ says ! told $
       nothing ! $ move ! (1 ∷ 0 ∷ []) $ join ! $ frame ! $
-      nothing ! $ owned ! u32 (Is u32) (uint-makes 𝓤 H A W w32) e _ (refl, e-fits) $ fjoin ! $ owned ! u32 (Is u32) (uint-makes 𝓤 H A W w32) s _ (refl, s-fits) $ fjoin ! $
-      owned ! usize (Is usize) (uint-makes 𝓤 H A W w64) used _ (refl, used-fits) $ fjoin ! $ move ! (1 ∷ 0 ∷ []) $ fjoin ! $ frame ! $ done !
+      use0 W (‵ (Asked used s e)) (asks 𝓤 H A W used s e used-fits s-fits e-fits) $ move ! (1 ∷ 0 ∷ []) $ fjoin ! $ frame ! $ done !
 
   -- what each callee's triple binds outside, and what it asks
-  abbrev to-scan : ℕ → GName → ScanAll 𝓤 H A mem run .Ghost
-  to-scan ν δ = (((ν ∷ [], tt), (fullShare, tt), tt, (x δ, (used, (s, (e, tt)))), at), tt)
-
-  goes-scan : (ν : ℕ) (δ : GName) → ent 𝓤 (sep 𝓤 (A .lft (ν ∷ []) fullShare) (sem 𝓤 H A (ShrSlice (named 0) (ν ∷ []) RangeT .own (x δ) (at .0)))) (ScanAll 𝓤 H A mem run .pre (to-scan ν δ))
-  goes-scan ν δ =
-      qed W (‵ (flft (ν ∷ []) fullShare) ∷ ‵ (ShrSlice (named 0) (ν ∷ []) RangeT .own (x δ) (at .0)) ∷ []) ∵ nothing ! $ move ! (1 ∷ 0 ∷ []) $ join ! $
-      nothing ! $ owned ! u32 (Is u32) (uint-makes 𝓤 H A W w32) e _ (refl, e-fits) $ fjoin ! $ owned ! u32 (Is u32) (uint-makes 𝓤 H A W w32) s _ (refl, s-fits) $ fjoin ! $
-      owned ! usize (Is usize) (uint-makes 𝓤 H A W w64) used _ (refl, used-fits) $ fjoin ! $ move ! (2 ∷ 0 ∷ []) $ fjoin ! $ move ! (1 ∷ 0 ∷ []) $ join ! $ frame ! $ done !
-
-  scan-of : (ν : ℕ) (δ : GName) (r : Scan) → ent 𝓤 (ensured 𝓤 H A scan-all.ended (scan-all.clauses 𝓤 H A mem run) (ν ∷ [], tt) (x δ, (used, (s, (e, tt)))) tt r) (fact 𝓤 (r ≡ scanOf ys used s e))
-  scan-of ν δ r = exE 𝓤 _ (λ ws. snd∗ 𝓤 (sem 𝓤 H A (lasts scan-all.ended (ν ∷ [], tt) (x δ, (used, (s, (e, tt)))) ws)) (fact 𝓤 (r ≡ scanOf ys used s e)))
-
   abbrev to-plan : Scan → Planning 𝓤 H A mem run .Ghost
   to-plan f = ((tt, tt, tt, (f, (used, (length ys, tt))), (scan-val f ∷ [], (vint w64 used ∷ [], (vint w64 (length ys) ∷ [], tt)))), tt)
 
@@ -289,11 +274,11 @@ module _ {M : Type 1} (𝓤 : URA M) (H : Heap 𝓤) (A : Atoms 𝓤) (W : Given
         -- the borrow is opened, and all of it is lent as a `&` for a lifetime ν of the call
         move ! (1 ∷ []) $ fsplit ! $ let-go ! $ fsplit ! $ opens-slice ! tt RangeT ys b o $ feqI ! ℕ (length ys) (length ys) refl $ fjoin ! $ lft-new ! tt (λ ν. move ! (1 ∷ []) $
         use1 W (later (some (λ (δ : GName). ‵ (ShrSlice (named 0) (ν ∷ []) RangeT .own (x δ) (at .0)) ⊛ ‵ (flent (ν ∷ []) Parts)))) (lends-shr-slice 𝓤 H A W RangeT (named 0) (ν ∷ []) fullShare ys b o room) $ await ! tt $ pick ! (λ δ. split ! $
-        move ! (2 ∷ 0 ∷ []) $ use2 W (raw (ScanAll 𝓤 H A mem run .pre (to-scan ν δ))) (goes-scan ν δ) $
+        move ! (2 ∷ 0 ∷ []) $ use2 W (raw (ScanAll 𝓤 H A mem run .pre (to-scan 𝓤 H A W mem run (ν ∷ []) fullShare b o δ ys used s e))) (goes-scan 𝓤 H A W mem run (ν ∷ []) fullShare b o δ ys used s e used-fits s-fits e-fits) $
         -- [`scan_all`'s pre; the lender's part; the open borrow; obs; auth; the locals: j at 29 - 2 j]
-        calls-at ! fm (ScanAll 𝓤 H A mem run) known (to-scan ν δ) (and-then ! (load ! (from ! (stop !)) (look ! 11 refl)) (and-then ! (load ! (from ! (stop !)) (look ! 25 refl)) (and-then ! (load ! (from ! (stop !)) (look ! 23 refl)) (and-then ! (load ! (from ! (stop !)) (look ! 21 refl)) (no-more !))))) (λ v.
+        calls-at ! fm (ScanAll 𝓤 H A mem run) known (to-scan 𝓤 H A W mem run (ν ∷ []) fullShare b o δ ys used s e) (and-then ! (load ! (from ! (stop !)) (look ! 11 refl)) (and-then ! (load ! (from ! (stop !)) (look ! 25 refl)) (and-then ! (load ! (from ! (stop !)) (look ! 23 refl)) (and-then ! (load ! (from ! (stop !)) (look ! 21 refl)) (no-more !))))) (λ v.
         use1 W (later (some (λ (f : Scan). ((‵ (flft (ν ∷ []) fullShare) ⊛ ‵ ftrue) ⊛ ‵ (ScanT .own f (v ∷ []))) ⊛ raw (ensured 𝓤 H A scan-all.ended (scan-all.clauses 𝓤 H A mem run) (ν ∷ [], tt) (x δ, (used, (s, (e, tt)))) tt f)))) (id⊢ 𝓤 _) $ await ! tt $ pick ! (λ f.
-        split ! $ move ! (1 ∷ []) $ use1 W (raw (fact 𝓤 (f ≡ scanOf ys used s e))) (scan-of ν δ f) $ heard ! (f ≡ scanOf ys used s e) (λ scanned. split ! $ move ! (1 ∷ []) $ facts ! ScanT (Is ScanT) (shows 𝓤 H A ScanT) f (v ∷ []) (λ is.
+        split ! $ move ! (1 ∷ []) $ use1 W (raw (fact 𝓤 (f ≡ scanOf ys used s e))) (scan-of 𝓤 H A W mem run (ν ∷ []) fullShare b o δ ys used s e f) $ heard ! (f ≡ scanOf ys used s e) (λ scanned. split ! $ move ! (1 ∷ []) $ facts ! ScanT (Is ScanT) (shows 𝓤 H A ScanT) f (v ∷ []) (λ is.
         land ! (from ! (stop !)) (init ! 17 refl (LL.lawful S.the-type S′.the-laws 𝓤 H A W .typed f _ is .0)) $ rewrite ! 17 (λ (z : Val). ‵ (fat fullShare S′.mir l₆ 0 z)) (scan-told f v is) refl $
         -- the lifetime is ended, and the borrow is closed at the list that it had
         split ! $ lft-end ! tt $ move ! (0 ∷ 2 ∷ []) $ lent-back ! tt $ fsplit ! $ let-go ! $ move ! (0 ∷ 2 ∷ 3 ∷ 4 ∷ []) $ closes-slice ! tt RangeT ys ys refl b o $

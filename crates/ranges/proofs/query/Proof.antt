@@ -49,6 +49,7 @@ use Rattle.ranges.specs.Scans.{scanOf, scanAnswer}
 use Rattle.ranges.proofs.Scan as S
 use Rattle.ranges.proofs.Scan.Laws as S′
 use Rattle.ranges.proofs.Shapes.{RangeT, ScanT, scan-val, scan-told, scan-is}
+use Rattle.ranges.proofs.Calls.{Asked, asks, ScanAll, to-scan, goes-scan, scan-of}
 use Rattle.ranges.proofs.ScanLaws.{query-told}
 use Rattle.ranges.proofs.scan_all as scan-all
 use Rattle.ranges.proofs.scan_all.Symbol as scan-all-def
@@ -71,9 +72,6 @@ AnswerT = Q.the-row
 
 module _ {M : Type 1} (𝓤 : URA M) (H : Heap 𝓤) (A : Atoms 𝓤) (mem : Memory → SProp 𝓤) (run : Routine → Fun 𝓤) where
   -- the contracts that the proof cites
-  abbrev ScanAll : Contract 𝓤
-  ScanAll = tripleOf 𝓤 H A scan-all.signature (scan-all.spec 𝓤 H A mem run)
-
   abbrev Answered : Contract 𝓤
   Answered = tripleOf 𝓤 H A query-answer.signature (query-answer.spec 𝓤 H A mem run)
 
@@ -99,20 +97,7 @@ module _ {M : Type 1} (𝓤 : URA M) (H : Heap 𝓤) (A : Atoms 𝓤) (W : Given
       qed W (‵ (flft κ q) ∷ ‵ (ShrSlice (named 0) κ RangeT .own (a .0) (at .0)) ∷ ‵ (AnswerT .own y (w ∷ [])) ∷ []) ∵
       suffices ! _ (ends-at 𝓤 H A query.ended stayed (query.clauses 𝓤 H A mem run) W (((κ, tt), (q, tt), tt, a, at), tt) w y (tt, (tt, (tt, (tt, tt)))) (tt, (tt, (tt, (tt, tt))))) $ says ! told $
       nothing ! $ move ! (1 ∷ 0 ∷ []) $ join ! $ frame ! $
-      nothing ! $ owned ! u32 (Is u32) (uint-makes 𝓤 H A W w32) e _ (refl, e-fits) $ fjoin ! $ owned ! u32 (Is u32) (uint-makes 𝓤 H A W w32) s _ (refl, s-fits) $ fjoin ! $
-      owned ! usize (Is usize) (uint-makes 𝓤 H A W w64) used _ (refl, used-fits) $ fjoin ! $ move ! (1 ∷ 0 ∷ []) $ fjoin ! $ frame ! $ done !
-
-  abbrev to-scan : ScanAll 𝓤 H A mem run .Ghost
-  to-scan = (((κ, tt), (q, tt), tt, a, at), tt)
-
-  goes-scan : ent 𝓤 (sep 𝓤 (A .lft κ q) (sem 𝓤 H A (ShrSlice (named 0) κ RangeT .own (a .0) (at .0)))) (ScanAll 𝓤 H A mem run .pre to-scan)
-  goes-scan =
-      qed W (‵ (flft κ q) ∷ ‵ (ShrSlice (named 0) κ RangeT .own (a .0) (at .0)) ∷ []) ∵ nothing ! $ move ! (1 ∷ 0 ∷ []) $ join ! $
-      nothing ! $ owned ! u32 (Is u32) (uint-makes 𝓤 H A W w32) e _ (refl, e-fits) $ fjoin ! $ owned ! u32 (Is u32) (uint-makes 𝓤 H A W w32) s _ (refl, s-fits) $ fjoin ! $
-      owned ! usize (Is usize) (uint-makes 𝓤 H A W w64) used _ (refl, used-fits) $ fjoin ! $ move ! (2 ∷ 0 ∷ []) $ fjoin ! $ move ! (1 ∷ 0 ∷ []) $ join ! $ frame ! $ done !
-
-  scan-of : (r : Scan) → ent 𝓤 (ensured 𝓤 H A scan-all.ended (scan-all.clauses 𝓤 H A mem run) (κ, tt) a tt r) (fact 𝓤 (r ≡ scanOf ys used s e))
-  scan-of r = exE 𝓤 _ (λ ws. snd∗ 𝓤 (sem 𝓤 H A (lasts scan-all.ended (κ, tt) a ws)) (fact 𝓤 (r ≡ scanOf ys used s e)))
+      use0 W (‵ (Asked used s e)) (asks 𝓤 H A W used s e used-fits s-fits e-fits) $ move ! (1 ∷ 0 ∷ []) $ fjoin ! $ frame ! $ done !
 
   abbrev to-answer : Scan → Answered 𝓤 H A mem run .Ghost
   to-answer f = ((tt, tt, tt, (f, (used, (length ys, tt))), (scan-val f ∷ [], (vint w64 used ∷ [], (vint w64 (length ys) ∷ [], tt)))), tt)
@@ -132,11 +117,11 @@ module _ {M : Type 1} (𝓤 : URA M) (H : Heap 𝓤) (A : Atoms 𝓤) (W : Given
         alloc1 ! (λ l₀. alloc1 ! (λ l₁. alloc1 ! (λ l₂. alloc1 ! (λ l₃. alloc1 ! (λ l₄. alloc1 ! (λ l₅. alloc1 ! (λ l₆. alloc0 ! $ params1 ! $
         pass1 ! (init ! 10 refl (tt, (tt, (record { fits = room .0 }, tt)))) $ pass1 ! (init ! 8 refl (tt, record { fits = used-fits })) $ pass1 ! (init ! 6 refl (tt, record { fits = s-fits })) $ pass1 ! (init ! 4 refl (tt, record { fits = e-fits })) $ pass0 ! $
         move ! (15 ∷ []) $ fsplit ! $ use1 W (‵ (ShrSlice (named 0) κ RangeT .own (a .0) (at .0)) ⊛ ‵ (ShrSlice (named 0) κ RangeT .own (a .0) (at .0))) (shr-slice-copy 𝓤 H A W (named 0) κ RangeT .twice (a .0) (at .0)) $ split ! $
-        move ! (17 ∷ []) $ split ! $ move ! (0 ∷ 2 ∷ []) $ use2 W (raw (ScanAll 𝓤 H A mem run .pre to-scan)) goes-scan $
+        move ! (17 ∷ []) $ split ! $ move ! (0 ∷ 2 ∷ []) $ use2 W (raw (ScanAll 𝓤 H A mem run .pre (to-scan 𝓤 H A W mem run κ q b o γ ys used s e))) (goes-scan 𝓤 H A W mem run κ q b o γ ys used s e used-fits s-fits e-fits) $
         -- [`scan_all`'s pre; true; what list owns; the others'; _6; …; _5; …; _4; …; _3; …; _2; …; _1; …; room for _0; …]
-        calls-at ! fm (ScanAll 𝓤 H A mem run) known-scan to-scan (and-then ! (load ! (from ! (stop !)) (look ! 14 refl)) (and-then ! (load ! (from ! (stop !)) (look ! 12 refl)) (and-then ! (load ! (from ! (stop !)) (look ! 10 refl)) (and-then ! (load ! (from ! (stop !)) (look ! 8 refl)) (no-more !))))) (λ v.
+        calls-at ! fm (ScanAll 𝓤 H A mem run) known-scan (to-scan 𝓤 H A W mem run κ q b o γ ys used s e) (and-then ! (load ! (from ! (stop !)) (look ! 14 refl)) (and-then ! (load ! (from ! (stop !)) (look ! 12 refl)) (and-then ! (load ! (from ! (stop !)) (look ! 10 refl)) (and-then ! (load ! (from ! (stop !)) (look ! 8 refl)) (no-more !))))) (λ v.
         use1 W (later (some (λ (r : Scan). ((‵ (flft κ q) ⊛ ‵ ftrue) ⊛ ‵ (ScanT .own r (v ∷ []))) ⊛ raw (ensured 𝓤 H A scan-all.ended (scan-all.clauses 𝓤 H A mem run) (κ, tt) a tt r)))) (id⊢ 𝓤 _) $ await ! tt $ pick ! (λ r.
-        split ! $ move ! (1 ∷ []) $ use1 W (raw (fact 𝓤 (r ≡ scanOf ys used s e))) (scan-of r) $ heard ! (r ≡ scanOf ys used s e) (λ scanned. split ! $ move ! (1 ∷ []) $ facts ! ScanT (Is ScanT) (shows 𝓤 H A ScanT) r (v ∷ []) (λ is.
+        split ! $ move ! (1 ∷ []) $ use1 W (raw (fact 𝓤 (r ≡ scanOf ys used s e))) (scan-of 𝓤 H A W mem run κ q b o γ ys used s e r) $ heard ! (r ≡ scanOf ys used s e) (λ scanned. split ! $ move ! (1 ∷ []) $ facts ! ScanT (Is ScanT) (shows 𝓤 H A ScanT) r (v ∷ []) (λ is.
         -- [the token; true; what list owns; the others'; _6; …]
         land ! (from ! (stop !)) (init ! 6 refl (LL.lawful S.the-type S′.the-laws 𝓤 H A W .typed r _ is .0)) $ rewrite ! 6 (λ (w : Val). ‵ (fat fullShare S′.mir l₅ 0 w)) (scan-told r v is) refl $
         assigns ! (of-opd ! (load ! (from ! (fld ! refl (stop !))) (look-in ! 14 (sub ! 1 refl (whole !))))) (from ! (stop !)) (init ! 4 refl (tt, record { fits = room .0 })) $

@@ -59,7 +59,7 @@ use Rattle.ranges.specs.Scans.{scanStart, scannedBy, scanFrom, scanOf}
 use Rattle.ranges.proofs.Scan as S
 use Rattle.ranges.proofs.Scan.Laws as S′
 use Rattle.ranges.proofs.Shapes.{RangeT, range-vals, range-val, ScanT, scan-val, scan-told, scan-is, offset-fits, next-fits, by-cases}
-use Rattle.ranges.proofs.Calls.{Within, within-of, to-within, goes-within, Started, started-of, to-start, goes-start, Scanned, scanned-of, to-scanned, goes-scanned}
+use Rattle.ranges.proofs.Calls.{Asked, asks, Within, within-of, to-within, goes-within, Started, started-of, to-start, goes-start, Scanned, scanned-of, to-scanned, goes-scanned}
 use Rattle.ranges.proofs.ScanLaws.{scan-begun, scan-next, scan-done}
 use Rattle.ranges.proofs.within as within
 use Rattle.ranges.proofs.within.Symbol as within-def
@@ -117,8 +117,7 @@ module _ {M : Type 1} (𝓤 : URA M) (H : Heap 𝓤) (A : Atoms 𝓤) (W : Given
       qed W (‵ (flft κ q) ∷ Named ∷ Shared ∷ []) ∵
       suffices ! _ (ends-at 𝓤 H A scan-all.ended stayed (scan-all.clauses 𝓤 H A mem run) W (((κ, tt), (q, tt), tt, a, at), tt) (scan-val r) r (tt, (tt, (tt, (tt, tt)))) (tt, (tt, (tt, (tt, tt))))) $ says ! told $
       nothing ! $ move ! (1 ∷ 0 ∷ []) $ join ! $ frame ! $ fjoin ! $ pureI ! (at-slice RangeT (a .0) (at .0)) (tt, (tt, tt)) (refl, room) $ fjoin ! $
-      nothing ! $ owned ! u32 (Is u32) (uint-makes 𝓤 H A W w32) e _ (refl, e-fits) $ fjoin ! $ owned ! u32 (Is u32) (uint-makes 𝓤 H A W w32) s _ (refl, s-fits) $ fjoin ! $
-      owned ! usize (Is usize) (uint-makes 𝓤 H A W w64) used _ (refl, used-fits) $ fjoin ! $ move ! (1 ∷ 0 ∷ []) $ fjoin ! $ frame ! $
+      use0 W (‵ (Asked used s e)) (asks 𝓤 H A W used s e used-fits s-fits e-fits) $ move ! (1 ∷ 0 ∷ []) $ fjoin ! $ frame ! $
       owned ! ScanT (Is ScanT) (LL.makes S.the-type S′.the-plain 𝓤 H A) r _ is $ done !
 
   abbrev n : ℕ
