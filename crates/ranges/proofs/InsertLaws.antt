@@ -1,13 +1,13 @@
 -- An insert's turns do what the model's insert does. Assumes nothing.
-use Prim.Native.Nat.{ℕ, zero, suc, _+_, _-_, _≤_, _<_, min, max}
+use Prim.Native.Nat.{ℕ, zero, suc, _+_, _-_, _≤_, _<_, min}
 use native.Mathlib.Nat.{add-suc, add-zero}
 use native.Mathlib.Omega.{arith}
 use native.Mathlib.Numerals.{add-one}
 use mathlib.Core.Path.{_≡_, refl, sym, ap, _∙_}
-use mathlib.Core.Bool.{Bool, true, false, not, _&&_}
+use mathlib.Core.Bool.{true, false, not, _&&_}
 use mathlib.Core.List.{List, [], _∷_, _++_, append-assoc, append-nil}
 use lib.Dec.{leb, ltb}
-use lib.ListN.{length, getD, set, take, drop, replicate, length-set, length-take, length-append, drop-of-length-le, replicate-append-replicate}
+use lib.ListN.{length, getD, set, take, drop, replicate, length-set, length-take, drop-of-length-le, replicate-append-replicate}
 use lib.Seq.{take-all, length-take-le, drop-cons, append-snoc, getD-take, getD-set-other, take-set-le, take-suc-set}
 use borrow.Author.Tests.{not-true, not-false, le-leb, lt-leb, lt-ltb, le-ltb, ltb-true, ltb-false}
 use Rattle.model.specs.declared.Range.{Range}

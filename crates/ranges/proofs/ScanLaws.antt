@@ -68,21 +68,21 @@ module _ (f : Scan) (x : Range) where
 
 module _ (f : Scan) (next : ℕ) (x : Range) (w h p : Bool) (isw : w ≡ (f .well && leb (f .least) (x .start) && leb (x .start) (x .end)))
     (ish : h ≡ (f .held || (leb (x .start) (f .end) && leb (f .start) (x .end)))) (isp : p ≡ passesBy f x) where
-  abbrev seen : Bool → ℕ → ℕ → ℕ → Scan
-  seen past low high at = record { start = f .start; end = f .end; well = w; least = x .end + 2; held = h; past = past; low = low; high = high; at = at }
+  abbrev seen : ℕ → ℕ → ℕ → Scan
+  seen low high at = record { start = f .start; end = f .end; well = w; least = x .end + 2; held = h; past = p; low = low; high = high; at = at }
 
-  pub scanned-past : p ≡ true → (at : ℕ) → at ≡ min (f .at + 1) next → seen true (x .start) (x .end) at ≡ scannedBy f next x
+  pub scanned-past : p ≡ true → (at : ℕ) → at ≡ min (f .at + 1) next → seen (x .start) (x .end) at ≡ scannedBy f next x
   unfolding scannedBy
-  scanned-past t at e = let z : passesBy f x ≡ true = sym isp ∙ t in rw (isw, ish, e, z)
+  scanned-past t at e = let z : passesBy f x ≡ true = sym isp ∙ t in rw (isw, ish, e, z, t)
 
   module _ (t : p ≡ false) (q : Bool) (isq : q ≡ staysBy f x) where
-    pub scanned-stays : q ≡ true → (at : ℕ) → at ≡ min (f .at + 1) next → seen false (f .low) (f .high) at ≡ scannedBy f next x
+    pub scanned-stays : q ≡ true → (at : ℕ) → at ≡ min (f .at + 1) next → seen (f .low) (f .high) at ≡ scannedBy f next x
     unfolding scannedBy
-    scanned-stays s at e = let z : passesBy f x ≡ false = sym isp ∙ t in let y : staysBy f x ≡ true = sym isq ∙ s in rw (isw, ish, e, z, y)
+    scanned-stays s at e = let z : passesBy f x ≡ false = sym isp ∙ t in let y : staysBy f x ≡ true = sym isq ∙ s in rw (isw, ish, e, z, y, t)
 
-    pub scanned-joined : q ≡ false → (lo hi : ℕ) → lo ≡ min (f .low) (x .start) → hi ≡ max (f .high) (x .end) → seen false lo hi (f .at) ≡ scannedBy f next x
+    pub scanned-joined : q ≡ false → (lo hi : ℕ) → lo ≡ min (f .low) (x .start) → hi ≡ max (f .high) (x .end) → seen lo hi (f .at) ≡ scannedBy f next x
     unfolding scannedBy
-    scanned-joined s lo hi el eh = let z : passesBy f x ≡ false = sym isp ∙ t in let y : staysBy f x ≡ false = sym isq ∙ s in rw (isw, ish, el, eh, z, y)
+    scanned-joined s lo hi el eh = let z : passesBy f x ≡ false = sym isp ∙ t in let y : staysBy f x ≡ false = sym isq ∙ s in rw (isw, ish, el, eh, z, y, t)
 
 -- ---- one range after the other
 

@@ -7,7 +7,7 @@ use model::QueryAnswer;
 use model::Range;
 ghost use mathlib.Core.Path.{_≡_};
 ghost use mathlib.Core.Bool.{_&&_, _||_};
-ghost use Prim.Native.Nat.{_+_, _-_, _<_, _^_, min, max};
+ghost use Prim.Native.Nat.{_+_, _-_, _<_, _^_, min};
 ghost use lib.Dec.{leb};
 ghost use lib.ListN.{length, getD, set};
 ghost use Rattle.model.specs.Ranges.{queryCall, insertCall, sliceAfter};
@@ -117,49 +117,28 @@ fn counted(at: usize, next: usize) -> usize
     next
 }
 
+// The pass with one more range: x, at the place before `next`.
 fn scanned(found: Scan, next: usize, x: Range) -> Scan
     ensures { λ r. ⌜ r ≡ scannedBy found next x ⌝ }
 {
-    let well = in_order(found.well, found.least, x);
-    let held = holds_one(found.held, x, found.start, found.end);
-    let least = x.end as u64 + 2;
-    if passes(found, x) {
-        return Scan {
-            start: found.start,
-            end: found.end,
-            well,
-            least,
-            held,
-            past: true,
-            low: x.start,
-            high: x.end,
-            at: counted(found.at, next),
-        };
+    let mut after = found;
+    after.well = in_order(found.well, found.least, x);
+    after.least = x.end as u64 + 2;
+    after.held = holds_one(found.held, x, found.start, found.end);
+    after.past = passes(found, x);
+    if after.past {
+        after.low = x.start;
+        after.high = x.end;
+        after.at = counted(found.at, next);
+        return after;
     }
     if stays(found, x) {
-        return Scan {
-            start: found.start,
-            end: found.end,
-            well,
-            least,
-            held,
-            past: false,
-            low: found.low,
-            high: found.high,
-            at: counted(found.at, next),
-        };
+        after.at = counted(found.at, next);
+        return after;
     }
-    Scan {
-        start: found.start,
-        end: found.end,
-        well,
-        least,
-        held,
-        past: false,
-        low: line_num::lesser(found.low, x.start),
-        high: line_num::greater(found.high, x.end),
-        at: found.at,
-    }
+    after.low = line_num::lesser(found.low, x.start);
+    after.high = line_num::greater(found.high, x.end);
+    after
 }
 
 // The lesser of two places, or of a number and a length.

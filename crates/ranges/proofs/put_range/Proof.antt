@@ -1,6 +1,6 @@
 -- `ranges::put_range` meets its contract: a walk of its MIR, by hand. The borrow is opened, the element is taken out of the row and stored to, and the borrow is closed at the list with the range in it.
 -- Assumes nothing.
-use mathlib.Core.Path.{_≡_, refl, sym, ap, subst}
+use mathlib.Core.Path.{refl, sym, ap, subst}
 use Prim.Native.Nat.{ℕ, _<_, _^_}
 use mathlib.Core.List.{List, [], _∷_}
 use lib.ListN.{length, set, length-set}
