@@ -124,8 +124,8 @@ fn settle_many(
     }
 }
 
-// The open section is kept, where a settled one has its key. One of the same size comes in its place, and the late ones stay late; else
-// all are settled first.
+// The open section is kept, where a settled one has its key. One of the same size comes in its place: no other entry moves, and the late
+// ones stay late. Else all are settled first.
 fn replace(
     text: &[u8],
     words: &mut [u64],

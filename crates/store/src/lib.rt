@@ -146,7 +146,7 @@ pub fn bring_block(
     move_down(words, spare, index + to, n);
 }
 
-// The n rows at `lo` and the n at `mid` change places: as blocks are turned, and those between stay. `spare` is where n free words start.
+// The n rows at `lo` and the n at `mid` change places, and those between stay. `spare` is where n free words start.
 pub fn exchange(
     words: &mut [u64],
     index: usize,
@@ -166,7 +166,8 @@ pub fn exchange(
     move_down(words, spare, index + mid, n);
 }
 
-// The blocks from lo, from hi and from mid, up to `end`, change places: the last comes first and the first last.
+// The blocks from lo, from hi and from mid, up to `end`, change places: the last comes first and the first last. Where these two are of one
+// size, the one between stays, however many it has.
 pub fn turn(
     words: &mut [u64],
     index: usize,
