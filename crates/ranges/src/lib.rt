@@ -31,7 +31,7 @@ pub fn put_range(list: &mut [Range], i: usize, range: Range)
 }
 
 // A pass over the ranges used: it asks for the lines from start to end, and tells what becomes of them as a range that is put in.
-pub struct Scan {
+struct Scan {
     start: u32,
     end: u32,
     // the ranges so far are in order, and the next has to start at `least` or later
@@ -86,6 +86,7 @@ fn holds_one(held: bool, x: Range, start: u32, end: u32) -> bool
     start <= x.end
 }
 
+// What is put down next stands before x, with a line between: it goes down now.
 fn passes(found: Scan, x: Range) -> bool
     ensures { λ r. ⌜ r ≡ passesBy found x ⌝ }
 {
@@ -98,6 +99,7 @@ fn passes(found: Scan, x: Range) -> bool
     (found.high as u64) + 1 < x.start as u64
 }
 
+// x stands before the range to put in, with a line between: it goes down first.
 fn stays(found: Scan, x: Range) -> bool
     ensures { λ r. ⌜ r ≡ staysBy found x ⌝ }
 {
@@ -151,6 +153,7 @@ fn within(used: usize, len: usize) -> usize
     len
 }
 
+// The pass over the ranges used, or over the whole slice where it is shorter.
 fn scan_all(list: &[Range], used: usize, start: u32, end: u32) -> Scan
     ensures { λ r. ⌜ r ≡ scanOf (now (list .entry)) used start end ⌝ }
 {
@@ -187,7 +190,7 @@ pub fn query(list: &[Range], used: usize, s: u32, e: u32) -> QueryAnswer
 
 // What an insert does to the slice, in so many turns: the first `woven` read the ranges used, one each, and put them down again with
 // the range among them; the others fill the places from `from` on, with one range below place n and zeros behind.
-pub struct Plan {
+struct Plan {
     woven: usize,
     from: usize,
     n: usize,
@@ -199,7 +202,7 @@ pub struct Plan {
 }
 
 // A range and its place.
-pub struct Put {
+struct Put {
     at: usize,
     range: Range,
 }
@@ -219,6 +222,7 @@ fn planned(found: Scan, woven: usize, from: usize, n: usize, turns: usize) -> Pl
     }
 }
 
+// What is to be done after the pass. On a refusal nothing is, so that the slice stays as it is.
 fn plan_of(found: Scan, used: usize, len: usize) -> Plan
     requires { ⌜ len < 2 ^ 63 ⌝ }
     ensures { λ r. ⌜ r ≡ planOf found used len ⌝ }
@@ -256,6 +260,7 @@ fn insert_answer(found: Scan, used: usize, len: usize) -> InsertAnswer
     InsertAnswer::Refused(refusal::unplaced(Fault::RangesFull))
 }
 
+// The place that a turn reads.
 fn read_at(plan: Plan, t: usize) -> usize
     requires { ⌜ plan .from + (t - plan .woven) < 2 ^ 64 ⌝ }
     ensures { λ r. ⌜ r ≡ readAt plan t ⌝ }
@@ -266,6 +271,7 @@ fn read_at(plan: Plan, t: usize) -> usize
     plan.from + (t - plan.woven)
 }
 
+// What a turn that read x at place k puts where: at k or before it, so that no range is lost that is still to be read.
 fn put_at(plan: Plan, found: Scan, t: usize, k: usize, x: Range) -> Put
     ensures { λ r. ⌜ r ≡ putAt plan found t k x ⌝ }
 {
@@ -302,6 +308,7 @@ fn put_at(plan: Plan, found: Scan, t: usize, k: usize, x: Range) -> Put
     }
 }
 
+// The turns, one after the other: reading never falls behind writing.
 fn rewrite(list: &mut [Range], plan: Plan)
     requires { ⌜ Fits plan (length (now list)) ⌝ }
     ensures { λ _. ⌜ now (list .exit) ≡ rewritten plan (now (list .entry)) ⌝ }
