@@ -20,8 +20,13 @@ find-near-spec =
     (λ c. search needs)
     (λ c. omega arith)
     (λ c κs. let s = start (c .before) in (s .pre .0 .0, s .pre .0 .1, omega arith))
-    (λ c κs. let s = start (c .before .before .before) in
-    (s .pre .0 .0, s .pre .0 .1, cut-here (s .args .key) (s .pre .0 .0) (s .args .at) (omega arith) (s .pre .1 .1) (cc) (cc)))
+    (λ c κs. let b = c .before .before .before in
+    let s = start b in (
+      s .pre .0 .0,
+      s .pre .0 .1,
+      cut-here (s .args .key) (s .pre .0 .0) (s .args .at) (omega arith) (s .pre .1 .1) (sym (b .stands-before .ensures) ∙ c .before .before .if1 .left)
+          (sym (c .before .stands-before2 .ensures) ∙ c .if2 .taken),
+    ))
     (λ c. search needs)
     (λ c κs. let s = start (c .before .before .before) in s .pre .0)
     (λ c. search needs))
