@@ -15,16 +15,16 @@ use Rattle.model.specs.declared.Fault.{Fault}
 use Rattle.model.specs.Answer.{Answer}
 use Rattle.model.specs.Report.{Item, within}
 use Rattle.items.specs.Items.{itemOf, Inner}
-use Rattle.items.specs.Open.{itemFrom, itemsAt}
+use Rattle.items.specs.Open.{itemFrom, itemsAt, Open}
 use Rattle.ranking.specs.Reordered.{Reordered}
 use Rattle.entering.specs.declared.Entered.{Entered}
 use Rattle.entering.specs.declared.Entered.the-variants.{Items, Refused}
-use Rattle.entering.specs.Parts.{insert, union, allAt, Parted, Settled}
+use Rattle.entering.specs.Parts.{insert, allAt, Parted, Settled}
 use Rattle.entering.specs.Entering.{seen, Entering}
-use Rattle.entering.proofs.EnterLaws.{within-fits, parts-length, parted-none}
+use Rattle.entering.proofs.EnterLaws.{within-fits, parts-length, none-recent, parted-none}
 use Rattle.queueing.specs.declared.Sizes.{Sizes}
 use Rattle.queueing.specs.Queue.{queuedOn, Queued, OneMore, Replayed, Emptied, InOrder}
-use Rattle.queueing.proofs.QueueLaws.{insert-added, insert-length, queued-last, queued-keys}
+use Rattle.queueing.proofs.QueueLaws.{insert-added, insert-length, queued-last, queued-sorted, queued-keys}
 use Rattle.queueing.proofs.HeldLaws.{none-queued, queued-none, all-inner, all-queued, items-last}
 
 -- ---- one row
@@ -78,18 +78,22 @@ pub record Replaying (text ws₀ ws : List ℕ) (index used spare at : ℕ) (s :
   pub others : Same (row ws₀ index) (row ws index) 0 at
   pub behind : Same (row ws₀ index) (row ws index) (at + i) used
 
-pub replaying-none : {text ws : List ℕ} {index used spare at turns : ℕ} → Store ws index used → at ≤ used
-    → Replaying text ws ws index used spare at (record { settled = 0; recent = 0; queued = 0; turns = turns }) 0
-unfolding queuedOn union listed
-replaying-none σ l = record {
-  items = refl;
-  still = parted-none (record { store = σ; room = omega arith; inner = λ k m. absurd (omega arith); sorted = tt });
+-- sorted items are entered already
+pub replaying-sorted : {text ws : List ℕ} {index used spare at n turns : ℕ} → Open text ws index used at n
+    → Replaying text ws ws index used spare at (record { settled = n; recent = 0; queued = 0; turns = turns }) n
+replaying-sorted {text} {ws} {index} {at = at} {n = n} ο = record {
+  items = none-recent text ws index at n refl ∙ sym (queued-sorted (itemsAt text ws index at n) (ο .sorted));
+  still = parted-none ο;
   most = omega arith;
   none = refl;
   size = refl;
   others = λ k x y. refl;
   behind = λ k x y. refl;
 }
+
+pub none-open : {text ws : List ℕ} {index used at : ℕ} → Store ws index used → at ≤ used → Open text ws index used at 0
+unfolding listed
+none-open σ l = record { store = σ; room = omega arith; inner = λ k m. absurd (omega arith); sorted = tt }
 
 module _ {text ws₀ ws : List ℕ} {index used spare at i : ℕ} {s : Sizes} (ρ : Replaying text ws₀ ws index used spare at s i) (l : at + i < used) where
   same-row : row ws index (at + i) ≡ row ws₀ index (at + i)
@@ -151,6 +155,16 @@ module _ {text ws : List ℕ} {index used spare at m : ℕ} {s : Sizes} (κ : Qu
       none = η .none;
       others = λ k x y. η .others k x y ∙ ρ .below k x y;
     }
+
+-- the order in which the rows came
+pub as-they-came : {text ws : List ℕ} {index used at m : ℕ} → Store ws index used → Reordered text ws ws index used at m
+as-they-came σ = record {
+  store = σ;
+  below = λ k x y. refl;
+  behind = λ k x y. refl;
+  each = λ i l. (i, l, refl);
+  keys = λ k. refl;
+}
 
 -- ---- all items
 

@@ -8,8 +8,9 @@ ghost use mathlib.Core.Path.{_≡_};
 ghost use mathlib.Core.Logic.{_≢_};
 ghost use Prim.Native.Nat.{ℕ, _+_, _≤_, _<_};
 ghost use lib.ListN.{length};
-ghost use Rattle.store.specs.Store.{row, Store};
+ghost use Rattle.store.specs.Store.{row};
 ghost use Rattle.items.specs.Items.{Inner};
+ghost use Rattle.items.specs.Open.{Open};
 ghost use Rattle.items.specs.Combining.{Adds};
 ghost use Rattle.entering.specs.Parts.{Parted};
 ghost use Rattle.queueing.specs.Queue.{OneMore, Replayed, Queued, Emptied, InOrder};
@@ -72,7 +73,7 @@ fn replay(
     }
 }
 
-// The m rows from place `at` on, entered one after the other.
+// The m rows from place `at` on, of which the first n are settled, entered one after the other.
 fn replay_all(
     text: &[u8],
     words: &mut [u64],
@@ -80,26 +81,30 @@ fn replay_all(
     used: usize,
     spare: usize,
     at: usize,
+    n: usize,
     m: usize,
     turns: usize,
 ) -> Sizes
-    requires { ⌜ Store (now words) index used × (at + m ≤ used) × ((i : ℕ) → i < m → Inner (now text) (row (now words) index (at + i))) ⌝ }
+    requires { ⌜ Open (now text) (now words) index used at n × (n ≤ m) × (at + m ≤ used) × ((i : ℕ) → i < m → Inner (now text) (row (now words) index (at + i))) ⌝ }
     requires { ⌜ (index + used ≤ spare) × (spare + used + used ≤ length (now words)) ⌝ }
     ensures { λ r. ⌜ Replayed (now (text .entry)) (now (words .entry)) (now (words .exit)) index used spare at m r ⌝ }
 {
     let mut sizes = Sizes {
-        settled: 0,
+        settled: n,
         recent: 0,
         queued: 0,
         turns: turns,
     };
-    let mut i = 0;
+    let mut i = n;
     while i < m {
         sizes = replay(text, words, index, used, spare, at, sizes, i);
         i += 1;
     }
     sizes
 }
+
+// Queued rows that are fewer than this part of the settled items are entered as they came: to go through all items would cost more.
+const PART: usize = 8;
 
 // The queued rows entered among the items, so that the queue is empty.
 fn settle_queue(
@@ -118,8 +123,21 @@ fn settle_queue(
         return sizes;
     }
     let m = sizes.settled + sizes.queued;
+    if sizes.queued < sizes.settled / PART {
+        return replay_all(
+            text,
+            words,
+            index,
+            used,
+            spare,
+            at,
+            sizes.settled,
+            m,
+            sizes.turns,
+        );
+    }
     ranking::reorder(text, words, index, used, at, m, spare);
-    replay_all(text, words, index, used, spare, at, m, sizes.turns)
+    replay_all(text, words, index, used, spare, at, 0, m, sizes.turns)
 }
 
 // A row entered where no row is queued.

@@ -1,16 +1,16 @@
 -- `queueing::replay_all` meets its contract: the first i rows are entered. Assumes nothing.
 use Prim.Native.Nat.{_-_, _≤_}
 use native.Mathlib.Omega.{arith}
-use Rattle.queueing.proofs.ReplayLaws.{Replaying, replaying-none, replaying-inner, replaying-next, replaying-done}
+use Rattle.queueing.proofs.ReplayLaws.{Replaying, replaying-sorted, replaying-inner, replaying-next, replaying-done}
 use borrow.Author.Needs.{needs}
 use Rattle.queueing.proofs.replay_all.Statement.{statement}
 use Rattle.queueing.proofs.replay_all.Tie as tie
 
 abbrev Inv-loop : tie.InvT-loop
-Inv-loop text words₀ index used spare at m turns sizes₀ i₀ words sizes i = Replaying text words₀ words index used spare at sizes i × (i ≤ m)
+Inv-loop text words₀ index used spare at n m turns sizes₀ i₀ words sizes i = Replaying text words₀ words index used spare at sizes i × (i ≤ m)
 
 abbrev μ-loop : tie.MeasureT-loop
-μ-loop text words₀ index used spare at m turns sizes₀ i₀ words sizes i = m - i
+μ-loop text words₀ index used spare at n m turns sizes₀ i₀ words sizes i = m - i
 
 abbrev start : tie.At-loop Inv-loop μ-loop → tie.Start Inv-loop μ-loop
 start l = l .before .before .before
@@ -21,13 +21,13 @@ replay-all-spec =
     (tie.spec
     Inv-loop
     μ-loop
-    (λ c. let s = c .before .before in (replaying-none (s .pre .0 .0) (omega (arith, s .pre .0 .1)), omega arith))
+    (λ c. let s = c .before .before in (replaying-sorted (s .pre .0 .0), s .pre .0 .1))
     (λ c κs. let l = c .before .before in
     let s = start l in (
       (l .loop .inv .0 .still, l .loop .inv .0 .most),
       (
-        omega (arith, s .pre .0 .1),
-        replaying-inner (l .loop .inv .0) (omega (arith, s .pre .0 .1)) (s .pre .0 .2 _ (omega arith)),
+        omega (arith, s .pre .0 .2),
+        replaying-inner (l .loop .inv .0) (omega (arith, s .pre .0 .2)) (s .pre .0 .3 _ (omega arith)),
         s .pre .1 .0,
         omega (arith, s .pre .1 .1, l .loop .inv .0 .size),
       ),
@@ -37,6 +37,6 @@ replay-all-spec =
     (λ c. let l = c .before .before .before .before .before in
     let s = start l in
     let y = c .before .before in
-    (replaying-next (l .loop .inv .0) (omega (arith, s .pre .0 .1)) (y .replay .ensures) (y .replay .kept .1 .0), omega arith))
+    (replaying-next (l .loop .inv .0) (omega (arith, s .pre .0 .2)) (y .replay .ensures) (y .replay .kept .1 .0), omega arith))
     (λ c. c .before .loop .inv .0 .size)
     (λ c. let l = c .before in replaying-done (l .loop .inv .0) (omega (arith, l .loop .inv .1))))
