@@ -1,8 +1,6 @@
 // The end of a section: "A section whose key (test name, path) a kept section has replaces that section's data, and the key's first
-// spelling stays" (document 01). Kept entries are the first rows in the index's order: settled ones, and behind them late ones, which are
-// settled together. Behind these stand the open section's own row and its items, and then free rows.
-pub mod late;
-
+// spelling stays" (document 01). Kept entries are the first rows in the index's order: settled ones, and behind them late ones (crate late).
+// Behind these stand the open section's own row and its items, and then free rows.
 use order::Order;
 use store::Row;
 ghost use mathlib.Core.Path.{_≡_};
@@ -18,12 +16,6 @@ ghost use Rattle.store.specs.Store.{Store, row};
 ghost use Rattle.items.specs.Items.{part};
 ghost use Rattle.closing.specs.Sections.{keyOf, Named, rowsFrom, SectionsFrom, goes, Past, IsRun};
 ghost use Rattle.closing.specs.Closing.{withSection, Filled, Own, Spliced};
-
-// How many kept entries are settled, and how many are late.
-pub struct Parts {
-    pub settled: usize,
-    pub late: usize,
-}
 
 // Two parts of the text as paths. Parts that begin and end alike are not read.
 pub fn compare_path_parts(text: &[u8], a: u64, n: u64, b: u64, m: u64) -> Order

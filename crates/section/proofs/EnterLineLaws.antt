@@ -33,7 +33,7 @@ use Rattle.queueing.proofs.QueueLaws.{add-most}
 use Rattle.queueing.proofs.HeldLaws.{held-length}
 use Rattle.section.specs.declared.State.{State}
 use Rattle.section.specs.declared.Step.the-variants.{Next, Refused}
-use Rattle.closing.specs.Late.{keptAt}
+use Rattle.late.specs.Late.{keptAt}
 use Rattle.section.specs.Reading.{Ready, insideOf, settledOf, stateOf, Valid, counted, StepOf}
 use Rattle.section.proofs.StateLaws.{kept-size, same-kept, same-sections, by-inside, withUsed, more-valid, more-state, step-as}
 

@@ -25,10 +25,10 @@ use Rattle.queueing.specs.Queue.{queuedOn, rowsOf, InOrder}
 use Rattle.queueing.proofs.HeldLaws.{held-length}
 use Rattle.section.specs.declared.State.{State}
 use Rattle.section.specs.declared.Step.the-variants.{Next, Refused}
-use Rattle.closing.specs.declared.Parts.{Parts}
+use Rattle.late.specs.declared.Parts.{Parts}
 use Rattle.closing.specs.Sections.{testOf, pathOf, entriesFrom}
-use Rattle.closing.specs.Late.{keptAt, InParts, Settled as AllLate, Closed}
-use Rattle.closing.proofs.LateLaws.{kept-length, early-sections, early-entries}
+use Rattle.late.specs.Late.{keptAt, InParts, Settled as AllLate, Closed}
+use Rattle.late.proofs.LateLaws.{kept-length, early-sections, early-entries}
 use Rattle.section.specs.Reading.{Room, Ready, insideOf, outsideOf, settledOf, stateOf, Valid, counted, StepOf, AllSettled}
 use Rattle.section.proofs.StateLaws.{kept-rows, kept-size, same-kept, same-sections, no-items, by-inside, more-valid, more-state, inside-valid, outside-valid}
 use Rattle.section.proofs.EnterLineLaws.{count-open}

@@ -22,8 +22,8 @@ use Rattle.queueing.proofs.HeldLaws.{same-held, same-queued}
 use Rattle.section.specs.declared.State.{State}
 use Rattle.section.specs.declared.Step.{Step}
 use Rattle.section.specs.declared.Step.the-variants.{Next}
-use Rattle.closing.specs.Late.{keptAt, InParts}
-use Rattle.closing.proofs.LateLaws.{parts-as, kept-as, kept-length, all-early}
+use Rattle.late.specs.Late.{keptAt, InParts}
+use Rattle.late.proofs.LateLaws.{parts-as, kept-as, kept-length, all-early}
 use Rattle.section.specs.Reading.{Room, Ready, insideOf, outsideOf, settledOf, stateOf, Opened, Valid, StepOf}
 
 -- ---- rows that are ready

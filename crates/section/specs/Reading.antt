@@ -20,7 +20,7 @@ use Rattle.section.specs.declared.State.{State}
 use Rattle.section.specs.declared.Step.{Step}
 use Rattle.section.specs.declared.Step.the-variants.{Next, Refused}
 use Rattle.closing.specs.Sections.{entriesAt, Sections}
-use Rattle.closing.specs.Late.{keptAt, InParts}
+use Rattle.late.specs.Late.{keptAt, InParts}
 
 -- ---- the words
 

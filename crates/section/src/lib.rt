@@ -1,7 +1,7 @@
 // One text read section by section (document 01, "Sections"): the state between two lines, and what a record does to it. Each step
 // answers the model's next state, read back from the words, or the fault; entries are counted after the record took effect.
-use closing::late::close;
-use closing::late::settle;
+use late::close;
+use late::settle;
 use model::Fault;
 use model::Part;
 use queueing::Outcome;

@@ -1,10 +1,10 @@
--- `closing::late::note_places` meets its contract: the places of the first j are noted. Assumes nothing.
+-- `late::note_places` meets its contract: the places of the first j are noted. Assumes nothing.
 use Prim.Native.Nat.{_-_}
 use native.Mathlib.Omega.{arith}
-use Rattle.closing.proofs.LateLaws.{Noting, noting-none, noting-parts, noting-last, noting-next, noting-done}
+use Rattle.late.proofs.LateLaws.{Noting, noting-none, noting-parts, noting-last, noting-next, noting-done}
 use borrow.Author.Needs.{needs}
-use Rattle.closing.proofs.late.note_places.Statement.{statement}
-use Rattle.closing.proofs.late.note_places.Tie as tie
+use Rattle.late.proofs.note_places.Statement.{statement}
+use Rattle.late.proofs.note_places.Tie as tie
 
 abbrev Inv-loop : tie.InvT-loop
 Inv-loop text words₀ index used spare settled late j₀ words j = Noting text words₀ words index spare settled late j

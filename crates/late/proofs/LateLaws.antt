@@ -25,13 +25,13 @@ use Rattle.items.specs.Items.{kindOf}
 use Rattle.weaving.specs.Woven.{Rising, Woven, Seats}
 use Rattle.weaving.proofs.WovenLaws.{woven-as, woven-each, woven-pairs}
 use Rattle.weaving.proofs.SeatLaws.{woven-pass}
-use Rattle.closing.specs.declared.Parts.{Parts}
+use Rattle.late.specs.declared.Parts.{Parts}
 use Rattle.closing.specs.Sections.{entryOf, keyOf, entryAt, entriesAt, Whole, Sections, rowsFrom, entriesFrom, SectionsFrom, goes, Past}
-use Rattle.closing.specs.Late.{together, keptAt, InParts, PlaceOf, Noted, Settled, SameReport}
+use Rattle.late.specs.Late.{together, keptAt, InParts, PlaceOf, Noted, Settled, SameReport}
 use Rattle.closing.proofs.RunLaws.{goes-greater}
 use Rattle.closing.proofs.ReplaceLaws.{all-listed}
 use Rattle.closing.proofs.SpliceLaws.{less-not-greater}
-use Rattle.closing.proofs.TogetherLaws.{together-none, together-length, pass-together}
+use Rattle.late.proofs.TogetherLaws.{together-none, together-length, pass-together}
 
 -- ---- rows that are as they were
 

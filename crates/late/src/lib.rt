@@ -1,11 +1,10 @@
 // Sections that end out of order: turning blocks of the index for each of them would move the index again and again. So they are late ones
 // at first, in order among themselves, behind the settled ones; and many of them are settled in one pass. The place among the settled ones
 // is looked up once, when a section ends, and noted in its own row, whose k1 means nothing else.
-use crate::Parts;
-use crate::Run;
-use crate::compare_sections;
-use crate::find_run;
-use crate::splice;
+use closing::Run;
+use closing::compare_sections;
+use closing::find_run;
+use closing::splice;
 use store::Row;
 ghost use mathlib.Core.Path.{_≡_};
 ghost use mathlib.Core.Logic.{_≢_};
@@ -13,8 +12,14 @@ ghost use Prim.Native.Nat.{_+_, _-_, _≤_, _<_};
 ghost use lib.ListN.{length};
 ghost use Rattle.store.specs.Rows.{word};
 ghost use Rattle.items.specs.Open.{Open};
 ghost use Rattle.closing.specs.Sections.{keyOf, Named, rowsFrom, IsRun};
-ghost use Rattle.closing.specs.Late.{withPlace, InParts, PlaceOf, Noted, Settled, SameReport, Closed};
+ghost use Rattle.late.specs.Late.{withPlace, InParts, PlaceOf, Noted, Settled, SameReport, Closed};
+
+// How many kept entries are settled, and how many are late.
+pub struct Parts {
+    pub settled: usize,
+    pub late: usize,
+}
 
 // Late entries are settled when there are more than these.
 pub const LATE: usize = 1024;

@@ -15,8 +15,8 @@ use Rattle.model.specs.Report.{Item, sectionItem, Entry, Report, SectionKey, se
 use Rattle.model.specs.Reading.{spellingOf, replaceSection}
 use Rattle.model.proofs.ListLaws.{All, all-append}
 use Rattle.model.proofs.KeyOrder.{sections-order}
-use Rattle.closing.specs.Late.{togetherFrom, together}
+use Rattle.late.specs.Late.{togetherFrom, together}
 use Rattle.closing.proofs.ReplaceLaws.{Compared, replaced}
 
 pub together-none : (xs : Report) → together xs [] ≡ xs
 together-none [] = refl

@@ -17,16 +17,16 @@ use Rattle.model.specs.Reading.{keepSection, replaceSection}
 use Rattle.model.proofs.KeyOrder.{sections-order}
 use Rattle.items.specs.Items.{itemOf, Inner}
 use Rattle.items.specs.Open.{itemFrom, itemsAt, Open}
-use Rattle.closing.specs.declared.Parts.{Parts}
+use Rattle.late.specs.declared.Parts.{Parts}
 use Rattle.closing.specs.Sections.{testOf, pathOf, entryOf, keyOf, Named, rowsFrom, entriesFrom, SectionsFrom, goes, Past, IsRun}
 use Rattle.closing.specs.Closing.{Spliced}
-use Rattle.closing.specs.Late.{together, keptAt, withPlace, InParts, Settled, SameReport, Closed}
+use Rattle.late.specs.Late.{together, keptAt, withPlace, InParts, Settled, SameReport, Closed}
 use Rattle.closing.proofs.RunLaws.{run-before, run-behind, run-ends}
 use Rattle.closing.proofs.OwnLaws.{runAt}
 use Rattle.closing.proofs.ReplaceLaws.{keep-some}
 use Rattle.closing.proofs.CloseLaws.{lowerAt, higherAt, parts, parts-none, lower-all, run-all, higher-all, closed-entries, closed-ordered, closed-keys, closed-places}
-use Rattle.closing.proofs.TogetherLaws.{replaced-together}
-use Rattle.closing.proofs.LateLaws.{same-from, cut-as, all-early, kept-early}
+use Rattle.late.proofs.TogetherLaws.{replaced-together}
+use Rattle.late.proofs.LateLaws.{same-from, cut-as, all-early, kept-early}
 
 -- a section with nothing in it is dropped
 pub closed-empty : {text ws : List ℕ} {index used settled late n : ℕ} (key : Row) → InParts text ws index used settled late → n ≡ 0

@@ -1,12 +1,12 @@
--- `closing::late::close` meets its contract: one law for each way out. Assumes nothing.
+-- `late::close` meets its contract: one law for each way out. Assumes nothing.
 use native.Mathlib.Omega.{arith}
 use denote.Ref.{now}
-use Rattle.closing.specs.Late.{Closed}
+use Rattle.late.specs.Late.{Closed}
 use Rattle.closing.proofs.RunLaws.{run-ends}
-use Rattle.closing.proofs.ClosedLaws.{closed-empty, closed-as, settled-none, closed-settled, closed-late}
+use Rattle.late.proofs.ClosedLaws.{closed-empty, closed-as, settled-none, closed-settled, closed-late}
 use borrow.Author.Needs.{needs}
-use Rattle.closing.proofs.late.close.Statement.{statement}
-use Rattle.closing.proofs.late.close.Tie as tie
+use Rattle.late.proofs.close.Statement.{statement}
+use Rattle.late.proofs.close.Tie as tie
 
 abbrev start : tie.After-find-run → tie.Start
 start f = f .before .before .before .before .before

@@ -1,9 +1,9 @@
--- `closing::late::settle` meets its contract. Assumes nothing.
+-- `late::settle` meets its contract. Assumes nothing.
 use native.Mathlib.Omega.{arith}
-use Rattle.closing.proofs.LateLaws.{spare-store, noted-rising, settled-all}
+use Rattle.late.proofs.LateLaws.{spare-store, noted-rising, settled-all}
 use borrow.Author.Needs.{needs}
-use Rattle.closing.proofs.late.settle.Statement.{statement}
-use Rattle.closing.proofs.late.settle.Tie as tie
+use Rattle.late.proofs.settle.Statement.{statement}
+use Rattle.late.proofs.settle.Tie as tie
 
 abbrev start : tie.After-note-places → tie.Start
 start n = n .before .before .before .before

@@ -1,12 +1,12 @@
--- `closing::late::replace` meets its contract: the section comes in place of the other, or among all, once these are settled. Assumes nothing.
+-- `late::replace` meets its contract: the section comes in place of the other, or among all, once these are settled. Assumes nothing.
 use mathlib.Core.Path.{refl}
 use native.Mathlib.Omega.{arith}
 use Rattle.closing.proofs.RunLaws.{run-ends}
-use Rattle.closing.proofs.ClosedLaws.{closed-settled}
-use Rattle.closing.proofs.InPlaceLaws.{closed-in-place}
+use Rattle.late.proofs.ClosedLaws.{closed-settled}
+use Rattle.late.proofs.InPlaceLaws.{closed-in-place}
 use borrow.Author.Needs.{needs}
-use Rattle.closing.proofs.late.replace.Statement.{statement}
-use Rattle.closing.proofs.late.replace.Tie as tie
+use Rattle.late.proofs.replace.Statement.{statement}
+use Rattle.late.proofs.replace.Tie as tie
 
 abbrev start : tie.After-struct-known → tie.Start
 start t = t .before .before .before

@@ -13,13 +13,13 @@ use Rattle.model.specs.Reading.{keepSection, replaceSection}
 use Rattle.model.proofs.KeyOrder.{sections-order}
 use Rattle.items.specs.Items.{itemOf, Inner}
 use Rattle.items.specs.Open.{itemsAt, Open}
 use Rattle.closing.specs.Sections.{testOf, pathOf, entryOf, keyOf, Named, rowsFrom, entriesFrom, IsRun}
 use Rattle.closing.specs.Closing.{Spliced}
-use Rattle.closing.specs.Late.{together, keptAt, InParts, Closed}
+use Rattle.late.specs.Late.{together, keptAt, InParts, Closed}
 use Rattle.closing.proofs.RunLaws.{run-in, run-ends, run-absent}
 use Rattle.closing.proofs.OwnLaws.{runAt}
 use Rattle.closing.proofs.ReplaceLaws.{keep-some}
 use Rattle.closing.proofs.CloseLaws.{
   lowerAt,
   higherAt,
   parts,
@@ -31,9 +31,9 @@ use Rattle.closing.proofs.CloseLaws.{
   closed-ordered,
   closed-same,
 }
-use Rattle.closing.proofs.TogetherLaws.{replaced-together-own}
-use Rattle.closing.proofs.LateLaws.{same-from, apart-as, noted-as}
-use Rattle.closing.proofs.ClosedLaws.{inner-from, items-from}
+use Rattle.late.proofs.TogetherLaws.{replaced-together-own}
+use Rattle.late.proofs.LateLaws.{same-from, apart-as, noted-as}
+use Rattle.late.proofs.ClosedLaws.{inner-from, items-from}
 
 module _ {text ws : List ℕ} (ws₁ : List ℕ) {index used settled late n lo hi : ℕ} {key : Row} (π : InParts text ws index used settled late)
     (ο : Open text ws index used (settled + late + 1) n) (ν : Named text key) (tag : key .tag ≡ 0)

@@ -14,8 +14,8 @@ use Rattle.model.specs.Report.{Entry, Report, sectionKey, compareSections}
 use Rattle.model.specs.Reading.{keepSection}
 use Rattle.items.specs.Items.{kindOf}
 use Rattle.items.specs.Open.{itemsAt}
-use Rattle.closing.specs.declared.Parts.{Parts}
+use Rattle.late.specs.declared.Parts.{Parts}
 use Rattle.closing.specs.Sections.{testOf, pathOf, keyOf, rowsFrom, entriesFrom, SectionsFrom, Past}
 
 -- ---- two parts as one report
 

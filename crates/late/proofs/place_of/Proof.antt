@@ -1,13 +1,13 @@
--- `closing::late::place_of` meets its contract. Assumes nothing.
+-- `late::place_of` meets its contract. Assumes nothing.
 use Prim.Native.Nat.{_-_}
 use native.Mathlib.Omega.{arith}
 use denote.Ref.{now}
 use Rattle.closing.specs.Sections.{Named}
 use Rattle.closing.proofs.RunLaws.{named-as}
-use Rattle.closing.proofs.LateLaws.{place-noted, place-again, place-row}
+use Rattle.late.proofs.LateLaws.{place-noted, place-again, place-row}
 use borrow.Author.Needs.{needs}
-use Rattle.closing.proofs.late.place_of.Statement.{statement}
-use Rattle.closing.proofs.late.place_of.Tie as tie
+use Rattle.late.proofs.place_of.Statement.{statement}
+use Rattle.late.proofs.place_of.Tie as tie
 
 abbrev start : tie.After-get → tie.Start
 start g = g .before .before .before

@@ -1,8 +1,8 @@
--- `closing::late::settle_many` meets its contract. Assumes nothing.
-use Rattle.closing.proofs.LateLaws.{report-settled, report-same}
+-- `late::settle_many` meets its contract. Assumes nothing.
+use Rattle.late.proofs.LateLaws.{report-settled, report-same}
 use borrow.Author.Needs.{needs}
-use Rattle.closing.proofs.late.settle_many.Statement.{statement}
-use Rattle.closing.proofs.late.settle_many.Tie as tie
+use Rattle.late.proofs.settle_many.Statement.{statement}
+use Rattle.late.proofs.settle_many.Tie as tie
 
 pub settle-many-spec : {M : Type 1} → statement M
 settle-many-spec =

@@ -1,0 +1,4 @@
+pub mod TogetherLaws
+pub mod LateLaws
+pub mod ClosedLaws
+pub mod InPlaceLaws
