@@ -19,6 +19,7 @@ use Rattle.entering.proofs.EnterLaws.{parted-none}
 use Rattle.queueing.specs.declared.Sizes.{Sizes}
 use Rattle.queueing.specs.Queue.{queuedOn, rowsOf, endOf, heldAt, Queued}
 use Rattle.queueing.proofs.HeldLaws.{same-held, same-queued}
+use Rattle.queueing.proofs.ReplayLaws.{none-open as none-settled}
 use Rattle.section.specs.declared.State.{State}
 use Rattle.section.specs.declared.Step.{Step}
 use Rattle.section.specs.declared.Step.the-variants.{Next}
@@ -73,12 +74,11 @@ no-items text ws index at s z =
     rw (x, y, q)
 
 none-open : {text ws : List ℕ} {index used spare at : ℕ} {s : Sizes} → Store ws index used → at ≤ used → rowsOf s ≡ 0 → Queued text ws index used spare at s
-unfolding listed
 none-open {s = s} σ l z =
     let x : s .settled ≡ 0 = omega arith in
     let y : s .recent ≡ 0 = omega arith in
     record {
-      parts = rw (x, y) (parted-none (record { store = σ; room = omega arith; inner = λ k m. absurd (omega arith); sorted = tt }));
+      parts = rw (x, y) (parted-none (none-settled σ l));
       alone = λ h. y;
       room = omega arith;
       inner = λ k m. absurd (omega arith);
