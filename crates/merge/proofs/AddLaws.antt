@@ -25,11 +25,11 @@ use Rattle.items.specs.declared.Found.the-variants.{At, Insert}
 use Rattle.items.specs.Items.{kindOf, itemOf}
 use Rattle.items.proofs.CompareLaws.{key-of}
 use Rattle.closing.specs.Sections.{entryOf, entryAt, entriesAt, Whole}
+use Rattle.joining.specs.declared.Joining.{Joining}
+use Rattle.joining.specs.declared.Joining.the-variants.{One, Refused}
+use Rattle.joining.specs.Joining.{Joins}
+use Rattle.placing.specs.Placing.{compareEntries, Seated}
 use Rattle.merge.specs.declared.Walk.{Walk}
-use Rattle.merge.specs.declared.join.Joining.{Joining}
-use Rattle.merge.specs.declared.join.Joining.the-variants.{One, Refused}
-use Rattle.merge.specs.Joining.{Joins}
-use Rattle.merge.specs.Placing.{compareEntries, Seated}
 use Rattle.merge.specs.Walking.{newAt, Within, Room, Grown, grew, stayed, Ready, added, known, fresh, left, Stepped}
 
 -- ---- `add` by the place of the key

@@ -1,6 +1,3 @@
-pub mod JoinLaws
-pub mod NameLaws
-pub mod PlaceLaws
 pub mod AddLaws
 pub mod StandLaws
 pub mod PartLaws

@@ -10,9 +10,9 @@ use Rattle.store.specs.Rows.{row-words, word, rowAt}
 use Rattle.store.specs.Store.{number, row, Store}
 use Rattle.store.proofs.WordLaws.{row-cong}
 use Rattle.model.specs.declared.Mode.{Mode}
+use Rattle.placing.specs.Placing.{Ranked}
 use Rattle.merge.specs.declared.Walk.{Walk}
 use Rattle.merge.specs.declared.Added.{Added}
-use Rattle.merge.specs.Placing.{Ranked}
 use Rattle.merge.specs.Walking.{Adding, Noted, spareWord}
 
 -- ---- the front part of the words

@@ -18,7 +18,7 @@ use Rattle.model.proofs.KeyOrder.{keys-order}
 use Rattle.closing.specs.Sections.{entryOf, entryAt, entriesAt}
 use Rattle.items.proofs.SearchLaws.{sorted-at}
 use Rattle.items.specs.declared.Found.the-variants.{Insert}
-use Rattle.merge.specs.Placing.{Ranked, Seated, compareEntries}
+use Rattle.placing.specs.Placing.{Ranked, Seated, compareEntries}
 
 -- ---- the entries still to come
 

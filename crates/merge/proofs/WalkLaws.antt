@@ -23,12 +23,12 @@ use Rattle.model.proofs.KeyOrder.{keys-order}
 use Rattle.closing.specs.Sections.{entryOf, entryAt, entriesAt, Whole}
 use Rattle.section.specs.Table.{Table}
 use Rattle.items.proofs.SearchLaws.{sorted-at}
+use Rattle.placing.specs.Naming.{Means}
+use Rattle.placing.specs.Placing.{compareEntries}
 use Rattle.merge.specs.declared.Joined.the-variants.{Refused}
 use Rattle.merge.specs.declared.Walk.{Walk}
 use Rattle.merge.specs.declared.Added.{Added}
 use Rattle.merge.specs.declared.Added.the-variants as A
-use Rattle.merge.specs.Naming.{Means}
-use Rattle.merge.specs.Placing.{compareEntries}
 use Rattle.merge.specs.Walking.{newAt, newsAt, Within, Ahead, Ready, Taken, known, fresh, left, Stepped, Adding, Noted, Noting, spareWord}
 use Rattle.merge.specs.Merging.{Tables}
 use Rattle.merge.proofs.StandLaws.{counted, Standing, standing-start, standing-refused, standing-known, standing-fresh, standing-left}

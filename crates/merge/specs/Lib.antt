@@ -1,5 +1,2 @@
-pub mod Joining
-pub mod Naming
-pub mod Placing
 pub mod Walking
 pub mod Merging

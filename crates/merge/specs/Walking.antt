@@ -18,12 +18,12 @@ use Rattle.model.specs.Answer.{Answer, accepted, refuse}
 use Rattle.model.specs.Report.{Entry, Report, entryKey, compareKeys, combineEntries}
 use Rattle.items.specs.declared.Found.the-variants.{Insert}
 use Rattle.closing.specs.Sections.{entryOf, entryAt, entriesAt, Whole}
+use Rattle.placing.specs.Placing.{Ranked, Passed, Seated, compareEntries}
 use Rattle.merge.specs.declared.Joined.{Joined}
 use Rattle.merge.specs.declared.Joined.the-variants as J
 use Rattle.merge.specs.declared.Walk.{Walk}
 use Rattle.merge.specs.declared.Added.{Added}
 use Rattle.merge.specs.declared.Added.the-variants.{Next, Refused}
-use Rattle.merge.specs.Placing.{Ranked, Passed, Seated, compareEntries}
 
 -- ---- the joined entries
 

@@ -4,14 +4,11 @@
 //
 // The walk leaves the joined entries where they stand: new ones are put behind them, and the place of each among them is noted in the spare
 // words behind the index. At the end the new ones are woven among the others in one pass.
-mod join;
-mod names;
-mod place;
-
 use items::Found;
-use join::Joining;
+use joining::Joining;
 use model::Fault;
 use model::Mode;
+use placing::names;
 use store::Row;
 ghost use mathlib.Core.Path.{_≡_};
 ghost use Prim.Native.Nat.{_+_, _≤_};
@@ -87,11 +84,11 @@ fn add_row(
     let new = walk.new;
     let used = n + new;
     let full = walk.full;
-    let found = place::find_entry(text, words, index, used, n, walk.from, gap, row);
+    let found = placing::find_entry(text, words, index, used, n, walk.from, gap, row);
     match found {
         Found::At(i) => {
             let old = store::get(words, index, used, i);
-            match join::join_rows(text, old, row, mode) {
+            match joining::join_rows(text, old, row, mode) {
                 Joining::One(both) => {
                     store::put(words, index, used, i, both);
                     return Added::Next(Walk {

@@ -8,8 +8,8 @@ use Rattle.store.specs.declared.Row.{Row}
 use Rattle.items.specs.declared.Found.{Found}
 use Rattle.items.specs.declared.Found.the-variants.{At, Insert}
 use Rattle.closing.specs.Sections.{entryOf}
-use Rattle.merge.specs.Placing.{compareEntries, Seated}
-use Rattle.merge.proofs.PlaceLaws.{whole-as}
+use Rattle.placing.specs.Placing.{compareEntries, Seated}
+use Rattle.placing.proofs.PlaceLaws.{whole-as}
 use Rattle.merge.proofs.AddLaws.{same-kind, seated-as, joins-as, added-refused, added-known, room, added-grown}
 use borrow.Author.Needs.{needs}
 use Rattle.merge.proofs.add_row.Statement.{statement}

@@ -6,11 +6,11 @@ use mathlib.Core.List.{List, _++_}
 use lib.ListN.{length, take, drop, length-take}
 use denote.Ref.{now}
 use Rattle.store.specs.Store.{row}
+use Rattle.placing.specs.Naming.{OneSection, Means}
+use Rattle.placing.proofs.NameLaws.{means-as}
+use Rattle.placing.proofs.PlaceLaws.{whole-as}
 use Rattle.merge.specs.declared.Walk.{Walk}
-use Rattle.merge.specs.Naming.{OneSection, Means}
 use Rattle.merge.specs.Walking.{spareWord}
-use Rattle.merge.proofs.NameLaws.{means-as}
-use Rattle.merge.proofs.PlaceLaws.{whole-as}
 use Rattle.merge.proofs.PartLaws.{ranked-front, Lent, other-part, lent-front, lent-back}
 use Rattle.merge.proofs.WalkLaws.{Walked, answer, rowsPart, walked-start, walked-ready, walked-refused, walked-next}
 use Rattle.merge.proofs.EndLaws.{merged-refused, settle-store, settle-rising, merged-done}

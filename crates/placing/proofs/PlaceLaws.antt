@@ -1,0 +1,129 @@
+-- The place of a key among entries in ascending order. Assumes nothing.
+use Prim.Native.Nat.{ℕ, _+_, _-_, _≤_, _<_, compare, Ordering, Ordering·lt, Ordering·eq, Ordering·gt}
+use native.Mathlib.Omega.{arith}
+use mathlib.Core.Path.{_≡_, refl, sym, ap, _∙_}
+use mathlib.Core.Bool.{true, false}
+use mathlib.Core.List.{List}
+use lib.Dec.{isEq, ltb}
+use Rattle.store.specs.declared.Row.{Row}
+use Rattle.store.specs.Places.{Cut}
+use Rattle.store.proofs.PlaceLaws.{by-eq}
+use Rattle.store.proofs.Halving.{Falling, Halved, by-test, halved-done}
+use Rattle.map.specs.Compare.{lex}
+use Rattle.map.proofs.Orderings.{is-eq}
+use Rattle.map.proofs.Results.{impossible}
+use Rattle.model.specs.Order.{isLess}
+use Rattle.model.specs.Bytes.{Bytes}
+use Rattle.model.specs.Report.{Entry, sectionKey, entryKey, compareItems, compareSections, compareKeys}
+use Rattle.model.proofs.KeyOrder.{keys-order, sections-order}
+use Rattle.items.specs.declared.Found.the-variants.{At, Insert}
+use Rattle.items.specs.Items.{itemOf}
+use Rattle.items.proofs.CompareLaws.{lines, lines-before}
+use Rattle.items.proofs.SearchLaws.{is-lt, sorted-at}
+use Rattle.closing.specs.Sections.{entryOf, entryAt, keyOf, Whole}
+use Rattle.placing.specs.Naming.{LinesOfOne}
+use Rattle.placing.specs.Placing.{Ranked, compareEntries, Before, Passed, Spanned, Seated}
+use Rattle.placing.proofs.NameLaws.{same-key}
+
+-- ---- entries compared
+
+pub by-item : (a b : Entry) (o : Ordering) → true ≡ isEq (compareSections (sectionKey a) (sectionKey b)) → o ≡ compareItems (a .item) (b .item) → o ≡ compareEntries a b
+unfolding compareKeys entryKey compareItems
+by-item a b o h e =
+    e ∙ sym (ap (λ (x : Ordering). lex x (compareItems (a .item) (b .item))) (is-eq (compareSections (sectionKey a) (sectionKey b)) (sym h)))
+
+pub by-section : (a b : Entry) (o : Ordering) → false ≡ isEq (compareSections (sectionKey a) (sectionKey b)) → o ≡ compareSections (sectionKey a) (sectionKey b) → o ≡ compareEntries a b
+unfolding compareKeys entryKey compareItems
+by-section a b o h e = e ∙ go (compareSections (sectionKey a) (sectionKey b)) h
+  where
+    go : (x : Ordering) → false ≡ isEq x → x ≡ lex x (compareItems (a .item) (b .item))
+    go Ordering·lt h = refl
+    go Ordering·eq h = cc
+    go Ordering·gt h = refl
+
+-- the numbers of two lines decide
+module _ {text : Bytes} {x y : Row} (wx : Whole text x) (wy : Whole text y) (both : LinesOfOne x y) where
+  of-one : (o : Ordering) → o ≡ compareItems (itemOf text x) (itemOf text y) → o ≡ compareEntries (entryOf text x) (entryOf text y)
+  of-one o = by-item (entryOf text x) (entryOf text y) o
+      (sym (ap isEq (ap (compareSections (keyOf text x)) (sym (same-key text (both .names))) ∙ sections-order .same (keyOf text x))))
+
+  pub by-lines : (o : Ordering) → o ≡ compare (x .k1) (y .k1) → o ≡ compareEntries (entryOf text x) (entryOf text y)
+  by-lines o e =
+      of-one o (lines text x y (wx .good) (wy .good) (omega (arith, both .left, both .right)) (omega (arith, both .left, both .right)) (both .left) o e)
+
+  pub less-lines : ltb (x .k1) (y .k1) ≡ isLess (compareEntries (entryOf text x) (entryOf text y))
+  less-lines = lines-before text x y (wx .good) (wy .good) (both .left) (both .right) ∙ ap isLess (of-one _ refl)
+
+-- a row that the store handed out
+pub whole-as : {text : Bytes} {r q : Row} → r ≡ q → Whole text q → Whole text r
+whole-as e w = rw e w
+
+-- ---- which entries come before a key
+
+module _ {text ws : List ℕ} {index used n : ℕ} (key : Row) (ρ : Ranked text ws index used n) where
+  pub before-falls : Falling (Before text ws index key) n
+  before-falls k j l h t =
+      by-eq k j
+      (λ q. rw q t)
+      (λ q. ap isLess (keys-order .trans (sorted-at entryKey compareKeys (entryAt text ws index) n (ρ .sorted) k j (omega arith) h) (is-lt _ t)))
+
+  module _ {lo hi : ℕ} (σ : Spanned (Before text ws index key) n lo hi) where
+    pub span-halved : Halved (Before text ws index key) n lo hi
+    span-halved = record {
+      ends = σ .ends;
+      most = σ .most;
+      past = σ .past;
+      rest = λ k l h. by-test (Before text ws index key k)
+          (λ t. let z : true ≡ false = sym (before-falls hi k l h t) ∙ σ .stop (omega arith) in cc)
+          (λ e. e);
+    }
+
+module _ (text ws : List ℕ) (index : ℕ) (key : Row) where
+  pub passed-before : (from : ℕ) → Passed text ws index key from → (k : ℕ) → k < from → Before text ws index key k ≡ true
+  passed-before from p k l = ap isLess (p k l)
+
+  pub passed-cut : {n i : ℕ} → Cut (Before text ws index key) n i → Passed text ws index key i
+  passed-cut κ k l = is-lt _ (κ .past k l)
+
+-- ---- the answers of the searches
+
+module _ {text ws : List ℕ} {index used n : ℕ} (key : Row) (ρ : Ranked text ws index used n) where
+  -- an entry that comes before the key is passed with all before it
+  pub passed-up : (at : ℕ) → at < n → Before text ws index key at ≡ true → Passed text ws index key (at + 1)
+  passed-up at h t k l = is-lt _ (before-falls key ρ k at (omega arith) h t)
+
+  pub passed-greater : (at : ℕ) → at < n → isLess (compareEntries (entryOf text key) (entryAt text ws index at)) ≡ false
+      → isEq (compareEntries (entryOf text key) (entryAt text ws index at)) ≡ false → Passed text ws index key (at + 1)
+  passed-greater at h a b = passed-up at h (go (compareEntries (entryOf text key) (entryAt text ws index at)) refl a b)
+    where
+      go : (o : Ordering) → compareEntries (entryOf text key) (entryAt text ws index at) ≡ o → isLess o ≡ false → isEq o ≡ false → Before text ws index key at ≡ true
+      go Ordering·lt q a b = cc
+      go Ordering·eq q a b = cc
+      go Ordering·gt q a b = ap isLess (keys-order .less q)
+
+pub spans : (text ws : List ℕ) (index n : ℕ) (key : Row) (lo hi : ℕ) → lo ≤ hi → hi ≤ n → Passed text ws index key lo
+    → (hi < n → Before text ws index key hi ≡ false) → Spanned (Before text ws index key) n lo hi
+spans text ws index n key lo hi a b p s = record { ends = a; most = b; past = passed-before text ws index key lo p; stop = s }
+
+-- the entry before a place comes before the key, and the one there does not
+module _ {text ws : List ℕ} {index used n : ℕ} (key : Row) (ρ : Ranked text ws index used n) (at : ℕ) (h : 0 < at) (l : at < n) where
+  pub cut-here : Before text ws index key at ≡ false → Before text ws index key (at - 1) ≡ true → Cut (Before text ws index key) n at
+  cut-here f t = halved-done (span-halved key ρ (spans text ws index n key at at (omega arith) (omega arith) passed (λ g. f))) (omega arith)
+    where
+      passed : Passed text ws index key at
+      passed = let z : at - 1 + 1 ≡ at = omega arith in rw z at (passed-up key ρ (at - 1) (omega arith) t)
+
+module _ (text ws : List ℕ) (index n i : ℕ) (key : Row) (κ : Cut (Before text ws index key) n i) where
+  pub seat-end : n ≤ i → Seated text ws index n key (Insert i)
+  seat-end h = (κ .most, passed-cut text ws index key κ, λ l. absurd (omega arith))
+
+  pub seat-known : i < n → isEq (compareEntries (entryOf text key) (entryAt text ws index i)) ≡ true → Seated text ws index n key (At i)
+  seat-known h q = (h, passed-cut text ws index key κ, is-eq _ q)
+
+  pub seat-gap : i < n → isEq (compareEntries (entryOf text key) (entryAt text ws index i)) ≡ false → Seated text ws index n key (Insert i)
+  seat-gap h q = (κ .most, passed-cut text ws index key κ, λ l. go (compareEntries (entryOf text key) (entryAt text ws index i)) refl q)
+    where
+      go : (o : Ordering) → compareEntries (entryOf text key) (entryAt text ws index i) ≡ o → isEq o ≡ false → compareEntries (entryOf text key) (entryAt text ws index i) ≡ Ordering·lt
+      go Ordering·lt p n = p
+      go Ordering·eq p n = cc
+      go Ordering·gt p n = let z : true ≡ false = sym (ap isLess (keys-order .less p)) ∙ κ .rest i (omega arith) h in impossible cc

@@ -1,0 +1,32 @@
+-- `placing::find_near` meets its contract. Assumes nothing.
+use native.Mathlib.Omega.{arith}
+use mathlib.Core.Path.{sym, _∙_}
+use Rattle.placing.proofs.PlaceLaws.{passed-up, cut-here}
+use borrow.Author.Needs.{needs}
+use Rattle.placing.proofs.find_near.Statement.{statement}
+use Rattle.placing.proofs.find_near.Tie as tie
+
+abbrev start : tie.After-stands-before → tie.Start
+start b = b .before .before .before
+
+pub find-near-spec : {M : Type 1} → statement M
+find-near-spec =
+    tie.close
+    (tie.spec
+    (λ c κs. let s = c .before .before in (s .pre .0 .0, s .pre .0 .1, s .pre .1 .1))
+    (λ c. omega arith)
+    (λ c κs. let s = start (c .before) in
+    (s .pre .0 .0, s .pre .0 .1, omega arith, passed-up (s .args .key) (s .pre .0 .0) (s .args .at) (s .pre .1 .1) (cc)))
+    (λ c. search needs)
+    (λ c. omega arith)
+    (λ c κs. let s = start (c .before) in (s .pre .0 .0, s .pre .0 .1, omega arith))
+    (λ c κs. let b = c .before .before .before in
+    let s = start b in (
+      s .pre .0 .0,
+      s .pre .0 .1,
+      cut-here (s .args .key) (s .pre .0 .0) (s .args .at) (omega arith) (s .pre .1 .1) (sym (b .stands-before .ensures) ∙ c .before .before .if1 .left)
+          (sym (c .before .stands-before2 .ensures) ∙ c .if2 .taken),
+    ))
+    (λ c. search needs)
+    (λ c κs. let s = start (c .before .before .before) in s .pre .0)
+    (λ c. search needs))

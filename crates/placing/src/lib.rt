@@ -1,0 +1,245 @@
+// The place of a key among entries that stand in ascending order of their keys: the first n of the used rows.
+pub mod names;
+
+use items::Found;
+use names::same_names;
+use order::Order;
+use store::Row;
+ghost use mathlib.Core.Path.{_≡_};
+ghost use mathlib.Core.Bool.{true};
+ghost use Prim.Native.Nat.{_≤_, _<_};
+ghost use Rattle.model.specs.Report.{entryKey, compareKeys};
+ghost use Rattle.order.specs.Orders.{orderOf};
+ghost use Rattle.store.specs.Places.{Cut};
+ghost use Rattle.closing.specs.Sections.{entryOf, Whole};
+ghost use Rattle.placing.specs.Naming.{LinesOfOne};
+ghost use Rattle.placing.specs.Placing.{Ranked, Before, Passed, Spanned, Seated};
+
+// By section, then by item.
+fn compare_rows(text: &[u8], x: Row, y: Row) -> Order
+    requires { ⌜ Whole (now text) x × Whole (now text) y ⌝ }
+    ensures { λ r. ⌜ orderOf r ≡ compareKeys (entryKey (entryOf (now (text .entry)) x)) (entryKey (entryOf (now (text .entry)) y)) ⌝ }
+{
+    let sections = closing::compare_sections(text, x, y);
+    if order::is_equal(sections) {
+        return items::compare_items(text, x, y);
+    }
+    sections
+}
+
+// Whether both rows are lines, of sections whose names stand at the same places.
+fn lines_of_one(x: Row, y: Row) -> bool
+    ensures { λ r. ⌜ (r ≡ true → LinesOfOne x y) ⌝ }
+{
+    if x.tag / 2 == items::LINE {
+        if y.tag / 2 == items::LINE {
+            return same_names(x, y);
+        }
+    }
+    false
+}
+
+// Two lines of one section are compared at once: a text has more of them than of all else.
+fn compare_entries(text: &[u8], x: Row, y: Row) -> Order
+    requires { ⌜ Whole (now text) x × Whole (now text) y ⌝ }
+    ensures { λ r. ⌜ orderOf r ≡ compareKeys (entryKey (entryOf (now (text .entry)) x)) (entryKey (entryOf (now (text .entry)) y)) ⌝ }
+{
+    if lines_of_one(x, y) {
+        return order::compare_numbers(x.k1, y.k1);
+    }
+    compare_rows(text, x, y)
+}
+
+// Whether the entry at a place comes before the key. Two lines are compared here as well, so that this is told without a call.
+fn stands_before(
+    text: &[u8],
+    words: &[u64],
+    index: usize,
+    used: usize,
+    n: usize,
+    at: usize,
+    key: Row,
+) -> bool
+    requires { ⌜ Ranked (now text) (now words) index used n × Whole (now text) key × (at < n) ⌝ }
+    ensures { λ r. ⌜ r ≡ Before (now (text .entry)) (now (words .entry)) index key at ⌝ }
+{
+    let other = store::get(words, index, used, at);
+    if lines_of_one(other, key) {
+        return other.k1 < key.k1;
+    }
+    order::is_less(compare_rows(text, other, key))
+}
+
+// Places between which the key's is.
+struct Span {
+    lo: usize,
+    hi: usize,
+}
+
+// Steps that double, from a place on before which all entries come before the key: two tables that are walked together have their keys
+// near each other.
+fn gallop(
+    text: &[u8],
+    words: &[u64],
+    index: usize,
+    used: usize,
+    n: usize,
+    from: usize,
+    key: Row,
+) -> Span
+    requires { ⌜ Ranked (now text) (now words) index used n × Whole (now text) key × (from ≤ n) × Passed (now text) (now words) index key from ⌝ }
+    ensures { λ r. ⌜ Spanned (Before (now (text .entry)) (now (words .entry)) index key) n (r .lo) (r .hi) ⌝ }
+{
+    let mut lo = from;
+    let mut step = 0;
+    while step < n - lo {
+        let at = lo + step;
+        if stands_before(text, words, index, used, n, at, key) {
+            lo = at + 1;
+            step = step + step + 1;
+        } else {
+            return Span { lo, hi: at };
+        }
+    }
+    Span { lo, hi: n }
+}
+
+// How many of the n entries come before the key, by halving.
+fn bound_entry(
+    text: &[u8],
+    words: &[u64],
+    index: usize,
+    used: usize,
+    n: usize,
+    from: usize,
+    key: Row,
+) -> usize
+    requires { ⌜ Ranked (now text) (now words) index used n × Whole (now text) key × (from ≤ n) × Passed (now text) (now words) index key from ⌝ }
+    ensures { λ r. ⌜ Cut (Before (now (text .entry)) (now (words .entry)) index key) n r ⌝ }
+{
+    let span = gallop(text, words, index, used, n, from, key);
+    let mut lo = span.lo;
+    let mut hi = span.hi;
+    while lo < hi {
+        let mid = lo + (hi - lo) / 2;
+        if stands_before(text, words, index, used, n, mid, key) {
+            lo = mid + 1;
+        } else {
+            hi = mid;
+        }
+    }
+    lo
+}
+
+// The key's place is i: whether it stands there, or is to go there.
+fn seat(
+    text: &[u8],
+    words: &[u64],
+    index: usize,
+    used: usize,
+    n: usize,
+    i: usize,
+    key: Row,
+) -> Found
+    requires { ⌜ Ranked (now text) (now words) index used n × Whole (now text) key × Cut (Before (now text) (now words) index key) n i ⌝ }
+    ensures { λ r. ⌜ Seated (now (text .entry)) (now (words .entry)) index n key r ⌝ }
+{
+    if n <= i {
+        return Found::Insert(i);
+    }
+    let here = store::get(words, index, used, i);
+    if order::is_equal(compare_entries(text, key, here)) {
+        return Found::At(i);
+    }
+    Found::Insert(i)
+}
+
+// The key's place among the n entries, those before place `from` coming before it.
+fn find_later(
+    text: &[u8],
+    words: &[u64],
+    index: usize,
+    used: usize,
+    n: usize,
+    from: usize,
+    key: Row,
+) -> Found
+    requires { ⌜ Ranked (now text) (now words) index used n × Whole (now text) key × (from ≤ n) × Passed (now text) (now words) index key from ⌝ }
+    ensures { λ r. ⌜ Seated (now (text .entry)) (now (words .entry)) index n key r ⌝ }
+{
+    let i = bound_entry(text, words, index, used, n, from, key);
+    seat(text, words, index, used, n, i, key)
+}
+
+// The same, where the entry at `from` is tried first: one comparison for a key that stands there or goes there.
+fn find_from(
+    text: &[u8],
+    words: &[u64],
+    index: usize,
+    used: usize,
+    n: usize,
+    from: usize,
+    key: Row,
+) -> Found
+    requires { ⌜ Ranked (now text) (now words) index used n × Whole (now text) key × (from ≤ n) × Passed (now text) (now words) index key from ⌝ }
+    ensures { λ r. ⌜ Seated (now (text .entry)) (now (words .entry)) index n key r ⌝ }
+{
+    if n <= from {
+        return Found::Insert(from);
+    }
+    let first = store::get(words, index, used, from);
+    let order = compare_entries(text, key, first);
+    if order::is_less(order) {
+        return Found::Insert(from);
+    }
+    if order::is_equal(order) {
+        return Found::At(from);
+    }
+    find_later(text, words, index, used, n, from + 1, key)
+}
+
+// The same, where the key's place is likely to be `at`.
+fn find_near(
+    text: &[u8],
+    words: &[u64],
+    index: usize,
+    used: usize,
+    n: usize,
+    from: usize,
+    at: usize,
+    key: Row,
+) -> Found
+    requires { ⌜ Ranked (now text) (now words) index used n × Whole (now text) key × (from ≤ n) × Passed (now text) (now words) index key from ⌝ }
+    requires { ⌜ (from < at) × (at < n) ⌝ }
+    ensures { λ r. ⌜ Seated (now (text .entry)) (now (words .entry)) index n key r ⌝ }
+{
+    if stands_before(text, words, index, used, n, at, key) {
+        return find_later(text, words, index, used, n, at + 1, key);
+    }
+    if stands_before(text, words, index, used, n, at - 1, key) {
+        return seat(text, words, index, used, n, at, key);
+    }
+    find_later(text, words, index, used, n, from, key)
+}
+
+// The same, where the key before it lay `gap` places behind where its search began: keys of texts that interleave have regular gaps.
+pub fn find_entry(
+    text: &[u8],
+    words: &[u64],
+    index: usize,
+    used: usize,
+    n: usize,
+    from: usize,
+    gap: usize,
+    key: Row,
+) -> Found
+    requires { ⌜ Ranked (now text) (now words) index used n × Whole (now text) key × (from ≤ n) × Passed (now text) (now words) index key from ⌝ }
+    ensures { λ r. ⌜ Seated (now (text .entry)) (now (words .entry)) index n key r ⌝ }
+{
+    if 0 < gap {
+        if gap < n - from {
+            return find_near(text, words, index, used, n, from, from + gap, key);
+        }
+    }
+    find_from(text, words, index, used, n, from, key)
+}
