@@ -252,7 +252,7 @@ fn query_row(list: &List) {
 fn filter_row(list: &List, order: measured::Order) {
     let text = measured::functions(&mut Chance::new(SEED), order, ENTRIES);
     let held = rust_ranges(list);
-    let lent = Lent::sized(&rust_filters(&text, &held));
+    let lent = Lent::roomy(&rust_filters(&text, &held));
     report_row(
         &format!(
             "filter {} entries, {}, by {} ranges",
