@@ -1,9 +1,9 @@
 -- The queue is settled: its rows are put into another order and entered one after the other. Assumes nothing.
 use mathlib.Core.Path.{_≡_, refl, sym, ap, ap₂, _∙_}
 use mathlib.Core.Logic.{_≢_}
-use mathlib.Core.Bool.{false}
+use mathlib.Core.Bool.{Bool, true, false}
 use mathlib.Core.List.{List, []}
-use Prim.Native.Nat.{ℕ, _+_, _≤_, _<_}
+use Prim.Native.Nat.{ℕ, _+_, _-_, _≤_, _<_}
 use native.Mathlib.Omega.{arith}
 use lib.ListN.{length}
 use Rattle.store.specs.declared.Row.{Row}
@@ -13,13 +13,18 @@ use Rattle.map.specs.Result.{accepted, bind}
 use Rattle.map.proofs.Results.{accepted-inj, not-accepted}
 use Rattle.model.specs.declared.Fault.{Fault}
 use Rattle.model.specs.Answer.{Answer}
-use Rattle.model.specs.Report.{Item, within}
+use Rattle.model.specs.Report.{Item, compareItems, within}
 use Rattle.items.specs.Items.{itemOf, Inner}
-use Rattle.items.specs.Open.{itemFrom, itemsAt, Open}
+use Rattle.model.specs.Order.{isLess}
+use Rattle.items.specs.declared.Found.the-variants.{Insert}
+use Rattle.items.specs.Open.{itemFrom, itemsAt, Open, place}
+use Rattle.items.proofs.SearchLaws.{found-none, found-last}
+use Rattle.store.proofs.PlaceLaws.{by-eq}
 use Rattle.ranking.specs.Reordered.{Reordered}
 use Rattle.entering.specs.declared.Entered.{Entered}
 use Rattle.entering.specs.declared.Entered.the-variants.{Items, Refused}
-use Rattle.entering.specs.Parts.{insert, allAt, Parted, Settled}
+use Rattle.entering.specs.Parts.{insert, allAt, Parted, Inserted, Settled}
+use Rattle.entering.proofs.RunLaws.{inserted-open}
 use Rattle.entering.specs.Entering.{seen, Entering}
 use Rattle.entering.proofs.EnterLaws.{within-fits, parts-length, none-recent, parted-none}
 use Rattle.queueing.specs.declared.Sizes.{Sizes}
@@ -94,6 +99,23 @@ replaying-sorted {text} {ws} {index} {at = at} {n = n} ο = record {
 pub none-open : {text ws : List ℕ} {index used at : ℕ} → Store ws index used → at ≤ used → Open text ws index used at 0
 unfolding listed
 none-open σ l = record { store = σ; room = omega arith; inner = λ k m. absurd (omega arith); sorted = tt }
+
+-- two rows as they were read
+pub rises-as : (text ws : List ℕ) (index at k : ℕ) {x y : Row} {r : Bool} → x ≡ row ws index (at + (k - 1)) → y ≡ row ws index (at + k)
+    → r ≡ isLess (compareItems (itemOf text x) (itemOf text y)) → r ≡ true → isLess (compareItems (itemFrom text ws index at (k - 1)) (itemFrom text ws index at k)) ≡ true
+rises-as text ws index at k e f g t = rw (e, f) at (sym g ∙ t)
+
+-- sorted items and one more that comes after them, where it stands
+pub open-next : {text ws : List ℕ} {index used at : ℕ} (k : ℕ) → Open text ws index used at k → at + k < used → Inner text (row ws index (at + k))
+    → (k ≢ 0 → isLess (compareItems (itemFrom text ws index at (k - 1)) (itemFrom text ws index at k)) ≡ true) → Open text ws index used at (k + 1)
+open-next {text} {ws} {index} {used} {at} k ο l ι b =
+    inserted-open text ws index used at k (row ws index (at + k)) false ο k (omega arith) here ws last (ο .store) l ι
+  where
+    here : Insert k ≡ place (itemFrom text ws index at k) (itemsAt text ws index at k)
+    here = by-eq k 0 (λ z. rw z (found-none {n = 0} refl .is)) (λ z. found-last ο z (b z) .is)
+
+    last : Inserted (λ j. row ws index (at + j)) (λ j. row ws index (at + j)) k k (row ws index (at + k))
+    last = record { below = λ j x. refl; here = refl; up = λ j x y. absurd (omega arith) }
 
 module _ {text ws₀ ws : List ℕ} {index used spare at i : ℕ} {s : Sizes} (ρ : Replaying text ws₀ ws index used spare at s i) (l : at + i < used) where
   same-row : row ws index (at + i) ≡ row ws₀ index (at + i)

@@ -6,11 +6,14 @@ use model::Fault;
 use store::Row;
 ghost use mathlib.Core.Path.{_≡_};
 ghost use mathlib.Core.Logic.{_≢_};
-ghost use Prim.Native.Nat.{ℕ, _+_, _≤_, _<_};
+ghost use mathlib.Core.Bool.{true};
+ghost use Prim.Native.Nat.{ℕ, _+_, _-_, _≤_, _<_};
 ghost use lib.ListN.{length};
-ghost use Rattle.store.specs.Store.{row};
+ghost use Rattle.store.specs.Store.{row, Store};
+ghost use Rattle.model.specs.Order.{isLess};
+ghost use Rattle.model.specs.Report.{compareItems};
 ghost use Rattle.items.specs.Items.{Inner};
-ghost use Rattle.items.specs.Open.{Open};
+ghost use Rattle.items.specs.Open.{itemFrom, Open};
 ghost use Rattle.items.specs.Combining.{Adds};
 ghost use Rattle.entering.specs.Parts.{Parted};
 ghost use Rattle.queueing.specs.Queue.{OneMore, Replayed, Queued, Emptied, InOrder};
@@ -106,6 +109,35 @@ fn replay_all(
 // Queued rows that are fewer than this part of the settled items are entered as they came: to go through all items would cost more.
 const PART: usize = 8;
 
+// Whether the k-th row from place `at` on comes after the one before it; the first does.
+fn rises(text: &[u8], words: &[u64], index: usize, used: usize, at: usize, k: usize) -> bool
+    requires { ⌜ Store (now words) index used × (at + k < used) × ((i : ℕ) → i ≤ k → Inner (now text) (row (now words) index (at + i))) ⌝ }
+    ensures { λ r. ⌜ (r ≡ true → k ≢ 0 → isLess (compareItems (itemFrom (now (text .entry)) (now (words .entry)) index at (k - 1)) (itemFrom (now (text .entry)) (now (words .entry)) index at k)) ≡ true) ⌝ }
+{
+    if k == 0 {
+        return true;
+    }
+    let before = store::get(words, index, used, at + (k - 1));
+    let here = store::get(words, index, used, at + k);
+    comes_before(text, before, here)
+}
+
+// How many of the m rows from place `at` on come one after the other by their keys: they are entered where they stand.
+fn rising(text: &[u8], words: &[u64], index: usize, used: usize, at: usize, m: usize) -> usize
+    requires { ⌜ Store (now words) index used × (at + m ≤ used) × ((i : ℕ) → i < m → Inner (now text) (row (now words) index (at + i))) ⌝ }
+    ensures { λ r. ⌜ Open (now (text .entry)) (now (words .entry)) index used at r × (r ≤ m) ⌝ }
+{
+    let mut k = 0;
+    while k < m {
+        if rises(text, words, index, used, at, k) {
+            k += 1;
+        } else {
+            return k;
+        }
+    }
+    k
+}
+
 // The queued rows entered among the items, so that the queue is empty.
 fn settle_queue(
     text: &[u8],
@@ -137,7 +169,8 @@ fn settle_queue(
         );
     }
     ranking::reorder(text, words, index, used, at, m, spare);
-    replay_all(text, words, index, used, spare, at, 0, m, sizes.turns)
+    let n = rising(text, words, index, used, at, m);
+    replay_all(text, words, index, used, spare, at, n, m, sizes.turns)
 }
 
 // A row entered where no row is queued.

@@ -1,7 +1,7 @@
 -- `queueing::settle_queue` meets its contract. Assumes nothing.
 use mathlib.Core.Logic.{_≢_}
 use native.Mathlib.Omega.{arith}
-use Rattle.queueing.proofs.ReplayLaws.{none-open, emptied-already, queue-inner, reordered-inner, emptied, as-they-came}
+use Rattle.queueing.proofs.ReplayLaws.{emptied-already, queue-inner, reordered-inner, emptied, as-they-came}
 use borrow.Author.Needs.{needs}
 use Rattle.queueing.proofs.settle_queue.Statement.{statement}
 use Rattle.queueing.proofs.settle_queue.Tie as tie
@@ -17,7 +17,7 @@ some : (a : tie.After-reorder-arg) → start a .args .sizes .queued ≢ 0
 some a = omega arith
 
 abbrev reordered : tie.After-replay-all-arg2 → tie.After-reorder
-reordered a = a .before .before .before
+reordered a = a .before .before .before .before .before
 
 pub settle-queue-spec : {M : Type 1} → statement M
 settle-queue-spec =
@@ -37,11 +37,15 @@ settle-queue-spec =
     let κ = s .pre .0 in
     let z = κ .alone (omega arith) in
     ((κ .parts .settled .store, omega (arith, κ .room), queue-inner κ (omega arith) (omega arith)), (s .pre .1, omega (arith, s .pre .2, κ .room))))
+    (λ c κs. let r = c .before .before .before in
+    let κ = start (r .before) .pre .0 in
+    let z = κ .alone (some (r .before)) in
+    (r .reorder .ensures .store, omega (arith, κ .room), reordered-inner κ (some (r .before)) (r .reorder .ensures) (omega arith)))
     (λ c κs. let r = reordered c in
     let s = start (r .before) in
     let κ = s .pre .0 in
     let z = κ .alone (some (r .before)) in (
-      (none-open (r .reorder .ensures .store) (omega (arith, κ .room)), omega arith, omega (arith, κ .room), reordered-inner κ (some (r .before)) (r .reorder .ensures) (omega arith)),
+      (c .before .rising .ensures .0, c .before .rising .ensures .1, omega (arith, κ .room), reordered-inner κ (some (r .before)) (r .reorder .ensures) (omega arith)),
       (s .pre .1, omega (arith, s .pre .2, r .reorder .kept .1 .0)),
     ))
     (λ c. search needs)
