@@ -1,11 +1,14 @@
-// The calls that read texts (document 01): a bundle gathered, checked or lossy, one text read, and one filtered, each printed to the output.
+// The calls that read texts (document 01): a bundle gathered, checked or lossy, one text read, and one filtered, each printed to the output;
+// beside them the calls for one line.
 // The scratch is lent; "After a call the scratch is free to hold anything, and no call reads what it held."
+pub use display::print_line;
 use merge::Joined;
 use model::Fault;
 use model::Mode;
 use model::Refusal;
 use model::WriteAnswer;
 use reader::TextAnswer;
+pub use record::read_line;
 ghost use mathlib.Core.Path.{_≡_};
 ghost use mathlib.Core.List.{[]};
 ghost use mathlib.Core.Bool.{true};
