@@ -162,9 +162,10 @@ mod tests {
             let many = many_files(&mut chance, order, 1000);
             assert_eq!(entries(Asked::Text(&many)), 1000);
         }
+        // what is replaced is kept while the other section is open
         let twice = |lines| replaced(&mut Chance::new(1), 1000, lines);
-        assert_eq!(entries(Asked::Text(&twice(3))), 1000);
-        assert_eq!(entries(Asked::Text(&twice(2))), 750);
+        assert_eq!(entries(Asked::Text(&twice(3))), 1000 + 4);
+        assert_eq!(entries(Asked::Text(&twice(2))), 1000 + 3);
         let functions = functions(&mut Chance::new(1), Order::Ascending, 1000);
         assert_eq!(entries(Asked::Text(&functions)), 1000 / 41 * 41);
         let bundled = |bundle: &[u8]| entries(Asked::Bundle(Mode::Checked, bundle));
