@@ -41,6 +41,12 @@ pub const MOST_TEXTS: usize = 64;
 /// The words of an answer.
 pub const WORDS: usize = 8;
 
+/// An output that is nearly always long enough for what is printed of so many bytes, and so long that the report is written without being
+/// measured first.
+pub const fn roomy(read: usize) -> usize {
+    4 * read + 65_536
+}
+
 /// The refusal of an output that is too short, which tells the needed length.
 pub const OUTPUT_TOO_SHORT: u32 = 14;
 

@@ -23,14 +23,13 @@ impl Scratch {
         Scratch(vec![0; MOST_ENTRIES * WORDS_PER_ENTRY])
     }
 
-    /// A call that reads so many bytes and writes a report, given an output that it finds long enough: at most twice. With room for four
-    /// times as many bytes a report is written without being measured first.
+    /// A call that reads so many bytes and writes a report, given an output that it finds long enough: at most twice.
     pub fn written(
         &mut self,
         call: impl Fn(&mut [u64], &mut [u8], &mut [u64]) -> u32,
         read: usize,
     ) -> Result<Vec<u8>, Refusal> {
-        let mut out = vec![0; 4 * read + 65_536];
+        let mut out = vec![0; port::roomy(read)];
         loop {
             let mut answer = [0; WORDS];
             let number = call(&mut self.0, &mut out, &mut answer);

@@ -457,7 +457,7 @@ struct Lent {
 impl Lent {
     /// An output as a caller lends it who doesn't know how long the report is: the command's own measure.
     fn roomy(expected: &str) -> Self {
-        Lent::sized(expected, 4 * expected.len() + 65_536)
+        Lent::sized(expected, port::roomy(expected.len()))
     }
 
     /// As long as the report that is expected.
