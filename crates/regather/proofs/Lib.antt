@@ -1,4 +1,5 @@
 pub mod JoinedItems
 pub mod Rejoined
 pub mod Parts
+pub mod Folded
 pub mod Regather

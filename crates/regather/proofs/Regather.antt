@@ -4,13 +4,11 @@ use native.Mathlib.Omega.{arith}
 use mathlib.Core.Path.{_≡_, refl, sym, ap, _∙_, subst}
 use mathlib.Core.Logic.{_⊎_, inl, inr}
 use mathlib.Core.Bool.{Bool, true}
-use mathlib.Core.List.{List, [], _∷_, _++_, map, List·Memᴰ as Member, List·Memᴰ·head as here, List·Memᴰ·tail as there, List·Memᴰ·not-nil, append-nil}
+use mathlib.Core.List.{List, [], _∷_, _++_, map, List·Memᴰ as Member, List·Memᴰ·head as here, List·Memᴰ·tail as there, List·Memᴰ·not-nil}
 use lib.ListN.{length}
 use Rattle.map.specs.Result.{value, IsAccepted}
-use Rattle.map.specs.Keyed.{Sorted, addAll}
 use Rattle.map.specs.Gathering.{flat, readAll as readEach}
 use Rattle.map.proofs.Results.{accepted-inj, not-refused, isAccepted, accepted-is, accepted-or-refused, value-accepted, value-both, value-bind}
-use Rattle.map.proofs.Adding.{addAll-empty}
 use Rattle.map.proofs.Gathered.{readAll-cons, readAll-append}
 use Rattle.model.specs.declared.Kind.{Kind}
 use Rattle.model.specs.declared.Mode.the-variants.{Checked}
@@ -19,7 +17,7 @@ use Rattle.model.specs.Bytes.{Bytes}
 use Rattle.model.specs.Answer.{Answer, accepted, refused}
 use Rattle.model.specs.Limits.{u32-max}
 use Rattle.model.specs.Tags.{defaultTag, Lawful}
-use Rattle.model.specs.Report.{Entry, Report, compareKeys, entryKey, combineEntries}
+use Rattle.model.specs.Report.{Report}
 use Rattle.model.specs.Reading.{readText}
 use Rattle.model.specs.Output.{written}
 use Rattle.model.specs.Printing.{printReport}
@@ -27,25 +25,15 @@ use Rattle.model.specs.Bundle.{Text, contents, wellFormed, texts}
 use Rattle.model.specs.Gather.{entryLimit, gatherTexts, gather}
 use Rattle.model.specs.Groups.{textsOf, Written}
 use Rattle.model.specs.Joined.{joinedReport, readAll, startsAgree, checksumsAgree, sumsFit}
-use Rattle.model.proofs.KeyOrder.{keys-order}
 use Rattle.model.proofs.TagLaws.{defaultTag-lawful}
-use Rattle.model.proofs.Entries.{entries-keyed}
-use Rattle.model.proofs.Joinable.{joins-exactly}
-use Rattle.model.proofs.JoinedLaws.{report-exactly}
-use Rattle.model.proofs.Read.{empty-valid, readText-valid}
+use Rattle.model.proofs.Read.{empty-valid}
 use Rattle.model.proofs.ReadBack.{readText-print}
-use Rattle.model.proofs.Demand.{texts-exactly, gather-texts, gather-wrote, gathered-valid, read-counted}
+use Rattle.model.proofs.Demand.{texts-exactly, gather-texts, gather-wrote, gathered-valid}
+use Rattle.model.proofs.OneText.{read-alone}
 use Rattle.regather.specs.Regather.{gatherMany, Gathered, StandFor, no-file, text-file, output-file, Regather}
 use Rattle.regather.proofs.Rejoined.{joined-again, starts-again, checksums-again, sums-again}
 use Rattle.regather.proofs.Parts.{Joins, joins-split, readAll-split}
-
--- texts by what they hold
-abbrev unnumbered : List Bytes → List Text
-unnumbered bs = map (λ b. record { index = 0; bytes = b }) bs
-
-unnumbered-hold : (bs : List Bytes) → contents (unnumbered bs) ≡ bs
-unnumbered-hold [] = refl
-unnumbered-hold (b ∷ bs) = ap (λ (l : List Bytes). b ∷ l) (unnumbered-hold bs)
+use Rattle.regather.proofs.Folded.{unnumbered, unnumbered-hold}
 
 module _ (tag : Kind → Bytes) (L : Lawful tag) (limit : ℕ) (small : limit ≤ u32-max) where
   abbrev read : Bytes → Answer Report
@@ -200,15 +188,11 @@ module _ (tag : Kind → Bytes) (L : Lawful tag) (limit : ℕ) (small : limit �
   -- a readable text is a group of its own
   text-more : (text : Bytes) (report : Report) → read text ≡ accepted report
       → (files all : List Bytes) → InGroups files all → InGroups (text ∷ files) (text ∷ all)
+  unfolding gatherTexts
   text-more text r p files all G =
-      let one : readAll tag limit (unnumbered (text ∷ [])) ≡ accepted (r ∷ []) = rw p in
-      let sorted : Sorted entryKey compareKeys r = readText-valid tag limit text p .0 .sorted in
-      let adds : addAll entryKey compareKeys (combineEntries Checked) (flat (r ∷ [])) [] ≡ accepted r =
-      ap (λ (l : List Entry). addAll entryKey compareKeys (combineEntries Checked) l []) (append-nil r)
-      ∙ addAll-empty entryKey compareKeys (combineEntries Checked) keys-order (entries-keyed Checked) r sorted in
-      let (j, e) = report-exactly (r ∷ []) (read-counted tag limit (unnumbered (text ∷ [])) (r ∷ []) one) r .0 adds in
-      let (s, c, t) = joins-exactly (r ∷ []) .0 j in
-      more text (text ∷ []) (r ∷ []) (p ∙ ap accepted e) one s c files all G
+      let alone : gathers (unnumbered (text ∷ [])) ≡ accepted r = rw (read-alone tag limit Checked text, p) in
+      let (rs, H, e) = texts-exactly tag limit (unnumbered (text ∷ [])) r .0 alone in
+      more text (text ∷ []) rs (p ∙ ap accepted e) (H .readable) (H .starts-agree) (H .checksums-agree) files all G
 
   text-read : (text : Bytes) (files all : List Bytes) → ((r : Report) × (read text ≡ accepted r)) ⊎ ((c : Refusal) × (read text ≡ refused c))
       → Read files all → Read (text ∷ files) (text ∷ all)
@@ -276,7 +260,7 @@ module _ (tag : Kind → Bytes) (L : Lawful tag) (limit : ℕ) (small : limit �
 module _ (tag : Kind → Bytes) (L : Lawful tag) where
   bundles-again : (outer : Bytes) (all : List Text) (words room : ℕ) → wellFormed outer ≡ true
       → StandFor tag (entryLimit words) (textsOf outer) (contents all)
-      → value (gather tag Checked outer words room) ≡ value (gatherMany tag all words room)
+      → value (gather tag Checked outer words room) ≡ value (gatherMany tag Checked all words room)
   bundles-again outer all words room w s =
       ap value (gather-texts tag Checked outer words room w)
       ∙ value-bind (gatherTexts tag Checked (entryLimit words) (texts outer) []) (gatherTexts tag Checked (entryLimit words) all [])
@@ -292,7 +276,7 @@ module _ (tag : Kind → Bytes) (L : Lawful tag) where
         sums = sums-again;
         same-texts = λ words. texts-again tag L (entryLimit words) (omega arith);
         each-group = λ words. all-accepted tag L (entryLimit words) (omega arith);
-        bundled = gather-texts tag Checked;
+        bundled = gather-texts tag;
         same = λ parts outputs outer all words room h w e f.
             bundles-again outer all words room w (rw (e, f) (written-stand tag L (entryLimit words) (omega arith) parts outputs h));
         rounds = bundles-again;

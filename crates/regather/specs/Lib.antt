@@ -1,1 +1,2 @@
 pub mod Regather
+pub mod Folded

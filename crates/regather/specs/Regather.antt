@@ -6,6 +6,7 @@
 --   Texts: the groups' outputs, gathered, are all the texts gathered (`same-texts`). Where all are accepted, so is each group alone
 --   (`each-group`): a tool that meets a group's refusal, other than for want of output, may stop there.
 --   Bundles: one round (`same`), and any number of rounds, texts beside outputs (`rounds`).
+-- All this is about the checked gather. Rounds that each begin with what the one before wrote, checked or lossy: Folded.
 -- Assumes nothing.
 use Prim.Native.Nat.{ℕ}
 use mathlib.Core.Path.{_≡_}
@@ -14,6 +15,7 @@ use mathlib.Core.List.{List, [], _∷_, _++_, map, List·Memᴰ as Member}
 use Rattle.map.specs.Result.{value, IsAccepted}
 use Rattle.map.specs.Gathering.{flat}
 use Rattle.model.specs.declared.Kind.{Kind}
+use Rattle.model.specs.declared.Mode.{Mode}
 use Rattle.model.specs.declared.Mode.the-variants.{Checked}
 use Rattle.model.specs.Bytes.{Bytes}
 use Rattle.model.specs.Answer.{Answer, accepted, _>>=_}
@@ -26,9 +28,9 @@ use Rattle.model.specs.Groups.{textsOf, Written}
 use Rattle.model.specs.Joined.{joinedReport, startsAgree, checksumsAgree, sumsFit}
 
 module _ (tag : Kind → Bytes) where
-  -- the checked gather of any number of texts: of a well-formed bundle's texts, its gather
-  abbrev pub gatherMany : List Text → ℕ → ℕ → Answer Bytes
-  gatherMany texts words room = gatherTexts tag Checked (entryLimit words) texts [] >>= λ report. written room (printReport tag report)
+  -- the gather of any number of texts: of a well-formed bundle's texts, its gather
+  abbrev pub gatherMany : Mode → List Text → ℕ → ℕ → Answer Bytes
+  gatherMany mode texts words room = gatherTexts tag mode (entryLimit words) texts [] >>= λ report. written room (printReport tag report)
 
   -- each group of texts is accepted by itself, and its report, printed, is the output beside it
   abbrev pub Gathered : ℕ → List (List Text) → List Bytes → Type 0
@@ -66,13 +68,13 @@ module _ (tag : Kind → Bytes) where
         → IsAccepted (gatherTexts tag Checked (entryLimit words) all [])
         → (group : List Text) → Member group groups → IsAccepted (gatherTexts tag Checked (entryLimit words) group [])
     -- a bundle's gather is that of its texts
-    pub bundled : (bundle : Bytes) (words room : ℕ) → wellFormed bundle ≡ true
-        → gather tag Checked bundle words room ≡ gatherMany (texts bundle) words room
+    pub bundled : (mode : Mode) (bundle : Bytes) (words room : ℕ) → wellFormed bundle ≡ true
+        → gather tag mode bundle words room ≡ gatherMany mode (texts bundle) words room
     -- bundles, each gathered by itself, and a bundle of what that wrote
     pub same : (parts outputs : List Bytes) (outer : Bytes) (all : List Text) (words room : ℕ) → Written tag (entryLimit words) parts outputs
         → wellFormed outer ≡ true → textsOf outer ≡ outputs → contents all ≡ flat (map textsOf parts)
-        → value (gather tag Checked outer words room) ≡ value (gatherMany all words room)
+        → value (gather tag Checked outer words room) ≡ value (gatherMany Checked all words room)
     -- a bundle of files, whatever rounds of gathers they come from
     pub rounds : (outer : Bytes) (all : List Text) (words room : ℕ) → wellFormed outer ≡ true
         → StandFor (entryLimit words) (textsOf outer) (contents all)
-        → value (gather tag Checked outer words room) ≡ value (gatherMany all words room)
+        → value (gather tag Checked outer words room) ≡ value (gatherMany Checked all words room)
