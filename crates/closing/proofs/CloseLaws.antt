@@ -12,11 +12,11 @@ use Rattle.model.specs.Report.{Item, sectionItem, Entry, Report, SectionKey, in
 use Rattle.model.specs.Reading.{spellingOf, keepSection, replaceSection}
 use Rattle.items.specs.Items.{kindOf, itemOf, Inner}
 use Rattle.closing.specs.Sections.{testOf, pathOf, entryOf, keyOf, Named, Ordered, IsRun}
-use Rattle.closing.specs.Closing.{Spliced}
+use Rattle.closing.specs.Closing.{withSection, Spliced}
 use Rattle.closing.proofs.RunLaws.{run-before, run-in, run-behind, run-ends}
-use Rattle.closing.proofs.OwnLaws.{item-kept, runAt, own-place, own-entry}
+use Rattle.closing.proofs.OwnLaws.{item-kept, runAt, own-place, OwnAs}
 use Rattle.closing.proofs.ReplaceLaws.{all-listed, Compared, replaced, keep-some}
-use Rattle.closing.proofs.SpliceLaws.{spliced-keys, spliced-places, spliced-same, spliced-ordered}
+use Rattle.closing.proofs.SpliceLaws.{spliced-each, spliced-keys, spliced-places, spliced-same, spliced-ordered}
 
 -- ---- the entries as three parts, by a key
 
@@ -51,8 +51,8 @@ module _ {text : Bytes} {f : ℕ → Row} {m lo hi : ℕ} {key : SectionKey} (ρ
       (λ k l. run-behind ρ (lo + (hi - lo + k)) (omega (arith, run-ends ρ)) (omega (arith, run-ends ρ)))
 
 module _ {text : Bytes} {f g : ℕ → Row} {m from n lo hi : ℕ} {key : Row} (σ : Ordered text f m)
-    (inner : (k : ℕ) → k < n → Inner text (f (from + 1 + k))) (ν : Named text key) (tag : key .tag ≡ 0)
-    (ρ : IsRun text f m (keyOf text key) lo hi) (ς : Spliced f g m from n lo hi key) where
+    (inner : (k : ℕ) → k < n → Inner text (f (from + 1 + k))) (ν : Named text key) (ρ : IsRun text f m (keyOf text key) lo hi)
+    {spelling : Bytes} (ω : OwnAs text key spelling (g lo)) (ς : Spliced f g m from n lo hi key) where
   -- ---- the entries after
 
   abbrev G : ℕ → Entry
@@ -73,11 +73,12 @@ module _ {text : Bytes} {f g : ℕ → Row} {m from n lo hi : ℕ} {key : Row} (
       ap (entryOf text) (ς .items (lo + suc k) (from + 1 + k) (omega arith) (omega arith) (omega arith))
       ∙ ap mk (item-kept text (f (from + 1 + k)) key (omega (arith, inner k l .inner)))
 
-  own-parts : listed (λ k. G (lo + k)) (n + 1) ≡ map mk (sectionItem (spellingOf (pathOf text key) (runAt text f lo hi)) ∷ itemsOf)
+  -- the section itself
+  pub closed-section : listed (λ k. G (lo + k)) (n + 1) ≡ map mk (sectionItem spelling ∷ itemsOf)
   unfolding listed
-  own-parts =
+  closed-section =
       ap (listed (λ k. G (lo + k))) (let e : n + 1 ≡ suc n = omega arith in e)
-      ∙ ap₂ _∷_ (ap G (let e : lo + 0 ≡ lo = omega arith in e) ∙ own-entry σ ν tag ρ (ς .own) .is)
+      ∙ ap₂ _∷_ (ap G (let e : lo + 0 ≡ lo = omega arith in e) ∙ ω .is)
       (listed-cong (λ k. G (lo + suc k)) (λ k. mk (itemOf text (f (from + 1 + k)))) n item-parts
       ∙ sym (map-listed mk (λ k. itemOf text (f (from + 1 + k))) n))
 
@@ -86,34 +87,28 @@ module _ {text : Bytes} {f g : ℕ → Row} {m from n lo hi : ℕ} {key : Row} (
       listed-cong (λ k. G (lo + (n + 1 + k))) (λ k. entryOf text (f (lo + (hi - lo + k)))) (m - hi)
       (λ k l. ap (entryOf text) (ς .high (lo + (n + 1 + k)) (lo + (hi - lo + k)) (omega arith) (omega arith) (omega (arith, run-ends ρ))))
 
-  after : listed G (lo + (n + 1) + (m - hi))
-      ≡ lowerAt text f lo ++ (map mk (sectionItem (spellingOf (pathOf text key) (runAt text f lo hi)) ∷ itemsOf) ++ higherAt text f m lo hi)
-  after =
+  -- it stands between those that are less and those that are greater
+  pub closed-parts : listed G (lo + (n + 1) + (m - hi))
+      ≡ lowerAt text f lo ++ (map mk (sectionItem spelling ∷ itemsOf) ++ higherAt text f m lo hi)
+  closed-parts =
       ap (listed G) (let e : lo + (n + 1) + (m - hi) ≡ lo + (n + 1 + (m - hi)) = omega arith in e)
-      ∙ listed-three G lo (n + 1) (m - hi) ∙ ap₂ _++_ low-parts (ap₂ _++_ own-parts high-parts)
-
-  -- ---- as the model has them
-
-  pub closed-entries : n ≢ 0 → listed G (lo + (n + 1) + (m - hi)) ≡ keepSection (testOf text key) (pathOf text key) itemsOf
-      (listed (λ k. entryOf text (f k)) m)
-  closed-entries z =
-      after
-      ∙ sym (keep-some (testOf text key) (pathOf text key) itemsOf (listed (λ k. entryOf text (f k)) m) (rw length-listed z)
-      ∙ ap (replaceSection (testOf text key) (pathOf text key) itemsOf) (parts ρ)
-      ∙ replaced (testOf text key) (pathOf text key) itemsOf (lowerAt text f lo) (runAt text f lo hi) (higherAt text f m lo hi) (lower-all ρ)
-      (run-all ρ) (higher-all ρ))
+      ∙ listed-three G lo (n + 1) (m - hi) ∙ ap₂ _++_ low-parts (ap₂ _++_ closed-section high-parts)
 
   pub closed-ordered : Ordered text g (lo + (n + 1) + (m - hi))
-  closed-ordered = spliced-ordered σ inner ν ρ (own-entry σ ν tag ρ (ς .own)) ς
+  closed-ordered = spliced-ordered σ inner ν ρ ω ς
 
   pub closed-same : hi ≡ lo + (n + 1) → (k : ℕ) → k < m → keyOf text (g k) ≡ keyOf text (f k)
-  closed-same = spliced-same σ inner ν ρ (own-entry σ ν tag ρ (ς .own)) ς
+  closed-same = spliced-same σ inner ν ρ ω ς
 
   pub closed-keys : (P : SectionKey → Type 0) → ((k : ℕ) → k < m → P (keyOf text (f k))) → P (keyOf text key)
       → (k : ℕ) → k < lo + (n + 1) + (m - hi) → P (keyOf text (g k))
-  closed-keys = spliced-keys σ inner ν ρ (own-entry σ ν tag ρ (ς .own)) ς
+  closed-keys = spliced-keys σ inner ν ρ ω ς
+
+  pub closed-each : (P : Row → Type 0) → ((k : ℕ) → k < m → P (f k)) → P (g lo) → ((k : ℕ) → k < n → P (withSection (f (from + 1 + k)) key))
+      → (k : ℕ) → k < lo + (n + 1) + (m - hi) → P (g k)
+  closed-each = spliced-each σ inner ν ρ ω ς
 
   pub closed-places : (P : SectionKey → ℕ → Type 0) → ((k : ℕ) → k < m → kindOf (f k) ≡ 0 → P (keyOf text (f k)) (f k .k1))
       → P (keyOf text key) (key .k1) → (k : ℕ) → k < lo + (n + 1) + (m - hi) → kindOf (g k) ≡ 0 → P (keyOf text (g k)) (g k .k1)
-  closed-places P others here = spliced-places σ inner ν ρ (own-entry σ ν tag ρ (ς .own)) ς P others
+  closed-places P others here = spliced-places σ inner ν ρ ω ς P others
       (subst (P (keyOf text key)) (sym (own-place (ς .own))) here)

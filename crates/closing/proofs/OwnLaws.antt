@@ -1,7 +1,7 @@
 -- A section's own row, and rows that get a test name and a path. Assumes nothing.
 use mathlib.Core.Path.{_≡_, refl, sym, ap, _∙_}
 use mathlib.Core.Logic.{_≢_}
-use mathlib.Core.List.{List, _∷_}
+use mathlib.Core.List.{List, [], _∷_}
 use mathlib.Core.Option.{Option}
 use Prim.Native.Nat.{ℕ, zero, suc, _+_, _-_, _≤_, _<_}
 use native.Mathlib.Nat.{add-zero}
@@ -65,7 +65,7 @@ whole-kept g ν = record {
 
 -- ---- the spelling
 
-section-item : (text : Bytes) (r : Row) → kindOf r ≡ 0 → itemOf text r ≡ sectionItem (pathOf text r)
+pub section-item : (text : Bytes) (r : Row) → kindOf r ≡ 0 → itemOf text r ≡ sectionItem (pathOf text r)
 unfolding itemOf
 section-item text r e = rw e
 
@@ -99,37 +99,36 @@ run-cons text f lo hi h =
     ap (listed (λ k. entryOf text (f (lo + k)))) (let e : hi - lo ≡ suc (hi - suc lo) = omega arith in e)
     ∙ ap (λ (j : ℕ). entryOf text (f j) ∷ listed (λ k. entryOf text (f (lo + suc k))) (hi - suc lo)) (add-zero lo)
 
-run-empty : (text : Bytes) (f : ℕ → Row) (lo hi : ℕ) (path : Bytes) → hi ≤ lo → spellingOf path (runAt text f lo hi) ≡ path
-unfolding listed spellingOf
-run-empty text f lo hi path h = ap (λ (n : ℕ). spellingOf path (listed (λ k. entryOf text (f (lo + k))) n)) (let e : hi - lo ≡ 0 = omega arith in e)
-
 -- ---- the section's own row
+
+abbrev tagOf : Row → ℕ
+tagOf r = r .tag
 
 module _ {first key : Row} {lo hi : ℕ} where
   pub own-new : hi ≤ lo → Own first lo hi key key
   own-new h = record { new = λ l. refl; spelled = λ l. absurd (omega arith); other = λ l. absurd (omega arith) }
 
-  pub own-other : {r : Row} → r ≡ first → kindOf r ≢ 0 → Own first lo hi key key
-  own-other e h = record { new = λ l. refl; spelled = λ l q. absurd (h (ap kindOf e ∙ q)); other = λ l q. refl }
+  pub own-other : {r : Row} → r ≡ first → r .tag ≢ 0 → Own first lo hi key key
+  own-other e h = record { new = λ l. refl; spelled = λ l q. absurd (h (ap tagOf e ∙ q)); other = λ l q. refl }
 
-  pub own-spelled : {r : Row} → r ≡ first → kindOf r ≡ 0 → lo < hi → Own first lo hi key (withPath key r)
+  pub own-spelled : {r : Row} → r ≡ first → r .tag ≡ 0 → lo < hi → Own first lo hi key (withPath key r)
   own-spelled e h l = record {
     new = λ g. absurd (omega arith);
     spelled = λ g q. ap (withPath key) e;
-    other = λ g q. absurd (q (ap kindOf (sym e) ∙ h));
+    other = λ g q. absurd (q (ap tagOf (sym e) ∙ h));
   }
 
 -- the own row says the place that the key says
 pub own-place : {first key r : Row} {lo hi : ℕ} → Own first lo hi key r → r .k1 ≡ key .k1
 own-place {first} {lo = lo} {hi = hi} ω =
     by-lt lo hi
-    (λ l. by-eq (kindOf first) 0 (λ e. ap (λ (x : Row). x .k1) (ω .spelled l e)) (λ e. ap (λ (x : Row). x .k1) (ω .other l e)))
+    (λ l. by-eq (first .tag) 0 (λ e. ap (λ (x : Row). x .k1) (ω .spelled l e)) (λ e. ap (λ (x : Row). x .k1) (ω .other l e)))
     (λ h. ap (λ (x : Row). x .k1) (ω .new h))
 
--- the own row is the section's own entry, spelled as the entries from lo up to hi say
-pub record OwnEntry (text : Bytes) (f : ℕ → Row) (lo hi : ℕ) (key r : Row) : Type 0 where
+-- the row is the own entry of the section that has the key, spelled so
+pub record OwnAs (text : Bytes) (key : Row) (spelling : Bytes) (r : Row) : Type 0 where
   pub whole : Whole text r
-  pub is : entryOf text r ≡ inSection (keyOf text key) (sectionItem (spellingOf (pathOf text key) (runAt text f lo hi)))
+  pub is : entryOf text r ≡ inSection (keyOf text key) (sectionItem spelling)
 
 same-entry : (t : Bytes) {p q : Path} {i j : Item} → p ≡ q → i ≡ j → _≡_ {A = Entry} (inSection (t, p) i) (inSection (t, q) j)
 same-entry t e f = λ k. inSection (t, e k) (f k)
@@ -139,31 +138,54 @@ module _ {text : Bytes} {f : ℕ → Row} {n lo hi : ℕ} {key : Row} (σ : Orde
   section-good : (r : Row) → r .tag ≡ 0 → Good text r
   section-good r e = omega arith
 
-  key-entry : spellingOf (pathOf text key) (runAt text f lo hi) ≡ pathOf text key → OwnEntry text f lo hi key key
+  key-entry : {spelling : Bytes} → spelling ≡ pathOf text key → OwnAs text key spelling key
   key-entry e = record {
     whole = record { named = ν; good = section-good key tag };
     is = same-entry (testOf text key) refl (section-item text key (omega arith) ∙ ap sectionItem (sym e));
   }
 
-  spelled-entry : lo < hi → kindOf (f lo) ≡ 0 → OwnEntry text f lo hi key (withPath key (f lo))
-  spelled-entry l h = record {
+  spelled-entry : {spelling : Bytes} → spelling ≡ pathOf text (f lo) → lo < hi → f lo .tag ≡ 0 → OwnAs text key spelling (withPath key (f lo))
+  spelled-entry e l h = record {
     whole = record {
       named = record { test = ν .test; path = σ .whole lo (omega (arith, ρ .high .most)) .named .path };
       good = section-good (withPath key (f lo)) tag;
     };
     is = same-entry (testOf text key) (sym paths)
-        (section-item text (withPath key (f lo)) (omega arith)
-        ∙ ap sectionItem (sym (ap (spellingOf (pathOf text key)) (run-cons text f lo hi l) ∙ spelled-by (pathOf text key) text (f lo) _ h)));
+        (section-item text (withPath key (f lo)) (omega arith) ∙ ap sectionItem (sym e));
   }
     where
       paths : components (pathOf text key) ≡ components (pathOf text (f lo))
       paths = ap (λ (k : SectionKey). k .1) (sections-order .equal (run-in ρ lo (omega arith) l))
 
-  pub own-entry : {r : Row} → Own (f lo) lo hi key r → OwnEntry text f lo hi key r
-  own-entry ω =
+  -- spelled as entries say that begin with the first of the rows from lo up to hi, or that are none where there is none or that one is dead
+  pub own-as : {r : Row} (es : Report) → (lo < hi → f lo .tag ≢ 1 → (l : Report) × (es ≡ entryOf text (f lo) ∷ l)) → (lo < hi → f lo .tag ≡ 1 → es ≡ [])
+      → (hi ≤ lo → es ≡ []) → Own (f lo) lo hi key r → OwnAs text key (spellingOf (pathOf text key) es) r
+  unfolding spellingOf
+  own-as es living dead none ω =
       by-lt lo hi
-      (λ l. by-eq (kindOf (f lo)) 0
-      (λ e. rw (ω .spelled l e) (spelled-entry l e))
-      (λ e. rw (ω .other l e) (key-entry
-      (ap (spellingOf (pathOf text key)) (run-cons text f lo hi l) ∙ not-spelled-by (pathOf text key) text (f lo) _ e))))
-      (λ h. rw (ω .new h) (key-entry (run-empty text f lo hi (pathOf text key) h)))
+      (λ l. by-eq (f lo .tag) 0
+      (λ e. rw (ω .spelled l e) (spelled (living l (omega arith)) l e))
+      (λ e. rw (ω .other l e) (by-eq (f lo .tag) 1
+      (λ d. key-entry (ap (spellingOf (pathOf text key)) (dead l d)))
+      (λ d. not-spelled (living l d) (omega arith)))))
+      (λ h. rw (ω .new h) (key-entry (ap (spellingOf (pathOf text key)) (none h))))
+    where
+      spelled : (l : Report) × (es ≡ entryOf text (f lo) ∷ l) → lo < hi → f lo .tag ≡ 0 → OwnAs text key (spellingOf (pathOf text key) es) (withPath key (f lo))
+      spelled (l, e) h z = spelled-entry (ap (spellingOf (pathOf text key)) e ∙ spelled-by (pathOf text key) text (f lo) l (omega arith)) h z
+
+      not-spelled : (l : Report) × (es ≡ entryOf text (f lo) ∷ l) → kindOf (f lo) ≢ 0 → OwnAs text key (spellingOf (pathOf text key) es) key
+      not-spelled (l, e) h = key-entry (ap (spellingOf (pathOf text key)) e ∙ not-spelled-by (pathOf text key) text (f lo) l h)
+
+  -- where all rows live
+  pub own-entry : {r : Row} → (lo < hi → f lo .tag ≢ 1) → Own (f lo) lo hi key r → OwnAs text key (spellingOf (pathOf text key) (runAt text f lo hi)) r
+  unfolding listed
+  own-entry living ω =
+      own-as (runAt text f lo hi) (λ l d. (listed (λ k. entryOf text (f (lo + suc k))) (hi - suc lo), run-cons text f lo hi l)) (λ l d. absurd (living l d))
+      (λ h. ap (listed (λ k. entryOf text (f (lo + k)))) (let e : hi - lo ≡ 0 = omega arith in e)) ω
+
+-- the own row has the key's tag
+pub own-tag : {first key r : Row} {lo hi : ℕ} → Own first lo hi key r → r .tag ≡ key .tag
+own-tag {first} {lo = lo} {hi = hi} ω =
+    by-lt lo hi
+    (λ l. by-eq (first .tag) 0 (λ e. ap tagOf (ω .spelled l e)) (λ e. ap tagOf (ω .other l e)))
+    (λ h. ap tagOf (ω .new h))

@@ -14,22 +14,12 @@ use Rattle.model.specs.Bytes.{Bytes}
 use Rattle.model.specs.Path.{components}
 use Rattle.model.specs.Report.{Item, sectionItem, Entry, Report, SectionKey, sectionKey, inSection, compareSections}
 use Rattle.model.specs.Reading.{spellingOf, replaceSection, keepSection}
-use Rattle.model.proofs.ListLaws.{All}
+use Rattle.model.proofs.ListLaws.{All, select-append}
 
 pub all-listed : {A : Type 0} (P : A → Type 0) (f : ℕ → A) (n : ℕ) → ((k : ℕ) → k < n → P (f k)) → All P (listed f n)
 unfolding listed
 all-listed P f zero h = tt
 all-listed P f (suc n) h = (h 0 (omega arith), all-listed P (λ k. f (suc k)) n (λ k l. h (suc k) (omega arith)))
-
-select-append : {A : Type 0} (test : A → Bool) (l m : List A) → select test (l ++ m) ≡ select test l ++ select test m
-unfolding select
-select-append test [] m = refl
-select-append {A} test (x ∷ xs) m = go (test x) (select-append test xs m)
-  where
-    go : (b : Bool) → select test (xs ++ m) ≡ select test xs ++ select test m
-        → (if b then x ∷ select test (xs ++ m) else select test (xs ++ m)) ≡ (if b then x ∷ select test xs else select test xs) ++ select test m
-    go true e = ap (λ (l : List A). x ∷ l) e
-    go false e = e
 
 module _ (key : SectionKey) where
   -- the entries with which the key compares as o

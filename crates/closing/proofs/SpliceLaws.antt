@@ -16,7 +16,7 @@ use Rattle.items.specs.Items.{kindOf, Inner}
 use Rattle.closing.specs.Sections.{keyOf, rowsFrom, Named, Whole, Ordered, IsRun}
 use Rattle.closing.specs.Closing.{withSection, Filled, Own, Spliced}
 use Rattle.closing.proofs.RunLaws.{run-before, run-in, run-behind, run-ends}
-use Rattle.closing.proofs.OwnLaws.{whole-kept, OwnEntry, own-entry}
+use Rattle.closing.proofs.OwnLaws.{whole-kept, OwnAs}
 
 -- the own row is put, the items are filled, and the blocks are turned
 module _ (ws : List ℕ) {ws₁ ws₂ : List ℕ} {index used : ℕ} (at m : ℕ) {n lo hi : ℕ} {key own : Row} (a : lo ≤ hi) (b : hi ≤ m)
@@ -62,7 +62,7 @@ same-not-greater p q = let z : Ordering·eq ≡ Ordering·gt = sym p ∙ q in im
 
 module _ {text : Bytes} {f g : ℕ → Row} {m from n lo hi : ℕ} {key : Row} (σ : Ordered text f m)
     (inner : (k : ℕ) → k < n → Inner text (f (from + 1 + k))) (ν : Named text key) (ρ : IsRun text f m (keyOf text key) lo hi)
-    (ω : OwnEntry text f lo hi key (g lo)) (ς : Spliced f g m from n lo hi key) where
+    {spelling : Bytes} (ω : OwnAs text key spelling (g lo)) (ς : Spliced f g m from n lo hi key) where
   own-key : keyOf text (g lo) ≡ keyOf text key
   own-key = ap sectionKey (ω .is)
 

@@ -6,7 +6,6 @@ use mathlib.Core.List.{List}
 use Rattle.store.specs.declared.Row.{Row}
 use Rattle.store.specs.Places.{Same, Shifted}
 use Rattle.store.specs.Store.{row, Store}
-use Rattle.items.specs.Items.{kindOf}
 
 -- a row with the test name and the path of another
 abbrev pub withSection : Row → Row → Row
@@ -43,11 +42,11 @@ withPath r other = record {
   count = r .count;
 }
 
--- the section's own row, where rows from lo up to hi have its key and the first of them is given
+-- the section's own row, where rows from lo up to hi have its key and the first of them is given: a living own row spells the path
 pub record Own (first : Row) (lo hi : ℕ) (key r : Row) : Type 0 where
   pub new : hi ≤ lo → r ≡ key
-  pub spelled : lo < hi → kindOf first ≡ 0 → r ≡ withPath key first
-  pub other : lo < hi → kindOf first ≢ 0 → r ≡ key
+  pub spelled : lo < hi → first .tag ≡ 0 → r ≡ withPath key first
+  pub other : lo < hi → first .tag ≢ 0 → r ≡ key
 
 -- f is what each place had, g what it has: the section's own row and its n items, which stood from place from on, stand among m entries in
 -- place of those from lo up to hi

@@ -169,6 +169,9 @@ pub fn fill(words: &mut [u64], index: usize, used: usize, from: usize, n: usize,
     }
 }
 
+// The tag of a section's own row. Of the two tags of its kind it is the one of a living row (crate dropping).
+const OWN: u64 = 0;
+
 // The section's own row: the key, spelled as the first of the rows from lo up to hi, which is the own row of the section that has it.
 // Places count from `at` on.
 pub fn own_row(
@@ -187,7 +190,7 @@ pub fn own_row(
         return key;
     }
     let first = store::get(words, index, used, at + lo);
-    if first.tag / 2 != items::SECTION {
+    if first.tag != OWN {
         return key;
     }
     let mut own = key;

@@ -1,4 +1,9 @@
+pub mod PairLaws
 pub mod TogetherLaws
+pub mod HeldLaws
+pub mod MarkLaws
 pub mod LateLaws
 pub mod ClosedLaws
-pub mod InPlaceLaws
+pub mod KeptLaws
+pub mod LastLaws
+pub mod SiftedLaws

@@ -15,12 +15,16 @@ use Rattle.model.specs.Report.{Item, sectionItem, Entry, Report, SectionKey, se
 use Rattle.model.specs.Reading.{spellingOf, replaceSection}
 use Rattle.model.proofs.ListLaws.{All, all-append}
 use Rattle.model.proofs.KeyOrder.{sections-order}
-use Rattle.late.specs.Late.{togetherFrom, together}
+use Rattle.late.specs.Late.{mix, together}
 use Rattle.closing.proofs.ReplaceLaws.{Compared, replaced}
 
+module _ {E K : Type 0} (key : E → K) (cmp : K → K → Ordering) where
+  mix-none : (xs : List E) → mix key cmp xs [] ≡ xs
+  mix-none [] = refl
+  mix-none (x ∷ xs) = ap (λ (l : List E). x ∷ l) (mix-none xs)
+
 pub together-none : (xs : Report) → together xs [] ≡ xs
-together-none [] = refl
-together-none (x ∷ xs) = ap (λ (l : Report). x ∷ l) (together-none xs)
+together-none xs = mix-none sectionKey compareSections xs
 
 -- no entry is lost, where no key is in both
 abbrev Apart : Report → Entry → Type 0
@@ -37,7 +41,7 @@ length-from x xs (y ∷ ys) h a rest = go (compareSections (sectionKey x) (secti
     fewer (z ∷ l) b = (b .0 .1, fewer l (b .1))
 
     go : (o : Ordering) → compareSections (sectionKey x) (sectionKey y) ≡ o → length (together (x ∷ xs) ys) ≡ length (x ∷ xs) + length ys
-        → length (byOrder o (x ∷ together xs (y ∷ ys)) (x ∷ together xs ys) (y ∷ togetherFrom x (λ l. together xs l) ys)) ≡ length
+        → length (byOrder o (x ∷ together xs (y ∷ ys)) (x ∷ together xs ys) (y ∷ together (x ∷ xs) ys)) ≡ length
         (x ∷ xs) + length (y ∷ ys)
     go Ordering·lt e r = omega (arith, rest (y ∷ ys) a)
     go Ordering·eq e r = absurd (h .0 e)
@@ -55,7 +59,7 @@ module _ (P : Entry → Type 0) where
   all-from x xs (y ∷ ys) h b rest = go (compareSections (sectionKey x) (sectionKey y)) (all-from x xs ys h (b .1) rest)
     where
       go : (o : Ordering) → All P (together (x ∷ xs) ys)
-          → All P (byOrder o (x ∷ together xs (y ∷ ys)) (x ∷ together xs ys) (y ∷ togetherFrom x (λ l. together xs l) ys))
+          → All P (byOrder o (x ∷ together xs (y ∷ ys)) (x ∷ together xs ys) (y ∷ together (x ∷ xs) ys))
       go Ordering·lt r = (h, rest (y ∷ ys) b)
       go Ordering·eq r = (h, rest ys (b .1))
       go Ordering·gt r = (b .0, r)
@@ -103,8 +107,8 @@ module _ (key : SectionKey) where
       go : (o : Ordering) → together (A ++ B) (y ∷ C ++ D) ≡ together A (y ∷ C) ++ together B D
           → together (A ++ B) (C ++ D) ≡ together A C ++ together B D
           → together (x ∷ A ++ B) (C ++ D) ≡ together (x ∷ A) C ++ together B D
-          → byOrder o (x ∷ together (A ++ B) (y ∷ C ++ D)) (x ∷ together (A ++ B) (C ++ D)) (y ∷ togetherFrom x (λ l. together (A ++ B) l) (C ++ D))
-          ≡ byOrder o (x ∷ together A (y ∷ C)) (x ∷ together A C) (y ∷ togetherFrom x (λ l. together A l) C) ++ together B D
+          → byOrder o (x ∷ together (A ++ B) (y ∷ C ++ D)) (x ∷ together (A ++ B) (C ++ D)) (y ∷ together (x ∷ A ++ B) (C ++ D))
+          ≡ byOrder o (x ∷ together A (y ∷ C)) (x ∷ together A C) (y ∷ together (x ∷ A) C) ++ together B D
       go Ordering·lt p q r = ap (λ (l : Report). x ∷ l) p
       go Ordering·eq p q r = ap (λ (l : Report). x ∷ l) q
       go Ordering·gt p q r = ap (λ (l : Report). y ∷ l) r
@@ -149,60 +153,68 @@ module _ (key : SectionKey) where
   own-key [] = tt
   own-key (i ∷ items) = (sections-order .same key, own-key items)
 
-module _ (test path : Bytes) (items : List Item) (A B C S D : Report) (a : Compared (test, components path) Ordering·gt A)
-    (b : Compared (test, components path) Ordering·lt B) (c : Compared (test, components path) Ordering·gt C)
-    (s : Compared (test, components path) Ordering·eq S) (d : Compared (test, components path) Ordering·lt D) where
+-- the section's entries in place of those that have its key, in the first report, S, or in the second, T
+module _ (test path : Bytes) (items : List Item) (A S B C T D : Report) (a : Compared (test, components path) Ordering·gt A)
+    (s : Compared (test, components path) Ordering·eq S) (b : Compared (test, components path) Ordering·lt B)
+    (c : Compared (test, components path) Ordering·gt C) (t : Compared (test, components path) Ordering·eq T)
+    (d : Compared (test, components path) Ordering·lt D) where
   abbrev key : SectionKey
   key = (test, components path)
 
-  abbrev new : Report
-  new = map (inSection key) (sectionItem (spellingOf path S) ∷ items)
+  -- the entries that it has then, spelled as those before
+  abbrev pub anew : Report → Report
+  anew before = map (inSection key) (sectionItem (spellingOf path before) ∷ items)
 
-  -- where it is known how a report has the entries of the key
-  replaced-known : (all : Report → Report)
-      → ((M : Report) → Compared (test, components path) Ordering·eq M → all M ≡ together A C ++ (M ++ together B D))
-      → all new ≡ replaceSection test path items (all S)
-  replaced-known all known =
-      known new (own-key key (sectionItem (spellingOf path S) ∷ items))
-      ∙ sym (ap (replaceSection test path items) (known S s)
-      ∙ replaced test path items (together A C) S (together B D) (all-together _ A C a c) s (all-together _ B D b d))
+  replaced-around : (M : Report) → Compared key Ordering·eq M
+      → replaceSection test path items (together A C ++ (M ++ together B D)) ≡ together A C ++ (anew M ++ together B D)
+  replaced-around M m = replaced test path items (together A C) M (together B D) (all-together _ A C a c) m (all-together _ B D b d)
 
-  -- a section put among the entries of the second report is put among all
-  pub replaced-together : together (A ++ B) (replaceSection test path items (C ++ (S ++ D)))
-      ≡ replaceSection test path items (together (A ++ B) (C ++ (S ++ D)))
-  replaced-together =
-      ap (together (A ++ B)) (replaced test path items C S D c s d)
-      ∙ replaced-known (λ (M : Report). together (A ++ B) (C ++ (M ++ D))) (around key A B C D a b c d)
+  -- they come into the second report
+  pub in-second : (M : Report) → Compared key Ordering·eq M → together (A ++ B) (C ++ (anew M ++ D)) ≡ together A C ++ (anew M ++ together B D)
+  in-second M m = around key A B C D a b c d (anew M) (own-key key (sectionItem (spellingOf path M) ∷ items))
 
-  -- and so is one put among the entries of the first
-  pub replaced-together-own : together (replaceSection test path items (A ++ (S ++ B))) (C ++ D)
-      ≡ replaceSection test path items (together (A ++ (S ++ B)) (C ++ D))
-  replaced-together-own =
-      ap (λ (l : Report). together l (C ++ D)) (replaced test path items A S B a s b)
-      ∙ replaced-known (λ (M : Report). together (A ++ (M ++ B)) (C ++ D)) (around-own key A B C D a b c d)
+  -- or into the first
+  pub in-first : (M : Report) → Compared key Ordering·eq M → together (A ++ (anew M ++ B)) (C ++ D) ≡ together A C ++ (anew M ++ together B D)
+  in-first M m = around-own key A B C D a b c d (anew M) (own-key key (sectionItem (spellingOf path M) ∷ items))
+
+  -- one of the second report is replaced there
+  pub second-by-second : together (A ++ B) (C ++ (anew T ++ D)) ≡ replaceSection test path items (together (A ++ B) (C ++ (T ++ D)))
+  second-by-second =
+      in-second T t ∙ sym (ap (replaceSection test path items) (around key A B C D a b c d T t) ∙ replaced-around T t)
+
+  -- one of the first is replaced there, or in the second
+  pub first-by-first : together (A ++ (anew S ++ B)) (C ++ D) ≡ replaceSection test path items (together (A ++ (S ++ B)) (C ++ D))
+  first-by-first =
+      in-first S s ∙ sym (ap (replaceSection test path items) (around-own key A B C D a b c d S s) ∙ replaced-around S s)
+
+  pub first-by-second : together (A ++ B) (C ++ (anew S ++ D)) ≡ replaceSection test path items (together (A ++ (S ++ B)) (C ++ D))
+  first-by-second =
+      in-second S s ∙ sym (ap (replaceSection test path items) (around-own key A B C D a b c d S s) ∙ replaced-around S s)
 
 -- ---- as one pass
 
-abbrev Pass : Type 0
-Pass = Result (Unit {0}) Report
+module _ {E K : Type 0} (key : E → K) (cmp : K → K → Ordering) where
+  abbrev Pass : Type 0
+  Pass = Result (Unit {0}) (List E)
 
--- one pass that would keep the first of two entries of one key
-abbrev pub pass : Report → Report → Pass
-pass xs ys = onePass sectionKey compareSections (λ e f. accepted e) xs ys
+  -- one pass that would keep the first of two of one key
+  abbrev pub pass : List E → List E → Pass
+  pass xs ys = onePass key cmp (λ e f. accepted e) xs ys
 
-pass-from : (x : Entry) (xs ys : Report) → ((l : Report) → pass xs l ≡ accepted (together xs l)) → pass (x ∷ xs) ys ≡ accepted (together (x ∷ xs) ys)
-pass-from x xs [] rest = ap (λ (l : Report). accepted (x ∷ l)) (sym (together-none xs))
-pass-from x xs (y ∷ ys) rest = go (compareSections (sectionKey x) (sectionKey y)) (pass-from x xs ys rest)
-  where
-    go : (o : Ordering) → pass (x ∷ xs) ys ≡ accepted (together (x ∷ xs) ys)
-        → _≡_ {A = Pass}
-        (byOrder o (mapAccepted (λ l. x ∷ l) (pass xs (y ∷ ys))) (mapAccepted (λ l. x ∷ l) (pass xs ys))
-        (mapAccepted (λ l. y ∷ l) (pass (x ∷ xs) ys)))
-        (accepted (byOrder o (x ∷ together xs (y ∷ ys)) (x ∷ together xs ys) (y ∷ together (x ∷ xs) ys)))
-    go Ordering·lt r = ap (mapAccepted (λ l. x ∷ l)) (rest (y ∷ ys))
-    go Ordering·eq r = ap (mapAccepted (λ l. x ∷ l)) (rest ys)
-    go Ordering·gt r = ap (mapAccepted (λ l. y ∷ l)) r
+  pass-from : (x : E) (xs ys : List E) → ((l : List E) → pass xs l ≡ accepted (mix key cmp xs l))
+      → pass (x ∷ xs) ys ≡ accepted (mix key cmp (x ∷ xs) ys)
+  pass-from x xs [] rest = ap (λ (l : List E). accepted (x ∷ l)) (sym (mix-none key cmp xs))
+  pass-from x xs (y ∷ ys) rest = go (cmp (key x) (key y)) (pass-from x xs ys rest)
+    where
+      go : (o : Ordering) → pass (x ∷ xs) ys ≡ accepted (mix key cmp (x ∷ xs) ys)
+          → _≡_ {A = Pass}
+          (byOrder o (mapAccepted (λ l. x ∷ l) (pass xs (y ∷ ys))) (mapAccepted (λ l. x ∷ l) (pass xs ys))
+          (mapAccepted (λ l. y ∷ l) (pass (x ∷ xs) ys)))
+          (accepted (byOrder o (x ∷ mix key cmp xs (y ∷ ys)) (x ∷ mix key cmp xs ys) (y ∷ mix key cmp (x ∷ xs) ys)))
+      go Ordering·lt r = ap (mapAccepted (λ l. x ∷ l)) (rest (y ∷ ys))
+      go Ordering·eq r = ap (mapAccepted (λ l. x ∷ l)) (rest ys)
+      go Ordering·gt r = ap (mapAccepted (λ l. y ∷ l)) r
 
-pub pass-together : (xs ys : Report) → pass xs ys ≡ accepted (together xs ys)
-pass-together [] ys = refl
-pass-together (x ∷ xs) ys = pass-from x xs ys (λ l. pass-together xs l)
+  pub pass-mix : (xs ys : List E) → pass xs ys ≡ accepted (mix key cmp xs ys)
+  pass-mix [] ys = refl
+  pass-mix (x ∷ xs) ys = pass-from x xs ys (λ l. pass-mix xs l)

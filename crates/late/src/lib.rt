@@ -1,10 +1,14 @@
 // Sections that end out of order: turning blocks of the index for each of them would move the index again and again. So they are late ones
 // at first, in order among themselves, behind the settled ones; and many of them are settled in one pass. The place among the settled ones
 // is looked up once, when a section ends, and noted in its own row, whose k1 means nothing else.
+// A settled section that is replaced is marked dead where it stands. The new one takes as many of its places as it needs, and comes among
+// the late ones where they are too few; many dead rows are dropped in one pass.
 use closing::Run;
 use closing::compare_sections;
 use closing::find_run;
+use closing::own_row;
 use closing::splice;
+use dropping::bury;
 use store::Row;
 ghost use mathlib.Core.Path.{_≡_};
 ghost use mathlib.Core.Logic.{_≢_};
@@ -13,12 +17,13 @@ ghost use lib.ListN.{length};
 ghost use Rattle.store.specs.Rows.{word};
 ghost use Rattle.items.specs.Open.{Open};
 ghost use Rattle.closing.specs.Sections.{keyOf, Named, rowsFrom, IsRun};
-ghost use Rattle.late.specs.Late.{withPlace, InParts, PlaceOf, Noted, Settled, SameReport, Closed};
+ghost use Rattle.late.specs.Late.{withPlace, Held, PlaceOf, Noted, Settled, SameReport, Closed};
 
-// How many kept entries are settled, and how many are late.
+// How many kept rows are settled, how many are late, and how many of the settled ones are dead.
 pub struct Parts {
     pub settled: usize,
     pub late: usize,
+    pub dead: usize,
 }
 
 // Late entries are settled when there are more than these.
@@ -41,14 +46,14 @@ fn place_of(
     index: usize,
     used: usize,
     spare: usize,
-    settled: usize,
-    late: usize,
+    parts: Parts,
     j: usize,
 ) -> usize
-    requires { ⌜ InParts (now text) (now words) index used settled late × (j < late) × (spare + late ≤ length (now words)) ⌝ }
-    requires { ⌜ (0 < j → PlaceOf (now text) (now words) index settled (j - 1) (word (now words) (spare + (j - 1)))) ⌝ }
-    ensures { λ r. ⌜ PlaceOf (now (text .entry)) (now (words .entry)) index settled j r ⌝ }
+    requires { ⌜ Held (now text) (now words) index used parts × (j < parts .late) × (spare + parts .late ≤ length (now words)) ⌝ }
+    requires { ⌜ (0 < j → PlaceOf (now text) (now words) index (parts .settled) (j - 1) (word (now words) (spare + (j - 1)))) ⌝ }
+    ensures { λ r. ⌜ PlaceOf (now (text .entry)) (now (words .entry)) index (parts .settled) j r ⌝ }
 {
+    let settled = parts.settled;
     let entry = store::get(words, index, used, settled + j);
     if entry.tag / 2 == items::SECTION {
         return entry.k1 as usize;
@@ -70,139 +75,225 @@ fn note_places(
     index: usize,
     used: usize,
     spare: usize,
-    settled: usize,
-    late: usize,
+    parts: Parts,
 )
-    requires { ⌜ InParts (now text) (now words) index used settled late × (index + used ≤ spare) × (spare + late ≤ length (now words)) ⌝ }
-    ensures { λ _. ⌜ Noted (now (text .entry)) (now (words .entry)) (now (words .exit)) index spare settled late ⌝ }
+    requires { ⌜ Held (now text) (now words) index used parts × (index + used ≤ spare) × (spare + parts .late ≤ length (now words)) ⌝ }
+    ensures { λ _. ⌜ Noted (now (text .entry)) (now (words .entry)) (now (words .exit)) index spare (parts .settled) (parts .late) ⌝ }
 {
     let mut j = 0;
-    while j < late {
-        let place = place_of(text, words, index, used, spare, settled, late, j);
+    while j < parts.late {
+        let place = place_of(text, words, index, used, spare, parts, j);
         words[spare + j] = place as u64;
         j += 1;
     }
 }
 
 // The late entries come among the settled ones.
-pub fn settle(
+fn settle(
     text: &[u8],
     words: &mut [u64],
     index: usize,
     used: usize,
     spare: usize,
-    settled: usize,
-    late: usize,
-)
-    requires { ⌜ InParts (now text) (now words) index used settled late ⌝ }
-    requires { ⌜ (index + used ≤ spare) × (spare + late + late ≤ length (now words)) ⌝ }
-    ensures { λ _. ⌜ Settled (now (text .entry)) (now (words .entry)) (now (words .exit)) index used settled late ⌝ }
+    parts: Parts,
+) -> Parts
+    requires { ⌜ Held (now text) (now words) index used parts × (index + used ≤ spare) × (spare + used + used ≤ length (now words)) ⌝ }
+    ensures same { λ r. ⌜ SameReport (now (text .entry)) (now (words .entry)) (now (words .exit)) index used parts r ⌝ }
+    ensures none { λ r. ⌜ (r .late ≡ 0) × (r .dead ≡ parts .dead) ⌝ }
 {
-    note_places(text, words, index, used, spare, settled, late);
-    weaving::weave(words, index, used, 0, settled, late, spare);
+    note_places(text, words, index, used, spare, parts);
+    weaving::weave(words, index, used, 0, parts.settled, parts.late, spare);
+    Parts {
+        settled: parts.settled + parts.late,
+        late: 0,
+        dead: parts.dead,
+    }
 }
 
-// The late entries are settled when they are many.
+// The late entries come among the settled ones, and the dead are dropped. Answers how many entries there are.
+pub fn settle_all(
+    text: &[u8],
+    words: &mut [u64],
+    index: usize,
+    used: usize,
+    spare: usize,
+    parts: Parts,
+) -> usize
+    requires { ⌜ Held (now text) (now words) index used parts × (index + used ≤ spare) × (spare + used + used ≤ length (now words)) ⌝ }
+    ensures { λ r. ⌜ Settled (now (text .entry)) (now (words .entry)) (now (words .exit)) index used parts r ⌝ }
+{
+    let all = settle(text, words, index, used, spare, parts);
+    if all.dead == 0 {
+        return all.settled;
+    }
+    dropping::sift(words, index, used, all.settled, spare)
+}
+
+// The late entries are settled when they are many, and the dead are dropped when there are more than `slack`.
 fn settle_many(
     text: &[u8],
     words: &mut [u64],
     index: usize,
     used: usize,
     spare: usize,
-    settled: usize,
-    late: usize,
+    parts: Parts,
+    slack: usize,
 ) -> Parts
-    requires { ⌜ InParts (now text) (now words) index used settled late ⌝ }
-    requires { ⌜ (index + used ≤ spare) × (spare + late + late ≤ length (now words)) ⌝ }
-    ensures { λ r. ⌜ SameReport (now (text .entry)) (now (words .entry)) (now (words .exit)) index used settled late r ⌝ }
+    requires { ⌜ Held (now text) (now words) index used parts × (index + used ≤ spare) × (spare + used + used ≤ length (now words)) ⌝ }
+    ensures same { λ r. ⌜ SameReport (now (text .entry)) (now (words .entry)) (now (words .exit)) index used parts r ⌝ }
+    ensures few { λ r. ⌜ r .dead ≤ slack ⌝ }
 {
-    if LATE < late {
-        settle(text, words, index, used, spare, settled, late);
+    if slack < parts.dead {
+        let all = settle_all(text, words, index, used, spare, parts);
         return Parts {
-            settled: settled + late,
+            settled: all,
             late: 0,
+            dead: 0,
         };
     }
-    Parts {
-        settled: settled,
-        late: late,
+    if LATE < parts.late {
+        return settle(text, words, index, used, spare, parts);
     }
+    parts
 }
 
-// The open section is kept, where a settled one has its key. One of the same size comes in its place: no other entry moves, and the late
-// ones stay late. Else all are settled first.
+// The open section is kept, where no late one has its key. Settled rows that have it die, and it comes in place of as many of them as it
+// has rows; where they are too few, or none, it comes among the late ones.
 fn replace(
     text: &[u8],
     words: &mut [u64],
     index: usize,
     used: usize,
     spare: usize,
-    settled: usize,
-    late: usize,
+    parts: Parts,
+    run: Run,
+    place: usize,
+    n: usize,
+    key: Row,
+) -> Parts
+    requires { ⌜ Held (now text) (now words) index used parts × Open (now text) (now words) index used (parts .settled + parts .late + 1) n × (n ≢ 0) ⌝ }
+    requires { ⌜ IsRun (now text) (rowsFrom (now words) index 0) (parts .settled) (keyOf (now text) key) (run .lo) (run .hi) ⌝ }
+    requires { ⌜ IsRun (now text) (rowsFrom (now words) index (parts .settled)) (parts .late) (keyOf (now text) key) place place ⌝ }
+    requires { ⌜ Named (now text) key × (key .tag ≡ 0) × (index + used ≤ spare) × (spare + used + used ≤ length (now words)) ⌝ }
+    ensures { λ r. ⌜ Closed (now (text .entry)) (now (words .entry)) (now (words .exit)) index used parts n key r ⌝ }
+{
+    let settled = parts.settled;
+    let late = parts.late;
+    let lo = run.lo;
+    let spelled = own_row(words, index, used, 0, lo, run.hi, key);
+    let dead = parts.dead + bury(words, index, used, lo, run.hi);
+    if n + 1 <= run.hi - lo {
+        let taken = Run {
+            lo: lo,
+            hi: lo + (n + 1),
+        };
+        splice(
+            words,
+            index,
+            used,
+            spare,
+            0,
+            settled + late,
+            taken,
+            n,
+            spelled,
+        );
+        return Parts {
+            settled: settled,
+            late: late,
+            dead: dead - (n + 1),
+        };
+    }
+    let among = Run {
+        lo: place,
+        hi: place,
+    };
+    let own = with_place(spelled, lo);
+    let many = splice(words, index, used, spare, settled, late, among, n, own);
+    Parts {
+        settled: settled,
+        late: many,
+        dead: dead,
+    }
+}
+
+// The open section is kept among settled and late ones.
+fn keep(
+    text: &[u8],
+    words: &mut [u64],
+    index: usize,
+    used: usize,
+    spare: usize,
+    parts: Parts,
     run: Run,
     n: usize,
     key: Row,
 ) -> Parts
-    requires { ⌜ InParts (now text) (now words) index used settled late × Open (now text) (now words) index used (settled + late + 1) n × (n ≢ 0) ⌝ }
-    requires { ⌜ IsRun (now text) (rowsFrom (now words) index 0) settled (keyOf (now text) key) (run .lo) (run .hi) × (run .lo < run .hi) ⌝ }
+    requires { ⌜ Held (now text) (now words) index used parts × Open (now text) (now words) index used (parts .settled + parts .late + 1) n × (n ≢ 0) ⌝ }
+    requires { ⌜ IsRun (now text) (rowsFrom (now words) index 0) (parts .settled) (keyOf (now text) key) (run .lo) (run .hi) ⌝ }
     requires { ⌜ Named (now text) key × (key .tag ≡ 0) × (index + used ≤ spare) × (spare + used + used ≤ length (now words)) ⌝ }
-    ensures { λ r. ⌜ Closed (now (text .entry)) (now (words .entry)) (now (words .exit)) index used settled late n key r ⌝ }
+    ensures { λ r. ⌜ Closed (now (text .entry)) (now (words .entry)) (now (words .exit)) index used parts n key r ⌝ }
 {
-    let all = settled + late;
-    if run.hi - run.lo == n + 1 {
-        splice(words, index, used, spare, 0, all, run, n, key);
-        return Parts {
-            settled: settled,
-            late: late,
-        };
+    let settled = parts.settled;
+    let late = parts.late;
+    let among = find_run(text, words, index, used, settled, late, key);
+    if among.hi <= among.lo {
+        return replace(
+            text,
+            words,
+            index,
+            used,
+            spare,
+            parts,
+            run,
+            among.lo,
+            n,
+            key,
+        );
     }
-    settle(text, words, index, used, spare, settled, late);
-    let among = find_run(text, words, index, used, 0, all, key);
-    let kept = splice(words, index, used, spare, 0, all, among, n, key);
+    let own = with_place(key, run.lo);
+    let many = splice(words, index, used, spare, settled, late, among, n, own);
     Parts {
-        settled: kept,
-        late: 0,
+        settled: settled,
+        late: many,
+        dead: parts.dead,
     }
 }
 
-// The open section of n items is kept, unless it has none. Most texts have their sections in order: then none is late. `spare` is where
-// free words start.
+// The open section of n items is kept, unless it has none; not more than `slack` rows are left dead. Most texts have their sections in
+// order: then none is late and none dies. `spare` is where free words start.
 pub fn close(
     text: &[u8],
     words: &mut [u64],
     index: usize,
     used: usize,
     spare: usize,
-    settled: usize,
-    late: usize,
+    parts: Parts,
     n: usize,
     key: Row,
+    slack: usize,
 ) -> Parts
-    requires { ⌜ InParts (now text) (now words) index used settled late × Open (now text) (now words) index used (settled + late + 1) n ⌝ }
+    requires { ⌜ Held (now text) (now words) index used parts × Open (now text) (now words) index used (parts .settled + parts .late + 1) n ⌝ }
     requires { ⌜ Named (now text) key × (key .tag ≡ 0) × (index + used ≤ spare) × (spare + used + used ≤ length (now words)) ⌝ }
-    ensures { λ r. ⌜ Closed (now (text .entry)) (now (words .entry)) (now (words .exit)) index used settled late n key r ⌝ }
+    requires { ⌜ parts .dead ≤ slack ⌝ }
+    ensures same { λ r. ⌜ Closed (now (text .entry)) (now (words .entry)) (now (words .exit)) index used parts n key r ⌝ }
+    ensures few { λ r. ⌜ r .dead ≤ slack ⌝ }
 {
     if n == 0 {
-        return Parts {
-            settled: settled,
-            late: late,
-        };
+        return parts;
     }
+    let settled = parts.settled;
     let run = find_run(text, words, index, used, 0, settled, key);
-    if run.lo < run.hi {
-        return replace(text, words, index, used, spare, settled, late, run, n, key);
-    }
-    if late == 0 {
+    if parts.late == 0 {
         if run.lo == settled {
             let kept = splice(words, index, used, spare, 0, settled, run, n, key);
             return Parts {
                 settled: kept,
                 late: 0,
+                dead: parts.dead,
             };
         }
     }
-    let among = find_run(text, words, index, used, settled, late, key);
-    let own = with_place(key, run.lo);
-    let many = splice(words, index, used, spare, settled, late, among, n, own);
-    settle_many(text, words, index, used, spare, settled, many)
+    let after = keep(text, words, index, used, spare, parts, run, n, key);
+    settle_many(text, words, index, used, spare, after, slack)
 }

@@ -26,7 +26,7 @@ use Rattle.model.specs.Bundle.{wellFormed, texts}
 use Rattle.model.specs.Gather.{entryLimit, readAndPrint, gatherTexts, gather}
 use Rattle.closing.specs.Sections.{entriesAt}
 use Rattle.section.specs.Table.{Table}
-use Rattle.section.specs.Reading.{Room}
+use Rattle.section.specs.Reading.{capacity, Room}
 use Rattle.reader.specs.declared.TextAnswer.{TextAnswer}
 use Rattle.reader.specs.declared.TextAnswer.the-variants as T
 use Rattle.reader.specs.Reader.{TextRead}
@@ -76,8 +76,8 @@ Ready text ws index spare used n =
 
 module _ (text ws : List ℕ) (words index spare limit used n : ℕ) (is : limit ≡ entryLimit words) (long : length ws ≡ words) (at-index : index ≡ index-at limit)
     (at-spare : spare ≡ spare-at limit) where
-  ready : Table text ws index used n → used ≤ limit → Ready text ws index spare used n
-  ready t h = ((t, omega (arith, t .room)), (omega arith, omega (arith, t .room)))
+  ready : Table text ws index used n → used ≤ capacity limit → n ≤ limit → Ready text ws index spare used n
+  ready t h m = ((t, omega arith), (omega arith, omega arith))
 
 -- ---- gather
 
@@ -118,7 +118,7 @@ module _ (bundle : Bytes) (mode : Mode) (words : ℕ) where
           (table-wider bundle (take (base-at limit) ws) (drop (base-at limit) ws) (index-at limit) n n (joining .table)))
 
       pub gather-ready : length ws ≡ words → (spare : ℕ) → spare ≡ spare-at limit → Ready bundle ws index spare n n
-      gather-ready long spare at-spare = ready bundle ws words index spare limit n n is long at-index at-spare table (joining .most)
+      gather-ready long spare at-spare = ready bundle ws words index spare limit n n is long at-index at-spare table (omega (arith, joining .most)) (joining .most)
 
       entries-are : entriesAt bundle ws index n ≡ entriesAt bundle (take (base-at limit) ws) (index-at limit) n
       entries-are =
@@ -152,7 +152,7 @@ module _ (text : Bytes) (words limit : ℕ) (is : limit ≡ entryLimit words) (w
       → Ready text ws index spare used kept
   reading-ready kept used e long at-index spare at-spare =
       let held = rw e at (t .held) in
-      ready text ws words index spare limit used kept is long at-index at-spare (read-table text ws index limit 0 kept used (rw e at t)) (held .1)
+      ready text ws words index spare limit used kept is long at-index at-spare (read-table text ws index limit 0 kept used (rw e at t)) (held .1) (held .2)
 
   module _ (print : Report → Bytes) (out : Bytes) (answer : Answer Bytes) (means : answer ≡ readThen print text words out) where
     pub reading-refused : (r : Refusal) → got ≡ T.Refused r → Told answer out out (W.Refused r)

@@ -24,6 +24,7 @@ use Rattle.model.proofs.OneText.{read-alone}
 use Rattle.bundle.proofs.BundleLaws.{well-few}
 use Rattle.closing.specs.Sections.{entriesAt}
 use Rattle.section.specs.Table.{Table}
+use Rattle.section.specs.Reading.{capacity}
 use Rattle.reader.specs.declared.TextAnswer.{TextAnswer}
 use Rattle.reader.specs.declared.TextAnswer.the-variants as T
 use Rattle.reader.specs.Reader.{seenText}
@@ -62,7 +63,7 @@ module _ (bundle ws ws′ : List ℕ) (mode : Mode) (limit n i : ℕ) (got : Tex
     read-is : accepted (entriesAt bundle (drop (base-at limit) ws′) (index-at limit) kept) ≡ readText defaultTag limit (textAt bundle i .bytes)
     read-is = rw e at (b .read .is)
 
-    read-held : Table bundle (drop (base-at limit) ws′) (index-at limit) used kept × (used ≤ limit)
+    read-held : Table bundle (drop (base-at limit) ws′) (index-at limit) used kept × (used ≤ capacity limit) × (kept ≤ limit)
     read-held = rw e at (b .read .held)
 
     -- both tables are there to be merged
@@ -117,9 +118,9 @@ module _ (bundle ws ys us : List ℕ) (mode : Mode) (limit n i : ℕ) (got : Tex
   pub front-joined : (kept used base : ℕ) → got ≡ T.Read kept used → kept ≡ used → base ≡ base-at limit → take base us ≡ ys
       → GatheredAs (inText i alone) bundle us limit (G.Entries kept)
   front-joined kept used base e f g h =
-      let held : Table bundle ys (index-at limit) used kept × (used ≤ limit) = rw e at (o .held) in
+      let held : Table bundle ys (index-at limit) used kept × (used ≤ capacity limit) × (kept ≤ limit) = rw e at (o .held) in
       let part : take (base-at limit) us ≡ ys = rw g at h in
-      record { is = rw (alone-is, e, part); held = record { table = rw part (rw (← f) at (held .0)); most = omega (arith, held .1) } }
+      record { is = rw (alone-is, e, part); held = record { table = rw part (rw (← f) at (held .0)); most = held .2 } }
 
 -- ---- nothing is joined yet
 

@@ -108,6 +108,7 @@ module _ (bundle ws : List ℕ) (limit i : ℕ) (p : Part) (place : p ≡ partAt
           subst (λ (b : Bytes). Table b ws (index-at limit) used kept) whole-is
               (table-longer (take end bundle) (drop end bundle) ws (index-at limit) used kept table),
           t .held .1,
+          t .held .2,
         );
       }
 

@@ -13,6 +13,7 @@ use Rattle.model.specs.Reading.{readText}
 use Rattle.model.specs.Bundle.{textAt}
 use Rattle.closing.specs.Sections.{entriesAt}
 use Rattle.section.specs.Table.{Table}
+use Rattle.section.specs.Reading.{capacity}
 use Rattle.reader.specs.declared.TextAnswer.{TextAnswer}
 use Rattle.reader.specs.declared.TextAnswer.the-variants as T
 use Rattle.reader.specs.Reader.{seenText}
@@ -38,7 +39,7 @@ pub record Joining (text ws : List ℕ) (limit n : ℕ) : Type 0 where
 -- ---- a text that is read
 
 abbrev pub HeldOne : Bytes → List ℕ → ℕ → TextAnswer → Type 0
-HeldOne text ws limit (T.Read kept used) = Table text ws (index-at limit) used kept × (used ≤ limit)
+HeldOne text ws limit (T.Read kept used) = Table text ws (index-at limit) used kept × (used ≤ capacity limit) × (kept ≤ limit)
 HeldOne text ws limit (T.Refused r) = Unit {0}
 
 -- the answer is the model's for the i-th text

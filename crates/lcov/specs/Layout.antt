@@ -1,22 +1,23 @@
--- The scratch of the calls that read texts, counted in entries: `limit` rows that are joined, their index and twice as many spare words;
--- then the same for the text that is read. Assumes nothing.
+-- The scratch of the calls that read texts, counted in rows, which are more than the entries within the limit: rows that are joined, their
+-- index and twice as many spare words; then the same for the text that is read. Assumes nothing.
 use Prim.Native.Nat.{ℕ, _+_, _*_, _≤_}
 use mathlib.Core.List.{List}
 use lib.ListN.{length}
 use Rattle.store.specs.Rows.{row-words}
 use Rattle.model.specs.Limits.{words-per-entry, most-entries}
+use Rattle.section.specs.Reading.{capacity}
 
 -- where an index starts, behind its rows
 abbrev pub index-at : ℕ → ℕ
-index-at limit = limit * row-words
+index-at limit = capacity limit * row-words
 
 -- where the spare words start, behind the index
 abbrev pub spare-at : ℕ → ℕ
-spare-at limit = index-at limit + limit
+spare-at limit = index-at limit + capacity limit
 
 -- where the words for the text that is read start
 abbrev pub base-at : ℕ → ℕ
-base-at limit = spare-at limit + limit + limit
+base-at limit = spare-at limit + capacity limit + capacity limit
 
 -- the words are enough for the limit
 pub record Space (ws : List ℕ) (limit : ℕ) : Type 0 where

@@ -57,7 +57,7 @@ fn index_at(limit: usize) -> usize
     requires { ⌜ limit ≤ most-entries ⌝ }
     ensures { λ r. ⌜ r ≡ index-at limit ⌝ }
 {
-    limit * store::ROW_WORDS
+    section::capacity(limit) * store::ROW_WORDS
 }
 
 // Where spare words start, behind the index: `spare-at`.
@@ -65,7 +65,7 @@ fn spare_at(limit: usize) -> usize
     requires { ⌜ limit ≤ most-entries ⌝ }
     ensures { λ r. ⌜ r ≡ spare-at limit ⌝ }
 {
-    index_at(limit) + limit
+    index_at(limit) + section::capacity(limit)
 }
 
 // Where the words for the text that is read start: `base-at`.
@@ -73,7 +73,8 @@ fn base_at(limit: usize) -> usize
     requires { ⌜ limit ≤ most-entries ⌝ }
     ensures { λ r. ⌜ r ≡ base-at limit ⌝ }
 {
-    spare_at(limit) + limit + limit
+    let rows = section::capacity(limit);
+    spare_at(limit) + rows + rows
 }
 
 // A refusal, in the i-th text.

@@ -44,6 +44,11 @@ pub none-queued : (text ws : List ℕ) (index at : ℕ) (s : Sizes) → s .queue
 unfolding queuedOn listed
 none-queued text ws index at s z = rw z
 
+-- each row is an item
+pub held-exact : {text ws : List ℕ} {index used spare at : ℕ} {s : Sizes} → Queued text ws index used spare at s → s .queued ≡ 0
+    → length (heldAt text ws index at s) ≡ rowsOf s
+held-exact {text} {ws} {index} {used} {spare} {at} {s} κ z = ap length (none-queued text ws index at s z) ∙ omega (arith, parts-length (κ .parts))
+
 pub queued-none : {text ws : List ℕ} {index used spare at : ℕ} (s : Sizes) → s .queued ≡ 0 → Parted text ws index used spare at (s .settled) (s .recent)
     → Queued text ws index used spare at s
 queued-none s z π = record {

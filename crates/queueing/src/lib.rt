@@ -139,7 +139,7 @@ fn rising(text: &[u8], words: &[u64], index: usize, used: usize, at: usize, m: u
 }
 
 // The queued rows entered among the items, so that the queue is empty.
-fn settle_queue(
+pub fn settle_queue(
     text: &[u8],
     words: &mut [u64],
     index: usize,

@@ -35,8 +35,8 @@ module _ (number : ℕ) (r : Refusal) where
 
 pub ended-inside : {text ws : List ℕ} {index number : ℕ} {st : State} {r : Refusal} → st .inside ≡ true → r ≡ faultAt number UnexpectedEof
     → Ended text ws ws index st number (T.Refused r)
-ended-inside i h = record { is = rw (i, h); settled = λ o. let z : true ≡ false = sym i ∙ o in impossible cc }
+ended-inside i h = record { kept = 0; is = rw (i, h); settled = λ o. let z : true ≡ false = sym i ∙ o in impossible cc }
 
-pub ended-outside : {text ws ws′ : List ℕ} {index number : ℕ} {st : State} → st .inside ≡ false → AllSettled text ws ws′ index st
-    → Ended text ws ws′ index st number (T.Read (st .kept) (st .used))
-ended-outside i σ = record { is = rw i; settled = λ o. σ }
+pub ended-outside : {text ws ws′ : List ℕ} {index number kept : ℕ} {st : State} → st .inside ≡ false → AllSettled text ws ws′ index st kept
+    → Ended text ws ws′ index st number (T.Read kept (st .used))
+ended-outside {kept = kept} i σ = record { kept = kept; is = rw i; settled = λ o. σ }

@@ -12,6 +12,7 @@ use Rattle.model.specs.Answer.{accepted}
 use Rattle.model.specs.Reading.{outside}
 use Rattle.section.specs.declared.State.{State}
 use Rattle.section.specs.Reading.{Room, stateOf, Valid}
+use Rattle.section.proofs.OtherLineLaws.{settled-few}
 use Rattle.reader.specs.declared.LineStep.{LineStep}
 use Rattle.reader.specs.declared.LineStep.the-variants as L
 use Rattle.reader.specs.declared.TextAnswer.{TextAnswer}
@@ -63,5 +64,5 @@ text-done text ws ws′ index limit from at number st r p end ε = go (st .insid
         let σ = ε .settled i in
         rw (ε .is, i) (record {
           is = ap accepted (σ .entries) ∙ sym (done-outside text ws index limit at number st end i) ∙ p .left;
-          held = (σ .sections, p .valid .space .most);
+          held = (σ .sections, p .valid .space .most, settled-few (p .valid) σ);
         })

@@ -18,7 +18,7 @@ use Rattle.section.specs.declared.State.{State}
 use Rattle.section.specs.declared.Step.{Step}
 use Rattle.section.specs.declared.Step.the-variants as S
 use Rattle.closing.specs.Sections.{entriesAt, Sections}
-use Rattle.section.specs.Reading.{stateOf, Valid, AllSettled}
+use Rattle.section.specs.Reading.{capacity, stateOf, Valid, AllSettled}
 use Rattle.reader.specs.declared.LineStep.{LineStep}
 use Rattle.reader.specs.declared.LineStep.the-variants as L
 use Rattle.reader.specs.declared.TextAnswer.{TextAnswer}
@@ -51,13 +51,14 @@ refusedStep number (S.Refused fault) = L.Refused (faultAt number fault)
 refusedStep number (S.Next st) = L.Refused (faultAt number UnknownRecord)
 
 -- at the text's end no section may be open
-abbrev pub endedText : State → ℕ → TextAnswer
-endedText st number = cond (st .inside) (T.Refused (faultAt number UnexpectedEof)) (T.Read (st .kept) (st .used))
+abbrev pub endedText : State → ℕ → ℕ → TextAnswer
+endedText st kept number = cond (st .inside) (T.Refused (faultAt number UnexpectedEof)) (T.Read kept (st .used))
 
--- where none is, all that is kept is settled
+-- where none is, all entries that are kept are settled
 pub record Ended (text ws ws′ : List ℕ) (index : ℕ) (st : State) (number : ℕ) (r : TextAnswer) : Type 0 where
-  pub is : r ≡ endedText st number
-  pub settled : st .inside ≡ false → AllSettled text ws ws′ index st
+  pub kept : ℕ
+  pub is : r ≡ endedText st kept number
+  pub settled : st .inside ≡ false → AllSettled text ws ws′ index st kept
 
 -- after a line: the next one starts at `next`, and what is left gives the same answer; or that is the refusal
 abbrev pub AfterLine : Bytes → List ℕ → ℕ → ℕ → ℕ → ℕ → Answer Report → LineStep → Type 0
@@ -74,9 +75,9 @@ abbrev pub seenText : Bytes → List ℕ → ℕ → TextAnswer → Answer Repor
 seenText text ws index (T.Read kept used) = accepted (entriesAt text ws index kept)
 seenText text ws index (T.Refused r) = refused r
 
--- its rows are within the limit
+-- its entries are within the limit, and its rows are among those that there are
 abbrev pub HeldText : Bytes → List ℕ → ℕ → ℕ → TextAnswer → Type 0
-HeldText text ws index limit (T.Read kept used) = Sections text ws index used kept × (used ≤ limit)
+HeldText text ws index limit (T.Read kept used) = Sections text ws index used kept × (used ≤ capacity limit) × (kept ≤ limit)
 HeldText text ws index limit (T.Refused r) = Unit {0}
 
 -- the answer is the model's for the text that starts at `from`

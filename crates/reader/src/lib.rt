@@ -113,15 +113,15 @@ fn ended(
     if inside {
         return TextAnswer::Refused(fault_at(number, Fault::UnexpectedEof));
     }
-    section::settle_late(text, words, index, limit, state);
+    let kept = section::settle_late(text, words, index, limit, state);
     TextAnswer::Read {
-        kept: state.kept,
+        kept,
         used: state.used,
     }
 }
 
-// Reads the text that starts at `from` into `limit` rows at the front of the words, whose index starts at word `index`. The rows' names are
-// parts of all that is lent: a bundle's texts are read so that their rows can be compared.
+// Reads the text that starts at `from` into rows at the front of the words, whose index starts at word `index`; there is room for `limit`
+// entries. The rows' names are parts of all that is lent: a bundle's texts are read so that their rows can be compared.
 pub fn read_lines(
     text: &[u8],
     from: usize,

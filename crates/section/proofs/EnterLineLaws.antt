@@ -30,12 +30,11 @@ use Rattle.queueing.specs.declared.Outcome.the-variants.{Items, Refused as NotE
 use Rattle.queueing.specs.Queue.{rowsOf, endOf, heldAt, Queued}
 use Rattle.queueing.specs.Entering.{Entering}
 use Rattle.queueing.proofs.QueueLaws.{add-most}
-use Rattle.queueing.proofs.HeldLaws.{held-length}
+use Rattle.queueing.proofs.HeldLaws.{held-length, held-exact}
 use Rattle.section.specs.declared.State.{State}
 use Rattle.section.specs.declared.Step.the-variants.{Next, Refused}
-use Rattle.late.specs.Late.{keptAt}
-use Rattle.section.specs.Reading.{Ready, insideOf, settledOf, stateOf, Valid, counted, StepOf}
-use Rattle.section.proofs.StateLaws.{kept-size, same-kept, same-sections, by-inside, withUsed, more-valid, more-state, step-as}
+use Rattle.section.specs.Reading.{capacity, Ready, Fitted, insideOf, stateOf, Space, Valid, counted, StepOf}
+use Rattle.section.proofs.StateLaws.{full-outside, kept-size, same-kept, same-sections, withUsed, more-valid, more-state, step-as}
 
 -- ---- counts
 
@@ -64,10 +63,14 @@ count-open s path l = refl
 
 -- ---- the answer of `queueing::enter` is the step's
 
--- the answer as a match has it
-pub entering-as : {text ws ws′ : List ℕ} {index used spare at : ℕ} {s : Sizes} {r : Row} {adds : Bool} {a b : Outcome} → a ≡ b
-    → Entering text ws ws′ index used spare at s r adds a → Entering text ws ws′ index used spare at s r adds b
-entering-as e ε = rw e at ε
+-- the answer as a match has it, and the place of spare words as the code has it
+pub entering-as : {text ws ws′ : List ℕ} {index used rows most at : ℕ} {s : Sizes} {r : Row} {adds : Bool} {a b : Outcome} → a ≡ b → rows ≡ most
+    → Entering text ws ws′ index used (index + rows) at s r adds a → Entering text ws ws′ index used (index + most) at s r adds b
+entering-as e f ε = rw (e, f) at ε
+
+pub fitted-as : {text ws ws′ : List ℕ} {index used rows all at most : ℕ} {s t : Sizes} → rows ≡ all
+    → Fitted text ws ws′ index used (index + rows) at most s t → Fitted text ws ws′ index used (index + all) at most s t
+fitted-as e φ = rw e at φ
 
 module _ {text ws : List ℕ} {index limit : ℕ} {st : State} (ζ : Valid text ws index limit st) (h : st .kept < st .used) (r : Row) (adds : Bool) where
   abbrev S : ModelState
@@ -83,73 +86,92 @@ module _ {text ws : List ℕ} {index limit : ℕ} {st : State} (ζ : Valid text 
   abbrev inRows : List Item → Answer (List Item)
   inRows items = within (st .used) (st .kept + 1 + length items) items
 
-  answer-accepted : (l : List Item) → added ≡ accepted l → answer ≡ within limit (st .kept + 1 + length l) (open-section S (S .path) l)
+  abbrev number : List Item → ℕ
+  number l = length (S .kept) + suc (length l)
+
+  answer-accepted : (l : List Item) → added ≡ accepted l → answer ≡ within limit (number l) (open-section S (S .path) l)
   unfolding enterItem
-  answer-accepted l p =
-      let size : length (S .kept) ≡ st .kept = kept-size ζ in
-      let n : entries (open-section S (S .path) l) ≡ st .kept + 1 + length l = count-open S (S .path) l ∙ omega (arith, size) in
-      rw p (ap (λ (k : ℕ). within limit k (open-section S (S .path) l)) n)
+  answer-accepted l p = rw p (ap (λ (k : ℕ). within limit k (open-section S (S .path) l)) (count-open S (S .path) l))
 
   answer-refused : {x : Refusal} → added ≡ refused x → answer ≡ refused x
   unfolding enterItem
   answer-refused p = rw p
 
-  pub entered-next : {ws′ : List ℕ} (s : Sizes) → Entering text ws ws′ index (st .used) (index + limit) (st .kept + 1) (st .sizes) r adds (Items s)
-      → length ws′ ≡ length ws → StepOf text ws′ index limit answer (Next (insideOf st (st .used) s (st .path)))
-  unfolding open-section
-  entered-next {ws′} s ε len = go (bind-accepted added inRows (sym (ε .items)))
-    where
-      others : Same (row ws index) (row ws′ index) 0 (st .kept)
-      others j p q = ε .others j p (omega arith)
+  size : length (S .kept) + st .dead ≡ st .kept
+  size = kept-size ζ
 
-      kept : keptAt text ws′ index (settledOf st) (st .late) ≡ S .kept
-      kept = same-kept ws′ ζ others
+  -- what is entered is counted, once its number is known as far as it must be
+  module _ {ws₁ ws′ : List ℕ} {s t : Sizes} (ε : Entering text ws ws₁ index (st .used) (index + capacity limit) (st .kept + 1) (st .sizes) r adds (Items s))
+      (φ : Fitted text ws₁ ws′ index (st .used) (index + capacity limit) (st .kept + 1) (limit + st .dead) s t) where
+    -- the items that the model has
+    items-are : added ≡ accepted (heldAt text ws′ index (st .kept + 1) t)
+    items-are = go (bind-accepted added inRows (sym (ε .items)))
+      where
+        go : (l : List Item) × (added ≡ accepted l) × (inRows l ≡ accepted (heldAt text ws₁ index (st .kept + 1) s))
+            → added ≡ accepted (heldAt text ws′ index (st .kept + 1) t)
+        go (l, a, w) = a ∙ ap accepted (within-accepted (st .used) (st .kept + 1 + length l) l w .1 ∙ sym (φ .items))
 
-      go : (l : List Item) × (added ≡ accepted l) × (inRows l ≡ accepted (heldAt text ws′ index (st .kept + 1) s))
-          → StepOf text ws′ index limit answer (Next (insideOf st (st .used) s (st .path)))
-      go (l, a, w) =
-          let (fits, same) = within-accepted (st .used) (st .kept + 1 + length l) l w in
-          record {
-            is =
-                (λ i. accepted (record { kept = kept i; test = S .test; inside = true; path = S .path; items = sym same i }))
-                ∙ sym (answer-accepted l a ∙ within-fits limit (st .kept + 1 + length l) (open-section S (S .path) l)
-                (omega (arith, ζ .space .most)));
-            valid = record {
-              space = record {
-                room = record { rows = ζ .space .room .rows; words = omega (arith, ζ .space .room .words) };
-                store = ε .still .parts .settled .store;
-                late = ζ .space .late;
-                kept = ζ .space .kept;
-                most = ζ .space .most;
-              };
-              sections = same-sections ws′ ζ others (st .used) (ε .still .parts .settled .store) (ζ .space .kept);
-              open-items = λ q. ε .still;
-              opened = h;
-              test = ζ .test;
-              path = ζ .path;
+    others : Same (row ws index) (row ws′ index) 0 (st .kept)
+    others j p q = φ .others j p (omega arith) ∙ ε .others j p (omega arith)
+
+    pub entered-next : endOf (st .kept + 1) t ≤ limit + st .dead → length ws′ ≡ length ws
+        → StepOf text ws′ index limit answer (Next (insideOf st (st .used) t (st .path)))
+    unfolding open-section
+    entered-next m len =
+        let l = heldAt text ws′ index (st .kept + 1) t in
+        record {
+          is =
+              (λ i. accepted (record { kept = same-kept ws′ ζ others i; test = S .test; inside = true; path = S .path; items = l }))
+              ∙ sym (answer-accepted l items-are ∙ within-fits limit (number l) (open-section S (S .path) l)
+              (omega (arith, held-length (φ .still), size)));
+          valid = record {
+            space = record {
+              room = record { rows = ζ .space .room .rows; words = omega (arith, ζ .space .room .words) };
+              store = φ .still .parts .settled .store;
+              late = ζ .space .late;
+              kept = ζ .space .kept;
+              most = ζ .space .most;
+              dead = ζ .space .dead;
             };
-          }
+            sections = same-sections ws′ ζ others (st .used) (φ .still .parts .settled .store) (ζ .space .kept);
+            open-items = λ q. φ .still;
+            opened = h;
+            fits = omega arith;
+            test = ζ .test;
+            path = ζ .path;
+          };
+        }
 
-  pub entered-refused : {ws′ : List ℕ} (fault : Fault) → Entering text ws ws′ index (st .used) (index + limit) (st .kept + 1) (st .sizes) r adds (NotEntered fault)
-      → (endOf (st .kept + 1) (st .sizes) < st .used) ⊎ (st .used ≡ limit) → StepOf text ws′ index limit answer (Refused fault)
+    pub entered-past : limit + st .dead < endOf (st .kept + 1) t → StepOf text ws′ index limit answer (Refused TooManyEntries)
+    entered-past m =
+        let l = heldAt text ws′ index (st .kept + 1) t in
+        record { is = sym (answer-accepted l items-are ∙ within-past limit (number l) (open-section S (S .path) l) (past (φ .exact))); valid = tt }
+      where
+        past : (endOf (st .kept + 1) t ≤ limit + st .dead) ⊎ (t .queued ≡ 0) → limit < number (heldAt text ws′ index (st .kept + 1) t)
+        past (inl q) = absurd (omega arith)
+        past (inr q) = omega (arith, held-exact (φ .still) q, size)
+
+  pub entered-refused : {ws′ : List ℕ} (fault : Fault)
+      → Entering text ws ws′ index (st .used) (index + capacity limit) (st .kept + 1) (st .sizes) r adds (NotEntered fault)
+      → (endOf (st .kept + 1) (st .sizes) < st .used) ⊎ (st .used ≡ capacity limit) → StepOf text ws′ index limit answer (Refused fault)
   entered-refused fault ε free = record { is = go added refl (ε .items); valid = tt }
     where
-      -- the rows end only at the limit
-      full : (l : List Item) → added ≡ accepted l → st .used < st .kept + 1 + length l → limit < st .kept + 1 + length l
+      -- the rows end only where more would be past the limit
+      full : (l : List Item) → added ≡ accepted l → st .used < st .kept + 1 + length l → limit < number l
       full l a m = by-free free
         where
-          by-free : (endOf (st .kept + 1) (st .sizes) < st .used) ⊎ (st .used ≡ limit) → limit < st .kept + 1 + length l
+          by-free : (endOf (st .kept + 1) (st .sizes) < st .used) ⊎ (st .used ≡ capacity limit) → limit < number l
           by-free (inl q) =
               let most = add-most itemKey compareBytes (combineOf adds) (itemOf text r) (S .items) l a in
-              let size : length (S .items) ≤ rowsOf (st .sizes) = held-length (ζ .open-items h) in
+              let few : length (S .items) ≤ rowsOf (st .sizes) = held-length (ζ .open-items h) in
               absurd (omega arith)
-          by-free (inr q) = omega arith
+          by-free (inr q) = omega (arith, size, ζ .space .dead)
 
       go : (x : Answer (List Item)) → added ≡ x → refuse fault ≡ bind x inRows → refuse fault ≡ answer
       go (refused x) a e = let z : unplaced fault ≡ x = cc in ap refused z ∙ sym (answer-refused a)
       go (accepted l) a e =
           let (z, m) = within-refused (st .used) (st .kept + 1 + length l) l (sym e) in
-          ap refused z ∙ sym (answer-accepted l a ∙ within-past limit (st .kept + 1 + length l) (open-section S (S .path) l) (full l a m))
+          ap refused z ∙ sym (answer-accepted l a ∙ within-past limit (number l) (open-section S (S .path) l) (full l a m))
 
 -- the first item of a section
 enter-first : (combine : Item → Item → Answer Item) (item : Item) (s : ModelState) → s .items ≡ []
@@ -157,24 +179,31 @@ enter-first : (combine : Item → Item → Answer Item) (item : Item) (s : Model
 unfolding enterItem
 enter-first combine item s e = rw e
 
--- no row can be had for the section itself
-pub entered-none : {text ws ws′ : List ℕ} {index limit own : ℕ} {st : State} → Valid text ws index limit st → (r : Row) (adds : Bool)
-    → Ready ws ws′ index (st .used) limit (st .kept) own → own ≤ st .kept
-    → StepOf text ws′ index limit (counted limit (enterItem (combineOf adds) (itemOf text r) (stateOf text ws index st))) (Refused TooManyEntries)
-entered-none {text} {ws} {ws′} {index} {limit} {own} {st} ζ r adds ρ h = record { is = by-inside ζ (λ o. absurd (omega (arith, ρ .more))) (λ z e. one (ρ .free) e); valid = tt }
-  where
-    S : ModelState
-    S = stateOf text ws index st
-
-    one : (st .kept < own) ⊎ (own ≡ limit) → S .items ≡ [] → refuse TooManyEntries ≡ counted limit (enterItem (combineOf adds) (itemOf text r) S)
-    one (inl q) e = absurd (omega arith)
-    one (inr q) e =
-        let size : length (S .kept) ≡ st .kept = kept-size ζ in
-        let next = open-section S (S .path) (itemOf text r ∷ []) in
-        let n : entries next ≡ length (S .kept) + 2 = count-open S (S .path) (itemOf text r ∷ []) in
-        sym (ap (counted limit) (enter-first (combineOf adds) (itemOf text r) S e) ∙ within-past limit (entries next) next (omega arith))
+-- no row may be had for the section itself
+pub entered-none : {text ws : List ℕ} {index limit : ℕ} {st : State} → Valid text ws index limit st → (r : Row) (adds : Bool)
+    → limit + st .dead ≤ st .kept
+    → StepOf text ws index limit (counted limit (enterItem (combineOf adds) (itemOf text r) (stateOf text ws index st))) (Refused TooManyEntries)
+entered-none {text} {ws} {index} {limit} {st} ζ r adds h =
+    let S = stateOf text ws index st in
+    let next = open-section S (S .path) (itemOf text r ∷ []) in
+    let size : length (S .kept) + st .dead ≡ st .kept = kept-size ζ in
+    let n : entries next ≡ length (S .kept) + 2 = count-open S (S .path) (itemOf text r ∷ []) in
+    record {
+      is = sym (ap (counted limit) (enter-first (combineOf adds) (itemOf text r) S (full-outside ζ h))
+          ∙ within-past limit (entries next) next (omega (arith, n, size)));
+      valid = tt;
+    }
 
 -- ---- what `enter_line` owes, once there are rows for the section itself and for one item more
+
+-- the row for the section itself is there
+pub own-free : {ws ws′ : List ℕ} {index limit own : ℕ} {st : State} → Space ws index limit st → Ready ws ws′ index (st .used) limit (st .kept) own
+    → st .kept < limit + st .dead → st .kept < own
+own-free {limit = limit} {own = own} {st = st} ς ρ h = go (ρ .free)
+  where
+    go : (st .kept < own) ⊎ (own ≡ capacity limit) → st .kept < own
+    go (inl q) = q
+    go (inr q) = omega (arith, ς .dead)
 
 module _ {text ws ws₁ : List ℕ} {index limit own : ℕ} {st : State} (ζ : Valid text ws index limit st)
     (ρ : Ready ws ws₁ index (st .used) limit (st .kept) own)
@@ -190,7 +219,7 @@ module _ {text ws ws₁ : List ℕ} {index limit own : ℕ} {st : State} (ζ : V
     own-there : st .kept < used
     own-there = omega (arith, ρ′ .more)
 
-    pub line-open : Queued text ws₂ index used (index + limit) (st .kept + 1) (st .sizes)
+    pub line-open : Queued text ws₂ index used (index + capacity limit) (st .kept + 1) (st .sizes)
     line-open = there .open-items own-there
 
     module _ (r : Row) (adds : Bool) where
@@ -199,12 +228,20 @@ module _ {text ws ws₁ : List ℕ} {index limit own : ℕ} {st : State} (ζ : V
       same-answer = ap (λ (s : ModelState). counted limit (enterItem (combineOf adds) (itemOf text r) s))
           (more-state (more-valid ζ ρ len) ρ′ ∙ more-state ζ ρ)
 
-      pub line-next : {ws₃ : List ℕ} (s : Sizes) → Entering text ws₂ ws₃ index used (index + limit) (st .kept + 1) (st .sizes) r adds
-          (Items s) → length ws₃ ≡ length ws₂
-          → StepOf text ws₃ index limit (counted limit (enterItem (combineOf adds) (itemOf text r) (stateOf text ws index st)))
-          (Next (insideOf st used s (st .path)))
-      line-next s ε len″ = step-as same-answer (entered-next there own-there r adds s ε len″)
+      module _ {ws₃ ws₄ : List ℕ} {s t : Sizes}
+          (ε : Entering text ws₂ ws₃ index used (index + capacity limit) (st .kept + 1) (st .sizes) r adds (Items s))
+          (φ : Fitted text ws₃ ws₄ index used (index + capacity limit) (st .kept + 1) (limit + st .dead) s t) where
+        pub line-next : endOf (st .kept + 1) t ≤ limit + st .dead → length ws₄ ≡ length ws₂
+            → StepOf text ws₄ index limit (counted limit (enterItem (combineOf adds) (itemOf text r) (stateOf text ws index st)))
+            (Next (insideOf st used t (st .path)))
+        line-next m len″ = step-as same-answer (entered-next there own-there r adds ε φ m len″)
 
-      pub line-refused : {ws₃ : List ℕ} (fault : Fault) → Entering text ws₂ ws₃ index used (index + limit) (st .kept + 1) (st .sizes) r adds (NotEntered fault)
+        pub line-past : limit + st .dead < endOf (st .kept + 1) t
+            → StepOf text ws₄ index limit (counted limit (enterItem (combineOf adds) (itemOf text r) (stateOf text ws index st)))
+            (Refused TooManyEntries)
+        line-past m = step-as same-answer (entered-past there own-there r adds ε φ m)
+
+      pub line-refused : {ws₃ : List ℕ} (fault : Fault)
+          → Entering text ws₂ ws₃ index used (index + capacity limit) (st .kept + 1) (st .sizes) r adds (NotEntered fault)
           → StepOf text ws₃ index limit (counted limit (enterItem (combineOf adds) (itemOf text r) (stateOf text ws index st))) (Refused fault)
       line-refused fault ε = step-as same-answer (entered-refused there own-there r adds fault ε (ρ′ .free))

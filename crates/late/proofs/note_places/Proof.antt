@@ -7,10 +7,10 @@ use Rattle.late.proofs.note_places.Statement.{statement}
 use Rattle.late.proofs.note_places.Tie as tie
 
 abbrev Inv-loop : tie.InvT-loop
-Inv-loop text words₀ index used spare settled late j₀ words j = Noting text words₀ words index spare settled late j
+Inv-loop text words₀ index used spare parts j₀ words j = Noting text words₀ words index spare (parts .settled) (parts .late) j
 
 abbrev μ-loop : tie.MeasureT-loop
-μ-loop text words₀ index used spare settled late j₀ words j = late - j
+μ-loop text words₀ index used spare parts j₀ words j = parts .late - j
 
 abbrev start : tie.At-loop Inv-loop μ-loop → tie.Start Inv-loop μ-loop
 start l = l .before .before .before
@@ -22,18 +22,18 @@ note-places-spec =
     Inv-loop
     μ-loop
     (λ c. noting-none _ _ _ _ _ _)
-    (λ c κs. let l = c .before .before in
+    (λ c κs. let l = c .before .before .before in
     let s = start l in (
       (noting-parts (s .pre .0) (s .pre .1) (l .loop .inv), omega arith, omega (arith, s .pre .2, l .loop .inv .size)),
       noting-last (s .pre .0) (s .pre .1) (l .loop .inv) (omega arith),
     ))
-    (λ c. let l = c .before .before .before in omega (arith, start l .pre .2))
-    (λ c. let l = c .before .before .before in omega (arith, start l .pre .2, l .loop .inv .size))
-    (λ c. let l = c .before .before .before in omega (arith, start l .pre .2, l .loop .inv .size))
+    (λ c. let l = c .before .before .before .before in omega (arith, start l .pre .2))
+    (λ c. let l = c .before .before .before .before in omega (arith, start l .pre .2, l .loop .inv .size))
+    (λ c. let l = c .before .before .before .before in omega (arith, start l .pre .2, l .loop .inv .size))
     (λ c. search needs)
     (λ c. search needs)
-    (λ c. let l = c .before .before .before in
+    (λ c. let l = c .before .before .before .before in
     let s = start l in
     noting-next (s .pre .0) (s .pre .1) (l .loop .inv) (c .place-of .result) (omega arith) (s .pre .2) (c .place-of .ensures))
-    (λ c. c .before .loop .inv .size)
-    (λ c. noting-done (c .before .loop .inv) (c .loop-test .left)))
+    (λ c. c .before .before .loop .inv .size)
+    (λ c. noting-done (c .before .before .loop .inv) (c .if1 .left)))

@@ -39,11 +39,11 @@ place-of-spec =
     let b = e .before .before in
     let g = b .before .before .before .before in
     let s = start g in
-    place-again (now (s .args .text)) (now (s .args .words)) (s .args .index) (s .args .settled) (s .args .j - 1) (s .args .j) (g .get .ensures)
+    place-again (now (s .args .text)) (now (s .args .words)) (s .args .index) (s .args .parts .settled) (s .args .j - 1) (s .args .j) (g .get .ensures)
     (b .get2 .ensures) (cc)
     (s .pre .1 (omega arith)))
     (λ c κs. let g = c .before .before .before in (start g .pre .0 .0 .early, named g))
     (λ c. let g = c .before .before .before .before in
     let s = start g in
-    place-row (now (s .args .text)) (now (s .args .words)) (s .args .index) (s .args .settled) (s .args .j) (g .get .ensures)
+    place-row (now (s .args .text)) (now (s .args .words)) (s .args .index) (s .args .parts .settled) (s .args .j) (g .get .ensures)
     (c .find-run .ensures .low)))

@@ -1,5 +1,6 @@
 -- `late::settle_many` meets its contract. Assumes nothing.
-use Rattle.late.proofs.LateLaws.{report-settled, report-same}
+use native.Mathlib.Omega.{arith}
+use Rattle.late.proofs.SiftedLaws.{many-sifted, many-same}
 use borrow.Author.Needs.{needs}
 use Rattle.late.proofs.settle_many.Statement.{statement}
 use Rattle.late.proofs.settle_many.Tie as tie
@@ -10,6 +11,8 @@ settle-many-spec =
     (tie.spec
     (λ c κs. search needs)
     (λ c. search needs)
+    (λ c. (many-sifted (c .before .before .settle-all .ensures), omega arith))
+    (λ c κs. search needs)
     (λ c. search needs)
-    (λ c. report-settled (c .before .before .settle .ensures))
-    (λ c. report-same (c .before .before .before .pre .0)))
+    (λ c. let t = c .before .before in (t .settle .ensures .0, omega (arith, t .settle .ensures .1)))
+    (λ c. let s = c .before .before .before .before .before .before in (many-same (s .args .parts) (s .pre .0), omega arith)))

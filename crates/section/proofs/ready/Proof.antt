@@ -10,6 +10,7 @@ ready-spec =
     (tie.spec
     (λ c. search (ready-there, needs))
     (λ c κs. search needs)
+    (λ c κs. search needs)
     (λ c. search needs)
     (λ c. search needs)
     (λ c. search (ready-grown, needs))

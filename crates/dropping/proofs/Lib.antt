@@ -1,0 +1,4 @@
+pub mod AliveLaws
+pub mod LivingLaws
+pub mod BuryLaws
+pub mod SiftLaws

@@ -1,0 +1,69 @@
+// Rows that were replaced are marked dead where they stand, and later many dead ones are dropped together, in one pass over the index: to
+// take each out as it dies would move the rest of the index every time. Of a row only the word of its tag is read and written.
+use store::ROW_WORDS;
+ghost use mathlib.Core.Path.{_≡_};
+ghost use mathlib.Core.Bool.{not};
+ghost use Prim.Native.Nat.{_+_, _≤_};
+ghost use lib.Dec.{eqb};
+ghost use lib.ListN.{length};
+ghost use Rattle.store.specs.Store.{Store, row};
+ghost use Rattle.dropping.specs.Alive.{dead-tag, oneFor, Buried, Sifted};
+
+// The tag that no living row has: `dead-tag` in specs/Alive.antt.
+pub const DEAD: u64 = 1;
+
+// The word of a row that has its tag.
+const TAG: usize = 4;
+
+// One for a living row's tag, none for a dead one's: a number to add, so that the loops below have no branch that can't be foretold.
+fn lives(tag: u64) -> usize
+    ensures told { λ r. ⌜ r ≡ oneFor (not (eqb tag dead-tag)) ⌝ }
+    ensures most { λ r. ⌜ r ≤ 1 ⌝ }
+{
+    if tag == DEAD {
+        return 0;
+    }
+    1
+}
+
+// The rows from place lo up to hi are marked dead. Answers how many of them lived.
+pub fn bury(words: &mut [u64], index: usize, used: usize, lo: usize, hi: usize) -> usize
+    requires { ⌜ Store (now words) index used × (lo ≤ hi) × (hi ≤ used) ⌝ }
+    ensures store { λ _. ⌜ Store (now (words .exit)) index used ⌝ }
+    ensures rows { λ r. ⌜ Buried (row (now (words .entry)) index) (row (now (words .exit)) index) used lo hi r ⌝ }
+{
+    let mut lived = 0;
+    let mut i = lo;
+    while i < hi {
+        let number = words[index + i] as usize;
+        let at = number * ROW_WORDS + TAG;
+        let tag = words[at];
+        words[at] = DEAD;
+        lived += lives(tag);
+        i += 1;
+    }
+    lived
+}
+
+// Of the first n rows in the index's order the living come first, in their order, and then the dead. Answers how many live. `spare` is where
+// n free words start. Each number is written to both sides, and the next one overwrites it on the side to which it does not belong: the
+// place in front is one that is passed already.
+pub fn sift(words: &mut [u64], index: usize, used: usize, n: usize, spare: usize) -> usize
+    requires { ⌜ Store (now words) index used × (n ≤ used) ⌝ }
+    requires { ⌜ (index + used ≤ spare) × (spare + n ≤ length (now words)) ⌝ }
+    ensures store { λ _. ⌜ Store (now (words .exit)) index used ⌝ }
+    ensures rows { λ r. ⌜ Sifted (row (now (words .entry)) index) (row (now (words .exit)) index) n r ⌝ }
+{
+    let mut living = 0;
+    let mut i = 0;
+    while i < n {
+        let number = words[index + i];
+        let tag = words[(number as usize) * ROW_WORDS + TAG];
+        words[spare + (i - living)] = number;
+        words[index + living] = number;
+        living += lives(tag);
+        i += 1;
+    }
+    store::move_down(words, spare, index + living, n - living);
+    living
+}
