@@ -13,7 +13,8 @@ mod linked;
 
 use harness::interface::{OUTPUT_TOO_SHORT, WORDS, WORDS_PER_ENTRY, WRITTEN};
 use harness::ranges::List;
-use harness::reports::{bundles, measured};
+use harness::reports::expected::Expected;
+use harness::reports::{bundles, measured, Asked};
 use harness::{tracefile, Chance, Gatherer, Port, Ranges};
 use linked::Linked;
 use oracle::filter::line_num::LineNum;
@@ -320,7 +321,7 @@ fn measure_reports() {
         }
     }
     for entries in SIZES {
-        for lines in [3, 2] {
+        for lines in [3, 2, 4] {
             let text = measured::replaced(&mut chance, entries / 2, lines);
             let what = format!(
                 "read {} entries, shuffled files, each given again with {lines} lines for 3",
@@ -328,6 +329,7 @@ fn measure_reports() {
             );
             reading_text_row(&what, &text);
         }
+        replaced_often_rows(&mut chance, entries);
     }
     let text = measured::one_file(&mut chance, measured::Order::Ascending, ENTRIES);
     reading_row(&text);
@@ -352,6 +354,21 @@ fn measure_reports() {
     );
     bundle_row("one text of 60,000 entries", &bundles::of(&[text]));
     inner_row(&measured::filled(PROGRAM_BYTES));
+}
+
+/// Sections that replace others of other sizes again and again, with scratch to spare and with none.
+fn replaced_often_rows(chance: &mut Chance, entries: usize) {
+    const TIMES: usize = 8;
+    let text = measured::replaced_often(chance, entries / 2, TIMES);
+    let what = format!(
+        "read {} entries, shuffled files, each given {TIMES} times with 1 to 5 lines",
+        grouped(TIMES * entries / 2)
+    );
+    let expected = rust_read_text(&text);
+    lent_row(&what, &text, Lent::roomy(&expected));
+    let most = Expected::of(Asked::Text(&text)).map_or(0, |expected| expected.entries);
+    let what = format!("{what}, no entry of scratch to spare");
+    lent_row(&what, &text, Lent::roomy(&expected).for_entries(most));
 }
 
 fn report_row(what: &str, rust: impl Fn(), port: impl Fn()) {
@@ -471,6 +488,12 @@ impl Lent {
             out: RefCell::new(vec![0; len]),
             expected: expected.to_owned(),
         }
+    }
+
+    /// With scratch for no more than so many entries.
+    fn for_entries(self, entries: usize) -> Self {
+        let scratch = RefCell::new(vec![0; entries * WORDS_PER_ENTRY]);
+        Lent { scratch, ..self }
     }
 
     fn call(&self, ask: impl Fn(&mut [u64], &mut [u8], &mut [u64]) -> u32) {

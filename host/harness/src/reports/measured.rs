@@ -62,14 +62,37 @@ pub fn many_files(chance: &mut Chance, order: Order, entries: usize) -> Vec<u8> 
 
 /// The same files twice, in two orders: first with three lines each, then with so many. Half of the lines are replaced.
 pub fn replaced(chance: &mut Chance, entries: usize, lines: usize) -> Vec<u8> {
-    let files = entries / (1 + LINES_OF_A_FILE);
     let mut text = String::new();
     for lines in [LINES_OF_A_FILE, lines] {
-        for file in Order::Shuffled.numbers(chance, files) {
-            text.push_str(&section(&format!("decoder/part{file:06}.cc"), 1..=lines));
-        }
+        text.push_str(&shuffled_files(chance, entries, |_| lines));
     }
     text.into_bytes()
+}
+
+/// The same files so many times, each time in another order and with one to five lines: most replace a section of another size.
+pub fn replaced_often(chance: &mut Chance, entries: usize, times: usize) -> Vec<u8> {
+    let mut text = String::new();
+    for _ in 0..times {
+        text.push_str(&shuffled_files(chance, entries, |chance| {
+            1 + chance.below(2 * LINES_OF_A_FILE - 1)
+        }));
+    }
+    text.into_bytes()
+}
+
+/// As many files as have so many entries at three lines each, in a shuffled order, with so many lines each.
+fn shuffled_files(
+    chance: &mut Chance,
+    entries: usize,
+    lines: impl Fn(&mut Chance) -> usize,
+) -> String {
+    let files = entries / (1 + LINES_OF_A_FILE);
+    let numbers = Order::Shuffled.numbers(chance, files);
+    let sections = numbers.into_iter().map(|file| {
+        let lines = lines(chance);
+        section(&format!("decoder/part{file:06}.cc"), 1..=lines)
+    });
+    sections.collect()
 }
 
 fn section(path: &str, lines: impl Iterator<Item = usize>) -> String {
@@ -166,6 +189,10 @@ mod tests {
         let twice = |lines| replaced(&mut Chance::new(1), 1000, lines);
         assert_eq!(entries(Asked::Text(&twice(3))), 1000 + 4);
         assert_eq!(entries(Asked::Text(&twice(2))), 1000 + 3);
+        assert_eq!(entries(Asked::Text(&twice(4))), 1250 + 5 - 1);
+        let often = replaced_often(&mut Chance::new(1), 1000, 4);
+        let sections = often.windows(3).filter(|tag| tag == b"SF:").count();
+        assert_eq!(sections, 4 * 250);
         let functions = functions(&mut Chance::new(1), Order::Ascending, 1000);
         assert_eq!(entries(Asked::Text(&functions)), 1000 / 41 * 41);
         let bundled = |bundle: &[u8]| entries(Asked::Bundle(Mode::Checked, bundle));
