@@ -7,7 +7,7 @@ use Prim.Native.Nat.{ℕ, zero, suc, _+_, _-_, _≤_, _<_, Ordering, Ordering·l
 use native.Mathlib.Omega.{arith}
 use lib.Dec.{isEq}
 use Rattle.store.specs.declared.Row.{Row}
-use Rattle.store.specs.Places.{Cut}
+use Rattle.store.specs.Places.{Cut, Halved}
 use Rattle.store.specs.Store.{row}
 use Rattle.store.proofs.PlaceLaws.{by-eq, by-lt}
 use Rattle.store.proofs.Halving.{by-test, Falling, halved-start, halved-down, halved-done}
@@ -173,6 +173,25 @@ run-new {text} {f} {n} {lo} {key} σ c other = record {
         (λ e. e);
   };
 }
+
+-- the first entry that the key does not go past has it
+module _ (text : Bytes) (f : ℕ → Row) {n lo : ℕ} (key : SectionKey) (c : Cut (Past false text f key) n lo) (l : lo < n)
+    (e : compareSections key (keyOf text (f lo)) ≡ Ordering·eq) {same : Row} (s : same ≡ f lo) where
+  same-key : keyOf text same ≡ key
+  same-key = ap (keyOf text) s ∙ sym (sections-order .equal e)
+
+  pub run-begun : Halved (Past true text f (keyOf text same)) n (lo + 1) n
+  run-begun = rw same-key (record {
+    ends = omega arith;
+    most = omega arith;
+    past = λ k h. by-eq k lo
+        (λ q. ap (λ (j : ℕ). Past true text f key j) q ∙ ap (goes true) e)
+        (λ q. goes-too (compareSections key (keyOf text (f k))) (c .past k (omega arith)));
+    rest = λ k h q. absurd (omega arith);
+  })
+
+  pub run-found : {hi : ℕ} → Cut (Past true text f (keyOf text same)) n hi → IsRun text f n key lo hi
+  run-found d = record { low = c; high = rw same-key at d }
 
 -- no entry has the key
 pub run-absent : {text : Bytes} {f : ℕ → Row} {n : ℕ} (key : SectionKey) → Ordered text f n

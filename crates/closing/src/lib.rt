@@ -11,7 +11,7 @@ ghost use lib.ListN.{length};
 ghost use Rattle.model.specs.Path.{components, comparePaths};
 ghost use Rattle.model.specs.Report.{compareSections};
 ghost use Rattle.order.specs.Orders.{orderOf};
-ghost use Rattle.store.specs.Places.{Same, Cut};
+ghost use Rattle.store.specs.Places.{Same, Cut, Halved};
 ghost use Rattle.store.specs.Store.{Store, row};
 ghost use Rattle.items.specs.Items.{part};
 ghost use Rattle.closing.specs.Sections.{keyOf, Named, rowsFrom, SectionsFrom, goes, Past, IsRun};
@@ -55,22 +55,25 @@ pub fn goes_past(order: Order, equal: bool) -> bool
     }
 }
 
-// How many of the n entries from place `at` on the key goes past, by halving.
-pub fn cut(
+// How many of the n entries from place `at` on the key goes past, by halving: it goes past the first `from`, and past none from `to` on.
+fn cut(
     text: &[u8],
     words: &[u64],
     index: usize,
     used: usize,
     at: usize,
     n: usize,
+    from: usize,
+    to: usize,
     key: Row,
     equal: bool,
 ) -> usize
     requires { ⌜ SectionsFrom (now text) (now words) index used at n × Named (now text) key ⌝ }
+    requires { ⌜ Halved (Past equal (now text) (rowsFrom (now words) index at) (keyOf (now text) key)) n from to ⌝ }
     ensures { λ r. ⌜ Cut (Past equal (now (text .entry)) (rowsFrom (now (words .entry)) index at) (keyOf (now (text .entry)) key)) n r ⌝ }
 {
-    let mut lo = 0;
-    let mut hi = n;
+    let mut lo = from;
+    let mut hi = to;
     while lo < hi {
         let mid = lo + (hi - lo) / 2;
         let other = store::get(words, index, used, at + mid);
@@ -81,6 +84,37 @@ pub fn cut(
         }
     }
     lo
+}
+
+// The end of the run of a key that goes past the first `from` entries. Most sections are small beside all that is kept, so steps that double
+// come before the halving.
+fn run_end(
+    text: &[u8],
+    words: &[u64],
+    index: usize,
+    used: usize,
+    at: usize,
+    n: usize,
+    from: usize,
+    key: Row,
+) -> usize
+    requires { ⌜ SectionsFrom (now text) (now words) index used at n × Named (now text) key ⌝ }
+    requires { ⌜ Halved (Past true (now text) (rowsFrom (now words) index at) (keyOf (now text) key)) n from n ⌝ }
+    ensures { λ r. ⌜ Cut (Past true (now (text .entry)) (rowsFrom (now (words .entry)) index at) (keyOf (now (text .entry)) key)) n r ⌝ }
+{
+    let mut lo = from;
+    let mut step = 1;
+    while step <= n - lo {
+        let last = lo + (step - 1);
+        let other = store::get(words, index, used, at + last);
+        if goes_past(compare_sections(text, key, other), true) {
+            lo = last + 1;
+            step += step;
+        } else {
+            return cut(text, words, index, used, at, n, lo, last, key, true);
+        }
+    }
+    cut(text, words, index, used, at, n, lo, n, key, true)
 }
 
 // Of the entries from a place on, those from lo up to hi have the key of a section.
@@ -136,9 +170,11 @@ pub fn find_run(
     if order::is_less(compare_sections(text, key, first)) {
         return Run { lo: 0, hi: 0 };
     }
-    let lo = cut(text, words, index, used, at, n, key, false);
+    let lo = cut(text, words, index, used, at, n, 0, n, key, false);
     if has_key(text, words, index, used, at, n, lo, key) {
-        let hi = cut(text, words, index, used, at, n, key, true);
+        // rows of one section have their names at the same places, so that these are told apart from others without reading them
+        let same = store::get(words, index, used, at + lo);
+        let hi = run_end(text, words, index, used, at, n, lo + 1, same);
         return Run { lo: lo, hi: hi };
     }
     Run { lo: lo, hi: lo }

@@ -1,5 +1,5 @@
 -- Laws of living rows: those of parts, of rows that all live or that are all dead, and what a tag says. Assumes nothing.
-use mathlib.Core.Path.{_≡_, refl, ap, _∙_}
+use mathlib.Core.Path.{_≡_, refl, sym, ap, _∙_}
 use mathlib.Core.Logic.{_≢_}
 use mathlib.Core.Bool.{Bool, true, false, not}
 use mathlib.Core.List.{List, [], _∷_, _++_}
@@ -14,7 +14,7 @@ use Rattle.model.proofs.ListLaws.{All, select-all, select-none, select-length, 
 use Rattle.store.specs.declared.Row.{Row}
 use Rattle.store.specs.Places.{listed}
 use Rattle.store.proofs.ListedLaws.{length-listed, listed-cong, listed-split}
-use Rattle.dropping.specs.Alive.{alive, aliveOf}
+use Rattle.dropping.specs.Alive.{alive, deadRow, aliveOf}
 
 -- ---- what a tag says
 
@@ -30,6 +30,23 @@ module _ (r : Row) where
 
   pub alive-tagged : alive r ≡ true → r .tag ≢ 1
   alive-tagged e = eqb-false (r .tag) 1 (not-true (eqb (r .tag) 1) e)
+
+  -- a dead row stays the same when it is made dead
+  pub dead-again : alive r ≡ false → deadRow r ≡ r
+  dead-again e = ap with-tag (sym (dead-tagged e))
+    where
+      with-tag : ℕ → Row
+      with-tag t = record {
+        test = r .test;
+        «test_len» = r .«test_len»;
+        path = r .path;
+        «path_len» = r .«path_len»;
+        tag = t;
+        k1 = r .k1;
+        k2 = r .k2;
+        k3 = r .k3;
+        count = r .count;
+      }
 
 -- ---- the living of rows
 

@@ -1,28 +1,34 @@
--- The loop of `bury`: the rows from lo up to i are dead. Assumes nothing.
+-- The loop of `bury`: the rows from lo up to i lived and are dead now. Assumes nothing.
 use mathlib.Core.Path.{_≡_, refl, sym, ap, _∙_}
-use mathlib.Core.Bool.{not}
-use mathlib.Core.List.{List}
+use mathlib.Core.Logic.{_≢_}
+use mathlib.Core.Bool.{true, false}
+use mathlib.Core.List.{List, _++_, append-nil}
 use Prim.Native.Nat.{ℕ, _+_, _*_, _-_, _≤_, _<_}
 use native.Mathlib.Omega.{arith}
-use lib.Dec.{eqb}
 use lib.ListN.{length, set, length-set}
 use lib.Seq.{getD-set-same, getD-set-other}
 use Rattle.store.specs.declared.Row.{Row}
-use Rattle.store.specs.Places.{Put}
+use Rattle.store.specs.Places.{Same, Put}
 use Rattle.store.specs.Rows.{row-words, word, rowAt, Written}
 use Rattle.store.specs.Store.{number, Store, row}
-use Rattle.store.proofs.PlaceLaws.{by-eq}
+use Rattle.store.proofs.PlaceLaws.{by-eq, by-lt}
+use Rattle.store.proofs.ListedLaws.{length-listed}
+use Rattle.store.proofs.Halving.{by-test}
 use Rattle.store.proofs.StoreLaws.{put-store, put-row}
-use Rattle.dropping.specs.Alive.{dead-tag, alive, oneFor, deadRow, Buried}
-use Rattle.dropping.proofs.LivingLaws.{living, living-is, living-none, living-next}
+use Rattle.dropping.specs.Alive.{dead-tag, alive, deadRow, aliveOf, Buried}
+use Rattle.dropping.proofs.AliveLaws.{tag-alive, tag-dead, dead-again, alive-split, alive-all, alive-none}
 
 -- ---- the tag's word is read
 
--- what it tells is what the row tells
-pub told : (ws : List ℕ) (index i : ℕ) {s : ℕ} → s ≡ oneFor (not (eqb (word ws (number ws index i * row-words + 4)) dead-tag))
-    → s ≡ oneFor (alive (row ws index i))
-unfolding row
-told ws index i e = e
+-- what it says of the row
+module _ (ws : List ℕ) (index i : ℕ) where
+  pub reads-alive : word ws (number ws index i * row-words + 4) ≢ dead-tag → alive (row ws index i) ≡ true
+  unfolding row
+  reads-alive h = tag-alive (rowAt ws (number ws index i)) h
+
+  pub reads-dead : word ws (number ws index i * row-words + 4) ≡ dead-tag → alive (row ws index i) ≡ false
+  unfolding row
+  reads-dead e = tag-dead (rowAt ws (number ws index i)) e
 
 -- ---- the tag's word is written
 
@@ -66,34 +72,70 @@ module _ {ws : List ℕ} {index used : ℕ} (i : ℕ) (σ : Store ws index used)
 
 -- ---- the loop
 
-pub buried-none : (f : ℕ → Row) (used lo : ℕ) → Buried f f used lo lo 0
-buried-none f used lo = record {
+-- the rows from lo up to i lived and are dead now, and the others are as they were
+pub record Burying (f g : ℕ → Row) (used lo i : ℕ) : Type 0 where
+  pub lived : (k : ℕ) → lo ≤ k → k < i → alive (f k) ≡ true
+  pub there : (k : ℕ) → lo ≤ k → k < i → g k ≡ deadRow (f k)
+  pub below : Same f g 0 lo
+  pub above : Same f g i used
+
+pub burying-none : (f : ℕ → Row) (used lo : ℕ) → Burying f f used lo lo
+burying-none f used lo = record {
+  lived = λ k l h. absurd (omega arith);
   there = λ k l h. absurd (omega arith);
   below = λ k l h. refl;
   above = λ k l h. refl;
-  count = sym (living-is (λ k. f (lo + k)) (lo - lo)) ∙ ap (living (λ k. f (lo + k))) (let e : lo - lo ≡ 0 = omega arith in e) ∙ living-none (λ k. f (lo + k));
 }
 
-pub buried-done : {f g : ℕ → Row} {used lo i hi r : ℕ} → Buried f g used lo i r → i ≡ hi → Buried f g used lo hi r
-buried-done β e = rw e at β
+module _ {f g : ℕ → Row} {used lo i : ℕ} (β : Burying f g used lo i) (l : lo ≤ i) where
+  -- a living row more
+  pub burying-one : {h : ℕ → Row} → i < used → alive (g i) ≡ true → Put g h used i (deadRow (g i)) → Burying f h used lo (i + 1)
+  burying-one {h} m e π = record {
+    lived = λ k p q. by-eq k i (λ x. rw x (ap alive (sym still) ∙ e)) (λ x. β .lived k p (omega arith));
+    there = λ k p q. by-eq k i
+        (λ x. rw x (π .there ∙ ap deadRow still))
+        (λ x. π .others k (omega arith) x ∙ β .there k p (omega arith));
+    below = λ k p q. π .others k (omega arith) (omega arith) ∙ β .below k p q;
+    above = λ k p q. π .others k q (omega arith) ∙ β .above k (omega arith) q;
+  }
+    where
+      still : g i ≡ f i
+      still = β .above i (omega arith) m
 
-pub buried-one : {f g h : ℕ → Row} {used lo i r s : ℕ} → Buried f g used lo i r → lo ≤ i → i < used → Put g h used i (deadRow (g i))
-    → s ≡ oneFor (alive (g i)) → Buried f h used lo (i + 1) (r + s)
-buried-one {f} {g} {h} {used} {lo} {i} {r} {s} β l m π e = record {
-  there = λ k p q. by-eq k i
-      (λ x. rw x (π .there ∙ ap deadRow still))
-      (λ x. π .others k (omega arith) x ∙ β .there k p (omega arith));
-  below = λ k p q. π .others k (omega arith) (omega arith) ∙ β .below k p q;
-  above = λ k p q. π .others k q (omega arith) ∙ β .above k (omega arith) q;
-  count =
-      sym (living-is (λ k. f (lo + k)) (i + 1 - lo))
-      ∙ ap (living (λ k. f (lo + k))) (let x : i + 1 - lo ≡ i - lo + 1 = omega arith in x)
-      ∙ living-next (λ k. f (lo + k)) (i - lo)
-      ∙ ap (λ (n : ℕ). n + oneFor (alive (f (lo + (i - lo))))) (living-is (λ k. f (lo + k)) (i - lo) ∙ β .count)
-      ∙ ap (λ (k : ℕ). r + oneFor (alive (f k))) (let x : lo + (i - lo) ≡ i = omega arith in x)
-      ∙ ap (λ (x : Row). r + oneFor (alive x)) (sym still)
-      ∙ ap (λ (n : ℕ). r + n) (sym e);
-}
-  where
-    still : g i ≡ f i
-    still = β .above i (omega arith) m
+  -- the rest is dead already
+  buried : {hi : ℕ} → i ≤ hi → hi ≤ used → ((k : ℕ) → i ≤ k → k < hi → alive (f k) ≡ false) → Buried f g used lo hi (i - lo)
+  buried {hi} m n dead = record {
+    there = λ k p q. by-lt k i
+        (λ x. β .there k p x)
+        (λ x. β .above k x (omega arith) ∙ sym (dead-again (f k) (dead k x q)));
+    below = β .below;
+    above = λ k p q. β .above k (omega arith) q;
+    count =
+        ap (λ (k : ℕ). length (aliveOf from k)) (let e : hi - lo ≡ i - lo + (hi - i) = omega arith in e)
+        ∙ ap length (alive-split from (i - lo) (hi - i))
+        ∙ ap (λ (t : List Row). length (aliveOf from (i - lo) ++ t))
+        (alive-none (λ k. from (i - lo + k)) (hi - i) (λ k p. dead (lo + (i - lo + k)) (omega arith) (omega arith)))
+        ∙ ap length (append-nil (aliveOf from (i - lo)))
+        ∙ ap length (alive-all from (i - lo) (λ k p. β .lived (lo + k) (omega arith) (omega arith)))
+        ∙ length-listed from (i - lo);
+  }
+    where
+      from : ℕ → Row
+      from k = f (lo + k)
+
+  -- where the living come first, all is dead behind a dead row
+  pub buried-dead : {hi : ℕ} → i < hi → hi ≤ used → ((j k : ℕ) → lo ≤ j → j < k → k < hi → alive (f k) ≡ true → alive (f j) ≡ true)
+      → alive (g i) ≡ false → Buried f g used lo hi (i - lo)
+  buried-dead {hi} m n first e = buried (omega arith) n rest
+    where
+      here : alive (f i) ≡ false
+      here = ap alive (sym (β .above i (omega arith) (omega arith))) ∙ e
+
+      rest : (k : ℕ) → i ≤ k → k < hi → alive (f k) ≡ false
+      rest k p q =
+          by-eq k i
+          (λ x. rw x here)
+          (λ x. by-test (alive (f k)) (λ t. let z : true ≡ false = sym (first i k l (omega arith) q t) ∙ here in cc) (λ t. t))
+
+  pub buried-all : {hi : ℕ} → i ≡ hi → hi ≤ used → Buried f g used lo hi (i - lo)
+  buried-all m n = buried (omega arith) n (λ k p q. absurd (omega arith))

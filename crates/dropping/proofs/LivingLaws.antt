@@ -21,10 +21,6 @@ use Rattle.dropping.proofs.AliveLaws.{alive-split, alive-most}
 unfoldable pub living : (ℕ → Row) → ℕ → ℕ
 living f n = length (aliveOf f n)
 
-pub living-is : (f : ℕ → Row) (n : ℕ) → living f n ≡ length (aliveOf f n)
-unfolding living
-living-is f n = refl
-
 module _ (f : ℕ → Row) where
   pub living-none : living f 0 ≡ 0
   unfolding living listed select

@@ -1,13 +1,14 @@
 // Rows that were replaced are marked dead where they stand, and later many dead ones are dropped together, in one pass over the index: to
-// take each out as it dies would move the rest of the index every time. Of a row only the word of its tag is read and written.
+// take each out as it dies would move the rest of the index every time. Each row is marked once: `bury` stops where the dead ones begin. Of a
+// row only the word of its tag is read and written.
 use store::ROW_WORDS;
 ghost use mathlib.Core.Path.{_≡_};
-ghost use mathlib.Core.Bool.{not};
-ghost use Prim.Native.Nat.{_+_, _≤_};
+ghost use mathlib.Core.Bool.{true, not};
+ghost use Prim.Native.Nat.{ℕ, _+_, _≤_, _<_};
 ghost use lib.Dec.{eqb};
 ghost use lib.ListN.{length};
 ghost use Rattle.store.specs.Store.{Store, row};
-ghost use Rattle.dropping.specs.Alive.{dead-tag, oneFor, Buried, Sifted};
+ghost use Rattle.dropping.specs.Alive.{dead-tag, alive, oneFor, Buried, Sifted};
 
 // The tag that no living row has: `dead-tag` in specs/Alive.antt.
 pub const DEAD: u64 = 1;
@@ -15,7 +16,7 @@ pub const DEAD: u64 = 1;
 // The word of a row that has its tag.
 const TAG: usize = 4;
 
-// One for a living row's tag, none for a dead one's: a number to add, so that the loops below have no branch that can't be foretold.
+// One for a living row's tag, none for a dead one's: a number to add, so that the loop of `sift` has no branch that can't be foretold.
 fn lives(tag: u64) -> usize
     ensures told { λ r. ⌜ r ≡ oneFor (not (eqb tag dead-tag)) ⌝ }
     ensures most { λ r. ⌜ r ≤ 1 ⌝ }
@@ -26,23 +27,26 @@ fn lives(tag: u64) -> usize
     1
 }
 
-// The rows from place lo up to hi are marked dead. Answers how many of them lived.
+// The rows from place lo up to hi are marked dead. Answers how many of them lived. These stand in front of those that are dead already, and
+// the first dead row that is met ends the work: a range may have many dead rows, which would be met again every time, while each living row
+// is buried once.
 pub fn bury(words: &mut [u64], index: usize, used: usize, lo: usize, hi: usize) -> usize
     requires { ⌜ Store (now words) index used × (lo ≤ hi) × (hi ≤ used) ⌝ }
+    requires { ⌜ ((i j : ℕ) → lo ≤ i → i < j → j < hi → alive (row (now words) index j) ≡ true → alive (row (now words) index i) ≡ true) ⌝ }
     ensures store { λ _. ⌜ Store (now (words .exit)) index used ⌝ }
     ensures rows { λ r. ⌜ Buried (row (now (words .entry)) index) (row (now (words .exit)) index) used lo hi r ⌝ }
 {
-    let mut lived = 0;
     let mut i = lo;
     while i < hi {
         let number = words[index + i] as usize;
         let at = number * ROW_WORDS + TAG;
-        let tag = words[at];
+        if words[at] == DEAD {
+            return i - lo;
+        }
         words[at] = DEAD;
-        lived += lives(tag);
         i += 1;
     }
-    lived
+    i - lo
 }
 
 // Of the first n rows in the index's order the living come first, in their order, and then the dead. Answers how many live. `spare` is where

@@ -23,7 +23,7 @@ use Rattle.dropping.specs.Alive.{alive, Buried}
 use Rattle.dropping.proofs.AliveLaws.{tag-alive, tag-dead, alive-cong, alive-none}
 use Rattle.closing.specs.Sections.{testOf, pathOf, entryOf, keyOf, Named, rowsFrom, entriesFrom, goes, Past, IsRun}
 use Rattle.closing.specs.Closing.{Own, Spliced}
-use Rattle.closing.proofs.RunLaws.{run-before, run-in, run-behind, run-ends}
+use Rattle.closing.proofs.RunLaws.{run-before, run-in, run-behind, run-ends, run-absent}
 use Rattle.closing.proofs.OwnLaws.{section-item, runAt, OwnAs, own-as, own-entry, own-tag}
 use Rattle.closing.proofs.ReplaceLaws.{keep-some}
 use Rattle.closing.proofs.CloseLaws.{lowerAt, higherAt, parts, parts-none, lower-all, run-all, higher-all}
@@ -313,6 +313,27 @@ module _ {text ws : List ℕ} {index used settled late dead n lo₀ hi₀ : ℕ}
               ∙ sym (kept-some (keptAt text ws index settled late) ∙ ap (replaceSection (testOf text key) (pathOf text key) its) before);
           held = placed-held π′ ι′ named₂ spelled-tag run₂ fits dies foreign₂ ς σ own-said₂;
         }
+
+-- ---- what the calls of `keep` ask
+
+module _ {text ws : List ℕ} {index used settled late dead lo hi : ℕ} {key : SectionKey} (π : InParts text ws index used settled late dead)
+    (ρ : IsRun text (rowsFrom ws index 0) settled key lo hi) where
+  at-zero : (k : ℕ) → rowsFrom ws index 0 k ≡ row ws index k
+  at-zero k = ap (row ws index) (let e : 0 + k ≡ k = omega arith in e)
+
+  -- of the rows of a key, the living come first
+  pub run-front : (i j : ℕ) → lo ≤ i → i < j → j < hi → alive (row ws index j) ≡ true → alive (row ws index i) ≡ true
+  run-front i j p q h a =
+      ap alive (sym (at-zero i))
+      ∙ π .front i j q (omega (arith, ρ .high .most))
+      (ap₂ compareSections (sym (sections-order .equal (run-in ρ i p (omega arith)))) (sym (sections-order .equal (run-in ρ j (omega arith) h)))
+      ∙ sections-order .same key)
+      (ap alive (at-zero j) ∙ a)
+
+  -- where one lives, no late one has the key
+  pub none-late-has : lo < hi → alive (row ws index lo) ≡ true → (place : ℕ) × IsRun text (rowsFrom ws index settled) late key place place
+  none-late-has l a = run-absent key (π .behind .rows) (λ j h q. π .apart lo j (omega (arith, ρ .high .most)) (ap alive (at-zero lo) ∙ a) h
+      (ap₂ compareSections (sym (sections-order .equal q)) (sym (sections-order .equal (run-in ρ lo (omega arith) l))) ∙ sections-order .same key))
 
 -- a run of no entries, told by its start
 pub run-at : {text : Bytes} {f : ℕ → Row} {n lo hi : ℕ} {key : SectionKey} → IsRun text f n key lo hi → hi ≤ lo → IsRun text f n key lo lo

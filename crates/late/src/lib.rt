@@ -8,13 +8,17 @@ use closing::compare_sections;
 use closing::find_run;
 use closing::own_row;
 use closing::splice;
+use dropping::DEAD;
 use dropping::bury;
 use store::Row;
 ghost use mathlib.Core.Path.{_≡_};
 ghost use mathlib.Core.Logic.{_≢_};
+ghost use mathlib.Core.Bool.{true};
 ghost use Prim.Native.Nat.{_+_, _-_, _≤_, _<_};
 ghost use lib.ListN.{length};
 ghost use Rattle.store.specs.Rows.{word};
+ghost use Rattle.store.specs.Store.{row, Store};
+ghost use Rattle.dropping.specs.Alive.{alive};
 ghost use Rattle.items.specs.Open.{Open};
 ghost use Rattle.closing.specs.Sections.{keyOf, Named, rowsFrom, IsRun};
 ghost use Rattle.late.specs.Late.{withPlace, Held, PlaceOf, Noted, Settled, SameReport, Closed};
@@ -157,9 +161,55 @@ fn settle_many(
     parts
 }
 
-// The open section is kept, where no late one has its key. Settled rows that have it die, and it comes in place of as many of them as it
-// has rows; where they are too few, or none, it comes among the late ones.
+// Whether the first of the settled rows from lo up to hi, which have one key, is there and lives. Then no late one has that key.
+fn lives_at(words: &[u64], index: usize, used: usize, lo: usize, hi: usize) -> bool
+    requires { ⌜ Store (now words) index used × (hi ≤ used) ⌝ }
+    ensures { λ r. ⌜ (r ≡ true → (lo < hi) × (alive (row (now (words .entry)) index lo) ≡ true)) ⌝ }
+{
+    if hi <= lo {
+        return false;
+    }
+    let first = store::get(words, index, used, lo);
+    first.tag != DEAD
+}
+
+// The open section is kept, where a settled one that lives has its key, and as many rows at least: these die, and it comes in their place. No
+// other row moves.
 fn replace(
+    text: &[u8],
+    words: &mut [u64],
+    index: usize,
+    used: usize,
+    spare: usize,
+    parts: Parts,
+    run: Run,
+    n: usize,
+    key: Row,
+) -> Parts
+    requires { ⌜ Held (now text) (now words) index used parts × Open (now text) (now words) index used (parts .settled + parts .late + 1) n × (n ≢ 0) ⌝ }
+    requires { ⌜ IsRun (now text) (rowsFrom (now words) index 0) (parts .settled) (keyOf (now text) key) (run .lo) (run .hi) × (n + 1 ≤ run .hi - run .lo) ⌝ }
+    requires { ⌜ Named (now text) key × (key .tag ≡ 0) × (index + used ≤ spare) × (spare + used + used ≤ length (now words)) ⌝ }
+    requires { ⌜ alive (row (now words) index (run .lo)) ≡ true ⌝ }
+    ensures { λ r. ⌜ Closed (now (text .entry)) (now (words .entry)) (now (words .exit)) index used parts n key r ⌝ }
+{
+    let all = parts.settled + parts.late;
+    let lo = run.lo;
+    let own = own_row(words, index, used, 0, lo, run.hi, key);
+    let dead = parts.dead + bury(words, index, used, lo, run.hi);
+    let taken = Run {
+        lo: lo,
+        hi: lo + (n + 1),
+    };
+    splice(words, index, used, spare, 0, all, taken, n, own);
+    Parts {
+        settled: parts.settled,
+        late: parts.late,
+        dead: dead - (n + 1),
+    }
+}
+
+// The open section is kept among the late ones, at the place of its key, which none of them has. Settled rows that have it die.
+fn put_late(
     text: &[u8],
     words: &mut [u64],
     index: usize,
@@ -178,38 +228,24 @@ fn replace(
     ensures { λ r. ⌜ Closed (now (text .entry)) (now (words .entry)) (now (words .exit)) index used parts n key r ⌝ }
 {
     let settled = parts.settled;
-    let late = parts.late;
-    let lo = run.lo;
-    let spelled = own_row(words, index, used, 0, lo, run.hi, key);
-    let dead = parts.dead + bury(words, index, used, lo, run.hi);
-    if n + 1 <= run.hi - lo {
-        let taken = Run {
-            lo: lo,
-            hi: lo + (n + 1),
-        };
-        splice(
-            words,
-            index,
-            used,
-            spare,
-            0,
-            settled + late,
-            taken,
-            n,
-            spelled,
-        );
-        return Parts {
-            settled: settled,
-            late: late,
-            dead: dead - (n + 1),
-        };
-    }
+    let spelled = own_row(words, index, used, 0, run.lo, run.hi, key);
+    let dead = parts.dead + bury(words, index, used, run.lo, run.hi);
     let among = Run {
         lo: place,
         hi: place,
     };
-    let own = with_place(spelled, lo);
-    let many = splice(words, index, used, spare, settled, late, among, n, own);
+    let own = with_place(spelled, run.lo);
+    let many = splice(
+        words,
+        index,
+        used,
+        spare,
+        settled,
+        parts.late,
+        among,
+        n,
+        own,
+    );
     Parts {
         settled: settled,
         late: many,
@@ -234,11 +270,16 @@ fn keep(
     requires { ⌜ Named (now text) key × (key .tag ≡ 0) × (index + used ≤ spare) × (spare + used + used ≤ length (now words)) ⌝ }
     ensures { λ r. ⌜ Closed (now (text .entry)) (now (words .entry)) (now (words .exit)) index used parts n key r ⌝ }
 {
+    if n + 1 <= run.hi - run.lo {
+        if lives_at(words, index, used, run.lo, run.hi) {
+            return replace(text, words, index, used, spare, parts, run, n, key);
+        }
+    }
     let settled = parts.settled;
     let late = parts.late;
     let among = find_run(text, words, index, used, settled, late, key);
     if among.hi <= among.lo {
-        return replace(
+        return put_late(
             text,
             words,
             index,

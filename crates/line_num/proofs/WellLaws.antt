@@ -12,7 +12,8 @@ use Rattle.model.specs.declared.Range.{Range}
 use Rattle.model.specs.Ranges.{ascending, wellFormedRanges}
 use Rattle.model.proofs.ListLaws.{and-left, and-right}
 use Rattle.store.proofs.PlaceLaws.{by-eq}
-use Rattle.store.proofs.Halving.{Falling, Halved, halved-up, halved-down}
+use Rattle.store.specs.Places.{Halved}
+use Rattle.store.proofs.Halving.{Falling, halved-up, halved-down}
 use Rattle.line_num.specs.Pairs.{rangeAt, span, rangesIn, EndsBefore}
 use Rattle.line_num.proofs.SpanLaws.{used-span, ranges-length}
 

@@ -6,9 +6,9 @@ use mathlib.Core.Bool.{true, false}
 use mathlib.Core.List.{List}
 use lib.Dec.{isEq, ltb}
 use Rattle.store.specs.declared.Row.{Row}
-use Rattle.store.specs.Places.{Cut}
+use Rattle.store.specs.Places.{Cut, Halved}
 use Rattle.store.proofs.PlaceLaws.{by-eq}
-use Rattle.store.proofs.Halving.{Falling, Halved, by-test, halved-done}
+use Rattle.store.proofs.Halving.{Falling, by-test, halved-done}
 use Rattle.map.specs.Compare.{lex}
 use Rattle.map.proofs.Orderings.{is-eq}
 use Rattle.map.proofs.Results.{impossible}

@@ -3,7 +3,7 @@ use mathlib.Core.Path.{_≡_, refl, sym, _∙_}
 use mathlib.Core.Bool.{Bool, true, false}
 use Prim.Native.Nat.{ℕ, _+_, _≤_, _<_}
 use native.Mathlib.Omega.{arith}
-use Rattle.store.specs.Places.{Cut}
+use Rattle.store.specs.Places.{Cut, Halved}
 
 pub by-test : {C : Type 0} (b : Bool) → (b ≡ true → C) → (b ≡ false → C) → C
 by-test true f g = f refl
@@ -12,13 +12,6 @@ by-test false f g = g refl
 -- where the test holds, it holds at every place before
 abbrev pub Falling : (ℕ → Bool) → ℕ → Type 0
 Falling test n = (k j : ℕ) → k ≤ j → j < n → test j ≡ true → test k ≡ true
-
--- the test holds before lo, and fails from hi on
-pub record Halved (test : ℕ → Bool) (n lo hi : ℕ) : Type 0 where
-  pub ends : lo ≤ hi
-  pub most : hi ≤ n
-  pub past : (k : ℕ) → k < lo → test k ≡ true
-  pub rest : (k : ℕ) → hi ≤ k → k < n → test k ≡ false
 
 pub halved-start : (test : ℕ → Bool) (n : ℕ) → Halved test n 0 n
 halved-start test n = record {

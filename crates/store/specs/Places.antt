@@ -16,6 +16,13 @@ pub record Cut (test : ℕ → Bool) (n r : ℕ) : Type 0 where
   pub past : (k : ℕ) → k < r → test k ≡ true
   pub rest : (k : ℕ) → r ≤ k → k < n → test k ≡ false
 
+-- of the n places, a test holds at those before lo and fails at those from hi on
+pub record Halved (test : ℕ → Bool) (n lo hi : ℕ) : Type 0 where
+  pub ends : lo ≤ hi
+  pub most : hi ≤ n
+  pub past : (k : ℕ) → k < lo → test k ≡ true
+  pub rest : (k : ℕ) → hi ≤ k → k < n → test k ≡ false
+
 module _ {A : Type 0} (f g : ℕ → A) where
   -- nothing changed from lo up to, not including, hi
   abbrev pub Same : ℕ → ℕ → Type 0

@@ -1,7 +1,10 @@
 -- `closing::find_run` meets its contract. Assumes nothing.
-use Prim.Native.Nat.{_-_}
+use Prim.Native.Nat.{_+_, _-_, _≤_, _<_, _^_}
 use native.Mathlib.Omega.{arith}
-use Rattle.closing.proofs.RunLaws.{named-as, run-none, run-last, first-named, run-first, run-new}
+use denote.Ref.{now}
+use Rattle.store.proofs.Halving.{halved-start}
+use Rattle.closing.specs.Sections.{keyOf, rowsFrom}
+use Rattle.closing.proofs.RunLaws.{named-as, run-none, run-last, first-named, run-first, run-begun, run-found, run-new}
 use borrow.Author.Needs.{needs}
 use Rattle.closing.proofs.find_run.Statement.{statement}
 use Rattle.closing.proofs.find_run.Tie as tie
@@ -11,6 +14,24 @@ start e = e .before .before .before
 
 abbrev tried : tie.After-get2 → tie.Start
 tried g = start (g .before .before .before .before .before)
+
+abbrev begun : tie.After-cut → tie.Start
+begun u = tried (u .before .before .before .before)
+
+-- where the run starts, as far as `omega` needs it
+record Places (t : tie.Then4) : Type 0 where
+  inside : t .before .before .cut .result < begun (t .before .before) .args .n
+  room : begun (t .before .before) .args .at + begun (t .before .before) .args .n ≤ begun (t .before .before) .args .used
+  fits : begun (t .before .before) .args .used < 2 ^ 63
+
+places : (t : tie.Then4) → Places t
+places t =
+    let s = begun (t .before .before) in
+    record {
+      inside = t .before .has-key .ensures .0 (cc) .0;
+      room = s .pre .0 .room;
+      fits = omega (arith, s .pre .0 .store .index-end, s .pre .0 .store .rows-end);
+    }
 
 pub find-run-spec : {M : Type 1} → statement M
 find-run-spec =
@@ -29,10 +50,22 @@ find-run-spec =
     (λ c κs. search needs)
     (λ c. let g = c .before .before .before in
     run-first (tried g .pre .0) (omega arith) (g .get2 .ensures) (cc))
+    (λ c κs. (tried (c .before .before .before) .pre, halved-start _ _))
     (λ c κs. search needs)
-    (λ c κs. search needs)
-    (λ c κs. search needs)
-    (λ c. record { low = c .before .before .before .cut .ensures; high = c .cut2 .ensures })
+    (λ c. let p = places c in omega arith)
+    (λ c κs. let p = places c in (begun (c .before .before) .pre .0 .store, omega arith))
+    (λ c. let p = places (c .before) in omega arith)
+    (λ c κs. let t = c .before in
+    let u = t .before .before in
+    let s = begun u in (
+      (s .pre .0, named-as (c .get3 .ensures) (s .pre .0 .rows .whole (u .cut .result) (places t .inside) .named)),
+      run-begun (now (s .args .text)) (rowsFrom (now (s .args .words)) (s .args .index) (s .args .at)) (keyOf (now (s .args .text)) (s .args .key)) (u .cut .ensures) (places t .inside) (t .before .has-key .ensures .0 (cc) .1) (c .get3 .ensures),
+    ))
+    (λ c. let g = c .before in
+    let t = g .before in
+    let u = t .before .before in
+    let s = begun u in
+    run-found (now (s .args .text)) (rowsFrom (now (s .args .words)) (s .args .index) (s .args .at)) (keyOf (now (s .args .text)) (s .args .key)) (u .cut .ensures) (places t .inside) (t .before .has-key .ensures .0 (cc) .1) (g .get3 .ensures) (c .run-end .ensures))
     (λ c. let k = c .before in
     let u = k .before in
-    run-new (tried (u .before .before .before .before) .pre .0 .rows) (u .cut .ensures) (k .has-key .ensures .1 (cc))))
+    run-new (begun u .pre .0 .rows) (u .cut .ensures) (k .has-key .ensures .1 (cc))))

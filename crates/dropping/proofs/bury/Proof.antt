@@ -1,29 +1,30 @@
--- `dropping::bury` meets its contract: the rows from lo up to i are dead. Assumes nothing.
+-- `dropping::bury` meets its contract: the rows from lo up to i lived and are dead now. Assumes nothing.
 use mathlib.Core.Path.{_≡_, refl}
 use Prim.Native.Nat.{_+_, _*_, _-_, _≤_, _<_}
 use native.Mathlib.Omega.{arith}
 use lib.ListN.{length, length-set}
 use Rattle.store.specs.Rows.{row-words}
 use Rattle.store.specs.Store.{number, row, Store}
-use Rattle.dropping.specs.Alive.{Buried}
-use Rattle.dropping.proofs.BuryLaws.{told, tag-room, tagged-store, tagged-row, buried-none, buried-done, buried-one}
+use Rattle.dropping.proofs.BuryLaws.{reads-alive, reads-dead, tag-room, tagged-store, tagged-row, Burying, burying-none, burying-one, buried-dead, buried-all}
 use Rattle.dropping.proofs.bury.Statement.{statement}
 use Rattle.dropping.proofs.bury.Tie as tie
 
 abbrev Inv-loop : tie.InvT-loop
-Inv-loop words₀ index used lo hi lived₀ i₀ words lived i =
-    (lo ≤ i) × (i ≤ hi) × (lived ≤ i - lo) × (length words ≡ length words₀) × Store words index used
-    × Buried (row words₀ index) (row words index) used lo i lived
+Inv-loop words₀ index used lo hi i₀ words i =
+    (lo ≤ i) × (i ≤ hi) × (length words ≡ length words₀) × Store words index used × Burying (row words₀ index) (row words index) used lo i
 
 abbrev μ-loop : tie.MeasureT-loop
-μ-loop words₀ index used lo hi lived₀ i₀ words lived i = hi - i
+μ-loop words₀ index used lo hi i₀ words i = hi - i
+
+abbrev at-loop : tie.After-slice-known2 Inv-loop μ-loop → tie.At-loop Inv-loop μ-loop
+at-loop k = k .before .before .before
 
 -- where the tag stands that a turn reads
 record Bounds (c : tie.In-loop Inv-loop μ-loop) : Type 0 where
-  room : number (c .before .loop .words) (c .before .before .before .args .index) (c .before .loop .i) * row-words + 4 < c .before .before .before .args .index
+  room : number (c .before .loop .words) (c .before .before .args .index) (c .before .loop .i) * row-words + 4 < c .before .before .args .index
 
 bounds : (c : tie.In-loop Inv-loop μ-loop) → Bounds c
-bounds c = record { room = tag-room _ (c .before .loop .inv .4) (omega arith) }
+bounds c = record { room = tag-room _ (c .before .loop .inv .3) (omega arith) }
 
 pub bury-spec : {M : Type 1} → statement M
 bury-spec =
@@ -31,7 +32,7 @@ bury-spec =
     (tie.spec
     Inv-loop
     μ-loop
-    (λ c. (omega arith, omega arith, omega arith, refl, c .before .pre .0, buried-none _ _ _))
+    (λ c. (omega arith, omega arith, refl, c .pre .0 .0, burying-none _ _ _))
     (λ c. omega arith)
     (λ c. omega arith)
     (λ c. omega arith)
@@ -39,21 +40,24 @@ bury-spec =
     (λ c. let b = bounds (c .before) in omega arith)
     (λ c. let b = bounds (c .before) in omega arith)
     (λ c. let b = bounds (c .before .before) in omega arith)
-    (λ c. let b = bounds (c .before .before) in omega arith)
-    (λ c. let b = bounds (c .before .before) in omega arith)
-    (λ c κs. tt)
+    (λ c. omega arith)
+    (λ c. at-loop (c .before) .loop .inv .2)
+    (λ c. let l = at-loop (c .before) in
+    let (a, b, e, σ, β) = l .loop .inv in
+    (σ, buried-dead β a (omega arith) (omega arith) (l .before .pre .1) (reads-dead _ _ _ (c .if1 .taken))))
+    (λ c. let b = bounds (c .before .before .before) in omega arith)
+    (λ c. let b = bounds (c .before .before .before) in omega arith)
     (λ c. omega arith)
     (λ c. omega arith)
-    (λ c. omega arith)
-    (λ c. let l = c .before .before .before .before in
-    let (a, b, d, e, σ, β) = l .loop .inv in
-    let h : l .loop .i < l .before .before .args .used = omega arith in (
-      omega arith,
+    (λ c. let l = at-loop (c .before) in
+    let (a, b, e, σ, β) = l .loop .inv in
+    let h : l .loop .i < l .before .args .used = omega arith in (
       omega arith,
       omega arith,
       simp length-set e,
       tagged-store _ σ h,
-      buried-one β a h (tagged-row _ σ h) (told _ _ _ (c .lives .ensures .0)),
+      burying-one β a h (reads-alive _ _ _ (c .if1 .left)) (tagged-row _ σ h),
     ))
-    (λ c. c .before .loop .inv .3)
-    (λ c. (c .before .loop .inv .4, buried-done (c .before .loop .inv .5) (omega arith))))
+    (λ c. omega arith)
+    (λ c. c .before .loop .inv .2)
+    (λ c. let (a, b, e, σ, β) = c .before .loop .inv in (σ, buried-all β a (omega arith) (omega arith))))

@@ -2,7 +2,8 @@
 use Prim.Native.Nat.{ℕ, _+_, _/_, _-_}
 use native.Mathlib.Omega.{arith}
 use borrow.Author.Needs.{needs}
-use Rattle.store.proofs.Halving.{Halved, halved-start, halved-up, halved-down, halved-done}
+use Rattle.store.specs.Places.{Halved}
+use Rattle.store.proofs.Halving.{halved-start, halved-up, halved-down, halved-done}
 use Rattle.items.specs.Items.{itemOf}
 use Rattle.items.specs.Open.{itemFrom}
 use Rattle.items.proofs.SearchLaws.{Before, before-falls}

@@ -1,40 +1,39 @@
--- `late::replace` meets its contract: the rows of its key die, and the section comes in place of some of them or among the late ones.
--- Assumes nothing.
+-- `late::replace` meets its contract: the rows of its key die, and the section comes in place of some of them. Assumes nothing.
 use Prim.Native.Nat.{_+_, _-_, _≤_}
 use native.Mathlib.Omega.{arith}
-use lib.ListN.{length}
 use denote.Ref.{now}
 use Rattle.store.specs.Store.{row}
 use Rattle.dropping.proofs.AliveLaws.{alive-most}
 use Rattle.closing.proofs.RunLaws.{run-ends}
-use Rattle.late.proofs.KeptLaws.{enough, closed-moved, closed-placed}
+use Rattle.late.proofs.KeptLaws.{run-front, none-late-has, enough, closed-placed}
 use borrow.Author.Needs.{needs}
 use Rattle.late.proofs.replace.Statement.{statement}
 use Rattle.late.proofs.replace.Tie as tie
 
 abbrev start : tie.After-own-row → tie.Start
-start o = o .before .before .before .before
+start o = o .before .before .before .before .before
 
-abbrev spelled : tie.After-bury → tie.After-own-row
-spelled b = b .before .before
+abbrev begun : tie.After-bury → tie.Start
+begun b = start (b .before .before)
 
-abbrev buried : tie.After-struct-known2 → tie.After-bury
-buried t = t .before .before .before .before
+abbrev buried : tie.After-splice → tie.After-bury
+buried p = p .before .before .before .before .before
 
 -- where the run ends, and how many rows die
 record Bounds (b : tie.After-bury) : Type 0 where
-  ends : start (spelled b) .args .run .lo ≤ start (spelled b) .args .run .hi
-  most : start (spelled b) .args .run .hi ≤ start (spelled b) .args .parts .settled
-  rows : start (spelled b) .args .parts .settled + start (spelled b) .args .parts .late + 1 + start (spelled b) .args .n ≤ start (spelled b) .args .used
-  dead : start (spelled b) .args .parts .dead ≤ start (spelled b) .args .parts .settled
-  lived : b .bury .result ≤ start (spelled b) .args .run .hi - start (spelled b) .args .run .lo
+  ends : begun b .args .run .lo ≤ begun b .args .run .hi
+  most : begun b .args .run .hi ≤ begun b .args .parts .settled
+  rows : begun b .args .parts .settled + begun b .args .parts .late + 1 + begun b .args .n ≤ begun b .args .used
+  dead : begun b .args .parts .dead ≤ begun b .args .parts .settled
+  lived : b .bury .result ≤ begun b .args .run .hi - begun b .args .run .lo
 
 bounds : (b : tie.After-bury) → Bounds b
 bounds b =
-    let s = start (spelled b) in
+    let s = begun b in
+    let ρ = s .pre .1 .0 .0 in
     record {
-      ends = run-ends (s .pre .1 .0);
-      most = s .pre .1 .0 .high .most;
+      ends = run-ends ρ;
+      most = ρ .high .most;
       rows = s .pre .0 .1 .room;
       dead = omega (arith, s .pre .0 .0 .count);
       lived = omega (
@@ -48,48 +47,35 @@ pub replace-spec : {M : Type 1} → statement M
 replace-spec =
     tie.close
     (tie.spec
-    (λ c κs. let s = c .before .before .before in (s .pre .0 .0 .early .store, omega (arith, s .pre .1 .0 .high .most, s .pre .0 .1 .room)))
-    (λ c κs. let s = start (c .before) in
-    (s .pre .0 .0 .early .store, run-ends (s .pre .1 .0), omega (arith, s .pre .1 .0 .high .most, s .pre .0 .1 .room)))
-    (λ c. let β = bounds (c .before .before .before) in omega arith)
-    (λ c. let β = bounds (c .before .before .before) in omega arith)
-    (λ c. let β = bounds (buried c) in omega arith)
-    (λ c. let β = bounds (buried (c .before)) in omega arith)
-    (λ c. let β = bounds (buried (c .before)) in omega arith)
-    (λ c. let β = bounds (buried (c .before .before)) in omega arith)
-    (λ c κs. let b = buried (c .before .before) in
-    let s = start (spelled b) in
-    let β = bounds b in (
-      (b .bury .ensures .0, omega arith, omega arith, omega arith),
-      (s .pre .1 .1 .1 .2, omega (arith, s .pre .1 .1 .1 .3, b .bury .kept .0)),
-    ))
-    (λ c. let β = bounds (buried (c .before .before .before .before .before)) in omega arith)
-    (λ c. let p = c .before .before in
-    let b = buried (p .before .before .before) in
-    let o = spelled b in
-    let s = start o in
-    enough (s .pre .0 .0) (s .pre .0 .1) (s .pre .0 .2) (s .pre .1 .1 .1 .0) (s .pre .1 .1 .1 .1) (s .pre .1 .0) (o .own-row .ensures) (b .bury .ensures .0)
-    (b .bury .ensures .1) (s .pre .1 .1 .0) _ (omega arith) (p .splice .ensures .1 .0) (p .splice .ensures .0))
     (λ c. search needs)
-    (λ c. let p = c .before .before in
-    let b = buried (p .before .before .before) in
-    let o = spelled b in
-    let s = start o in
-    closed-placed (s .pre .0 .0) (s .pre .0 .1) (s .pre .0 .2) (s .pre .1 .1 .1 .0) (s .pre .1 .1 .1 .1) (s .pre .1 .0) (o .own-row .ensures) (b .bury .ensures .0)
-    (b .bury .ensures .1) (s .pre .1 .1 .0) _ (omega arith) (p .splice .ensures .1 .0) (p .splice .ensures .0))
     (λ c κs. search needs)
-    (λ c κs. let b = buried (c .before .before .before) in
-    let s = start (spelled b) in
+    (λ c κs. let s = start (c .before) in
+    let ρ = s .pre .1 .0 .0 in
+    ((s .pre .0 .0 .early .store, run-ends ρ, omega (arith, ρ .high .most, s .pre .0 .1 .room)), run-front (s .pre .0 .0) ρ))
+    (λ c. let β = bounds (c .before .before .before) in omega arith)
+    (λ c. search needs)
+    (λ c. search needs)
+    (λ c κs. let b = c .before .before .before .before in
+    let s = begun b in
     let β = bounds b in (
-      (b .bury .ensures .0, omega arith, s .pre .1 .1 .0 .high .most, omega arith),
-      (s .pre .1 .1 .1 .2, omega (arith, s .pre .1 .1 .1 .3, b .bury .kept .0)),
+      (b .bury .ensures .0, omega arith, omega (arith, s .pre .1 .0 .1), omega arith),
+      (s .pre .1 .1 .0 .2, omega (arith, s .pre .1 .1 .0 .3, b .bury .kept .0)),
     ))
     (λ c. search needs)
     (λ c. let p = c .before .before in
-    let w = p .before .before in
-    let b = buried (w .before .before) in
-    let o = spelled b in
-    let s = start o in
-    closed-moved (s .pre .0 .0) (s .pre .0 .1) (s .pre .0 .2) (s .pre .1 .1 .1 .0) (s .pre .1 .1 .1 .1) (s .pre .1 .0) (o .own-row .ensures) (b .bury .ensures .0)
-    (b .bury .ensures .1) (s .pre .1 .1 .0) _ (w .with-place .ensures) (p .splice2 .ensures .1 .0) (p .splice2 .ensures .1 .1 .0) (p .splice2 .ensures .0)
-    (p .splice2 .ensures .1 .1 .1)))
+    let b = buried p in
+    let s = begun b in
+    let π = s .pre .0 .0 in
+    let ρ = s .pre .1 .0 .0 in
+    enough π (s .pre .0 .1) (s .pre .0 .2) (s .pre .1 .1 .0 .0) (s .pre .1 .1 .0 .1) ρ (b .before .before .own-row .ensures) (b .bury .ensures .0)
+    (b .bury .ensures .1) (none-late-has π ρ (omega (arith, s .pre .1 .0 .1)) (s .pre .1 .1 .1) .1) _ (s .pre .1 .0 .1) (p .splice .ensures .1 .0)
+    (p .splice .ensures .0))
+    (λ c. search needs)
+    (λ c. let p = c .before .before in
+    let b = buried p in
+    let s = begun b in
+    let π = s .pre .0 .0 in
+    let ρ = s .pre .1 .0 .0 in
+    closed-placed π (s .pre .0 .1) (s .pre .0 .2) (s .pre .1 .1 .0 .0) (s .pre .1 .1 .0 .1) ρ (b .before .before .own-row .ensures) (b .bury .ensures .0)
+    (b .bury .ensures .1) (none-late-has π ρ (omega (arith, s .pre .1 .0 .1)) (s .pre .1 .1 .1) .1) _ (s .pre .1 .0 .1) (p .splice .ensures .1 .0)
+    (p .splice .ensures .0)))

@@ -3,7 +3,8 @@ use Prim.Native.Nat.{_-_, _≤_}
 use native.Mathlib.Omega.{arith}
 use lib.ListN.{length}
 use borrow.Author.Needs.{needs}
-use Rattle.store.proofs.Halving.{Halved, halved-start, halved-done}
+use Rattle.store.specs.Places.{Halved}
+use Rattle.store.proofs.Halving.{halved-start, halved-done}
 use Rattle.line_num.specs.Pairs.{EndsBefore}
 use Rattle.line_num.proofs.WellLaws.{well-inside, ends-up, ends-down}
 use Rattle.line_num.proofs.ends_before.Statement.{statement}

@@ -1,7 +1,8 @@
 -- `placing::bound_entry` meets its contract. Assumes nothing.
 use native.Mathlib.Omega.{arith}
 use Prim.Native.Nat.{ℕ, _+_, _/_, _-_}
-use Rattle.store.proofs.Halving.{Halved, halved-up, halved-down, halved-done}
+use Rattle.store.specs.Places.{Halved}
+use Rattle.store.proofs.Halving.{halved-up, halved-down, halved-done}
 use Rattle.placing.specs.Placing.{Before}
 use Rattle.placing.proofs.PlaceLaws.{before-falls, span-halved}
 use borrow.Author.Needs.{needs}
