@@ -5,7 +5,7 @@ use mathlib.Core.Bool.{Bool, true, false, not}
 use mathlib.Core.List.{List, [], _∷_, _++_}
 use Prim.Native.Nat.{ℕ, zero, suc, _+_, _≤_, _<_}
 use native.Mathlib.Omega.{arith}
-use borrow.Author.Tests.{eqb-true, eqb-false, not-true, not-false, eq-eqb, ne-eqb}
+use borrow.Author.Tests.{eqb-true, not-false, eq-eqb, ne-eqb}
 use lib.Dec.{eqb}
 use lib.ListN.{length}
 use Rattle.model.specs.Order.{if_then_else_}
@@ -27,9 +27,6 @@ module _ (r : Row) where
 
   pub dead-tagged : alive r ≡ false → r .tag ≡ 1
   dead-tagged e = eqb-true (r .tag) 1 (not-false (eqb (r .tag) 1) e)
-
-  pub alive-tagged : alive r ≡ true → r .tag ≢ 1
-  alive-tagged e = eqb-false (r .tag) 1 (not-true (eqb (r .tag) 1) e)
 
   -- a dead row stays the same when it is made dead
   pub dead-again : alive r ≡ false → deadRow r ≡ r

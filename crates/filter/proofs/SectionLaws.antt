@@ -16,7 +16,7 @@ use Rattle.model.specs.Report.{Item, sectionItem, functionItem, branchItem, lin
 use Rattle.model.specs.Tags.{defaultTag}
 use Rattle.model.specs.Printing.{Section, isFunction, isBranch, isLine, functionsOf, sections, comparePrinted, printRecords, printSections}
 use Rattle.model.specs.Filter.{isHeld, hasStart, filterItems, filterSection}
-use Rattle.model.proofs.ListLaws.{select-all, select-none}
+use Rattle.model.proofs.ListLaws.{select-all, select-none, select-append}
 use Rattle.model.proofs.ListLaws as L
 use Rattle.items.specs.Items.{kindOf, branch-kind, line-kind}
 use Rattle.items.specs.Open.{itemsAt}
@@ -26,7 +26,6 @@ use Rattle.emit.proofs.EmitLaws.{room-first}
 use Rattle.printing.specs.declared.Runs.{Runs}
 use Rattle.printing.specs.Printing.{entriesFrom, Spacious, RunsOf, SectionPrinted, headLines, functionLines, groupLines}
 use Rattle.printing.proofs.KindLaws.{next-own}
-use Rattle.printing.proofs.OrderLaws.{select-append}
 use Rattle.printing.proofs.SplitLaws.{sectionLines, lines-of, items, items-functions, items-branches, items-lines, sectionAt, sections-at}
 use Rattle.printing.proofs.TableLaws.{entries-kept}
 use Rattle.printing.proofs.LoopLaws.{Prints, entries-none}

@@ -36,10 +36,6 @@ select-each {A} test (x ∷ xs) = go (test x) (select-each test xs)
     go true e = ap (λ (t : List A). x ∷ t) e
     go false e = e
 
-pub select-append : {A : Type 0} (test : A → Bool) (l m : List A) → select test (l ++ m) ≡ select test l ++ select test m
-select-append test l m =
-    select-each test (l ++ m) ∙ each-append (λ x. if test x then x ∷ [] else []) l m ∙ sym (ap₂ _++_ (select-each test l) (select-each test m))
-
 -- ---- lines
 
 module _ (c : Item → Item → Ordering) (items : List Item) where

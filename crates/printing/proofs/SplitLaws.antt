@@ -36,7 +36,7 @@ use Rattle.model.specs.Printing.{
   printSections,
   printReport,
 }
-use Rattle.model.proofs.ListLaws.{All, select-all, select-none}
+use Rattle.model.proofs.ListLaws.{All, select-all, select-none, select-append}
 use Rattle.items.specs.Items.{kindOf, function-kind, branch-kind, line-kind, itemOf}
 use Rattle.items.specs.Open.{itemAt, itemFrom, itemsAt}
 use Rattle.closing.specs.Sections.{testOf, pathOf, entryAt}
@@ -44,7 +44,6 @@ use Rattle.section.specs.Table.{Table}
 use Rattle.closing.proofs.ReplaceLaws.{all-listed}
 use Rattle.emit.proofs.PassLaws.{lines-append}
 use Rattle.printing.specs.Printing.{entriesFrom, printedFrom, RunOf, functionLines}
-use Rattle.printing.proofs.OrderLaws.{select-append}
 use Rattle.printing.proofs.KindLaws.{kindIn, kind-at, next-own}
 
 -- ---- entries

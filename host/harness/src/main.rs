@@ -127,6 +127,7 @@ impl Run {
         for entries in [MOST_ENTRIES, MOST_ENTRIES + 1] {
             reports.text(&reports::systematic::ascending(entries));
         }
+        reports::systematic::replaced(self.seed, &mut |text| reports.text(text));
     }
 
     fn round(&mut self, round: Round) {

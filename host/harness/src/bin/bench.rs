@@ -1,7 +1,7 @@
 //! Measures the port beside the Rust: on the lines of a tracefile as `geninfo` writes it and on their paths, on ranges and filters, and on
 //! texts and bundles.
 //!
-//!     cargo run --offline --profile fast --bin bench [lines | ranges | reports]
+//!     cargo run --offline --profile fast --bin bench [lines | ranges | reports | growth]
 //!
 //! The profile leaves out the overflow checks that the comparison needs. Both sides get the same lines in turn, round by round, and
 //! the median round counts. The Rust makes a `Record` that owns its texts, and prints it as `to_string` does, into a new string, or
@@ -45,6 +45,9 @@ fn main() {
     }
     if wants("reports") {
         measure_reports();
+    }
+    if wants("growth") {
+        measure_growth();
     }
 }
 
@@ -303,6 +306,12 @@ const ENTRIES: usize = 60_000;
 /// Keys that do not come in order make the port move its index. What that takes depends on the number of entries, so there are several.
 const SIZES: [usize; 3] = [ENTRIES, 16_000, 4_000];
 
+/// Of a bundle whose lines take turns.
+const TEXTS: usize = 50;
+
+/// How often files come again in the texts that replace most.
+const TIMES: usize = 8;
+
 /// What the program `gather` takes.
 const PROGRAM_BYTES: usize = 65_536;
 
@@ -342,10 +351,10 @@ fn measure_reports() {
         "50 × 1,000 entries, no shared keys",
         &measured::no_shared_keys(50, 1000),
     );
-    for entries in [1200, 320, 80] {
+    for entries in SIZES.map(|entries| entries / TEXTS) {
         bundle_row(
-            &format!("50 × {} entries, interleaved lines", grouped(entries)),
-            &measured::interleaved(50, entries),
+            &format!("{TEXTS} × {} entries, interleaved lines", grouped(entries)),
+            &measured::interleaved(TEXTS, entries),
         );
     }
     bundle_row(
@@ -358,7 +367,6 @@ fn measure_reports() {
 
 /// Sections that replace others of other sizes again and again, with scratch to spare and with none.
 fn replaced_often_rows(chance: &mut Chance, entries: usize) {
-    const TIMES: usize = 8;
     let text = measured::replaced_often(chance, entries / 2, TIMES);
     let what = format!(
         "read {} entries, shuffled files, each given {TIMES} times with 1 to 5 lines",
@@ -369,6 +377,79 @@ fn replaced_often_rows(chance: &mut Chance, entries: usize) {
     let most = Expected::of(Asked::Text(&text)).map_or(0, |expected| expected.entries);
     let what = format!("{what}, no entry of scratch to spare");
     lent_row(&what, &text, Lent::roomy(&expected).for_entries(most));
+}
+
+// ---- growth
+
+/// How the port's time for an entry grows with their number. The sizes take turns, so that all of them meet the same machine.
+fn measure_growth() {
+    println!("\nthe port's time for an entry in µs, the median of {ROUNDS} rounds\n");
+    println!("| entries | 4,000 | 16,000 | 60,000 | last / first |");
+    println!("|---|---:|---:|---:|---:|");
+    for order in measured::ORDERS {
+        let name = order.name();
+        texts_growth(&format!("{name}, one file"), 1, |chance, entries| {
+            measured::one_file(chance, order, entries)
+        });
+        texts_growth(&format!("{name}, many files"), 1, |chance, entries| {
+            measured::many_files(chance, order, entries)
+        });
+    }
+    for lines in [3, 2, 4] {
+        let what = format!("shuffled files, each given again with {lines} lines for 3");
+        texts_growth(&what, 1, |chance, entries| {
+            measured::replaced(chance, entries / 2, lines)
+        });
+    }
+    let what = format!("shuffled files, each given {TIMES} times with 1 to 5 lines");
+    texts_growth(&what, TIMES / 2, |chance, entries| {
+        measured::replaced_often(chance, entries / 2, TIMES)
+    });
+    bundles_growth();
+}
+
+/// A text of so many times the entries for each size.
+fn texts_growth(what: &str, times: usize, make: impl Fn(&mut Chance, usize) -> Vec<u8>) {
+    let mut chance = Chance::new(SEED);
+    let asked = SIZES.map(|entries| {
+        let text = make(&mut chance, entries);
+        let lent = Lent::roomy(&rust_read_text(&text));
+        (text, lent)
+    });
+    growth_row(what, times, |size| {
+        let (text, lent) = &asked[size];
+        lent.call(|scratch, out, answer| Linked.read_text(black_box(text), scratch, out, answer));
+    });
+}
+
+fn bundles_growth() {
+    let asked = SIZES.map(|entries| {
+        let bundle = measured::interleaved(TEXTS, entries / TEXTS);
+        let lent = Lent::roomy(&rust_gathers(&bundle));
+        (bundle, lent)
+    });
+    growth_row("gathered, interleaved lines", 1, |size| {
+        let (bundle, lent) = &asked[size];
+        lent.call(|scratch, out, answer| {
+            Linked.gather_with(black_box(bundle), scratch, out, answer)
+        });
+    });
+}
+
+/// `call` is asked for the size at a place of `SIZES`, which has the largest first.
+fn growth_row(what: &str, times: usize, call: impl Fn(usize)) {
+    let mut measured = SIZES.map(|_| Vec::new());
+    for _ in 0..ROUNDS {
+        for (size, entries) in SIZES.into_iter().enumerate() {
+            let one = seconds(|| call(size)) / (times * entries) as f64;
+            measured[size].push(one * 1e6);
+        }
+    }
+    let [last, middle, first] = measured.map(median);
+    println!(
+        "| {what} | {first:.3} | {middle:.3} | {last:.3} | {:.2} |",
+        last / first
+    );
 }
 
 fn report_row(what: &str, rust: impl Fn(), port: impl Fn()) {

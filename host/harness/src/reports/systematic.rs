@@ -1,6 +1,8 @@
-//! Bundles that every run asks: all short sequences of a few texts, and the limits on texts, entries and counts.
+//! Bundles and texts that every run asks: all short sequences of a few texts, the limits on texts, entries and counts, and sections that come again.
 
 use super::bundles::{self, MOST_TEXTS};
+use super::measured;
+use crate::Chance;
 
 /// Each meets some of the others: in a path spelled otherwise, a start or checksum given or not, a sum near 2^64, or a fault.
 const TEXTS: [&str; 12] = [
@@ -71,6 +73,18 @@ pub fn near_the_inner_limit(limit: usize, visit: &mut dyn FnMut(&[u8])) {
             visit(&bundles::of(&[&text[..]]));
             visit(&bundles::of(&[TEXTS[4].as_bytes(), &text]));
             visit(&bundles::of(&[&text[..], TEXTS[2].as_bytes()]));
+        }
+    }
+}
+
+/// Texts whose files come again and again, with other numbers of lines: few files many times, and so many files that sections that come
+/// out of order are settled together more than once.
+pub fn replaced(seed: u64, visit: &mut dyn FnMut(&[u8])) {
+    let mut chance = Chance::new(seed);
+    for (entries, times) in [(8, 400), (40, 80), (400, 20), (8_000, 6)] {
+        visit(&measured::replaced_often(&mut chance, entries, times));
+        for lines in 1..=6 {
+            visit(&measured::replaced(&mut chance, entries, lines));
         }
     }
 }
