@@ -27,7 +27,7 @@ use Rattle.closing.proofs.OwnLaws.{OwnAs, own-tag}
 use Rattle.closing.proofs.ReplaceLaws.{Compared}
 use Rattle.closing.proofs.CloseLaws.{lowerAt, higherAt, parts, closed-section, closed-parts, closed-ordered, closed-same, closed-keys, closed-each, closed-places}
 use Rattle.late.specs.declared.Parts.{Parts}
-use Rattle.late.specs.Late.{together, livesOf, keptAt, InParts, Held, SameReport, Closed}
+use Rattle.late.specs.Late.{SameNames, together, livesOf, keptAt, InParts, Held, SameReport, Closed}
 use Rattle.late.proofs.HeldLaws.{lives-each, lives-cong, same-from, cut-as, noted-as}
 
 abbrev pub three : ℕ → ℕ → ℕ → Parts
@@ -47,6 +47,17 @@ closed-empty {text} {ws} {index} {used} {p} {n} key π z = record {
 pub closed-as : {text ws ws₁ ws₂ : List ℕ} {index used n : ℕ} {p q r : Parts} {key : Row} → Closed text ws ws₁ index used p n key q
     → SameReport text ws₁ ws₂ index used q r → Closed text ws ws₂ index used p n key r
 closed-as κ σ = record { report = σ .report ∙ κ .report; held = σ .held }
+
+-- the section by other places of its names
+pub closed-named : {text ws ws′ : List ℕ} {index used n : ℕ} {p r : Parts} {key known : Row} → SameNames text key known
+    → Closed text ws ws′ index used p n known r → Closed text ws ws′ index used p n key r
+closed-named {text} {ws} {index = index} {n = n} {p = p} σ κ = record {
+  report =
+      κ .report
+      ∙ ap₂ (λ (t q : Bytes). keepSection t q (itemsAt text ws index (p .settled + p .late + 1) n) (keptAt text ws index (p .settled) (p .late))) (σ .test)
+      (σ .path);
+  held = κ .held;
+}
 
 -- ---- the items behind the m entries from place at on
 

@@ -17,7 +17,7 @@ use Rattle.model.specs.Reading.{keepSection}
 use Rattle.items.specs.Items.{kindOf}
 use Rattle.items.specs.Open.{itemsAt}
 use Rattle.late.specs.declared.Parts.{Parts}
-use Rattle.closing.specs.Sections.{testOf, pathOf, entryOf, keyOf, rowsFrom, entriesFrom, SectionsFrom, Past}
+use Rattle.closing.specs.Sections.{testOf, pathOf, entryOf, keyOf, Named, rowsFrom, entriesFrom, SectionsFrom, Past}
 
 -- ---- two parts as one report
 
@@ -106,6 +106,13 @@ pub record Settled (text ws ws′ : List ℕ) (index used : ℕ) (p : Parts) (n 
   pub held : InParts text ws′ index used n 0 0
 
 -- ---- the end of a section
+
+-- r has the test name, the path and the tag of the key, wherever they stand in the text
+pub record SameNames (text : Bytes) (key r : Row) : Type 0 where
+  pub named : Named text r
+  pub test : testOf text r ≡ testOf text key
+  pub path : pathOf text r ≡ pathOf text key
+  pub tag : r .tag ≡ key .tag
 
 -- the open section behind the late ones is kept, as the model keeps it
 pub record Closed (text ws ws′ : List ℕ) (index used : ℕ) (p : Parts) (n : ℕ) (key : Row) (r : Parts) : Type 0 where

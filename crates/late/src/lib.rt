@@ -21,7 +21,7 @@ ghost use Rattle.store.specs.Store.{row, Store};
 ghost use Rattle.dropping.specs.Alive.{alive};
 ghost use Rattle.items.specs.Open.{Open};
 ghost use Rattle.closing.specs.Sections.{keyOf, Named, rowsFrom, IsRun};
-ghost use Rattle.late.specs.Late.{withPlace, Held, PlaceOf, Noted, Settled, SameReport, Closed};
+ghost use Rattle.late.specs.Late.{withPlace, SameNames, Held, PlaceOf, Noted, Settled, SameReport, Closed};
 
 // How many kept rows are settled, how many are late, and how many of the settled ones are dead.
 pub struct Parts {
@@ -301,6 +301,33 @@ fn keep(
     }
 }
 
+// The section's key with the test name where the first kept row has it, if that is the same one. Then rows of one test name, as most texts
+// have, hold it at one place, and are compared without reading it.
+fn with_known_test(
+    text: &[u8],
+    words: &[u64],
+    index: usize,
+    used: usize,
+    parts: Parts,
+    key: Row,
+) -> Row
+    requires { ⌜ Held (now text) (now words) index used parts × Named (now text) key ⌝ }
+    ensures { λ r. ⌜ SameNames (now (text .entry)) key r ⌝ }
+{
+    if parts.settled == 0 {
+        return key;
+    }
+    let first = store::get(words, index, used, 0);
+    let tests = items::compare_parts(text, first.test, first.test_len, key.test, key.test_len);
+    if order::is_equal(tests) {
+        let mut known = key;
+        known.test = first.test;
+        known.test_len = first.test_len;
+        return known;
+    }
+    key
+}
+
 // The open section of n items is kept, unless it has none; not more than `slack` rows are left dead. Most texts have their sections in
 // order: then none is late and none dies. `spare` is where free words start.
 pub fn close(
@@ -324,10 +351,11 @@ pub fn close(
         return parts;
     }
     let settled = parts.settled;
-    let run = find_run(text, words, index, used, 0, settled, key);
+    let known = with_known_test(text, words, index, used, parts, key);
+    let run = find_run(text, words, index, used, 0, settled, known);
     if parts.late == 0 {
         if run.lo == settled {
-            let kept = splice(words, index, used, spare, 0, settled, run, n, key);
+            let kept = splice(words, index, used, spare, 0, settled, run, n, known);
             return Parts {
                 settled: kept,
                 late: 0,
@@ -335,6 +363,6 @@ pub fn close(
             };
         }
     }
-    let after = keep(text, words, index, used, spare, parts, run, n, key);
+    let after = keep(text, words, index, used, spare, parts, run, n, known);
     settle_many(text, words, index, used, spare, after, slack)
 }
