@@ -210,3 +210,60 @@ fn a_checksum_is_any_text_but_a_dash() {
         "TN: SF:m DA:1,2,any LF:1 LH:1 end_of_record",
     );
 }
+
+#[test]
+fn a_path_is_any_text_and_may_be_left_out() {
+    let lone = text("DA:1,1 end_of_record");
+    prints(&[&lone], "TN: SF: DA:1,1 LF:1 LH:1 end_of_record");
+    let relative = text("SF:../m.c DA:1,1 end_of_record");
+    prints(&[&relative], "TN: SF:../m.c DA:1,1 LF:1 LH:1 end_of_record");
+}
+
+#[test]
+fn lines_of_a_section_come_in_any_order() {
+    prints(
+        &[&section("DA:1,1 BRDA:1,0,0,- FNDA:2,f LH:1")],
+        "TN: SF:m FNDA:2,f FNF:1 FNH:1 BRDA:1,0,0,- BRF:1 BRH:0 DA:1,1 LF:1 LH:1 end_of_record",
+    );
+}
+
+#[test]
+fn a_section_ends_whatever_follows_the_tag() {
+    prints(
+        &[&text("SF:m DA:1,1 end_of_record:z")],
+        "TN: SF:m DA:1,1 LF:1 LH:1 end_of_record",
+    );
+}
+
+#[test]
+fn bytes_13_at_the_end_of_a_line_go() {
+    prints(
+        &["SF:m\r\nDA:1,1,-\r\nend_of_record\r\n"],
+        "TN: SF:m DA:1,1 LF:1 LH:1 end_of_record",
+    );
+}
+
+#[test]
+fn line_numbers_have_32_bits_and_counts_64() {
+    prints(
+        &[&section("DA:4294967295,18446744073709551615")],
+        "TN: SF:m DA:4294967295,18446744073709551615 LF:1 LH:1 end_of_record",
+    );
+    refuses(
+        &[&section("DA:4294967296,1")],
+        "t0:2: field 1: number too large (refusal 6)",
+    );
+    refuses(
+        &[&section("DA:1,18446744073709551616")],
+        "t0:2: field 2: number too large (refusal 6)",
+    );
+}
+
+#[test]
+fn a_field_too_many_or_too_few_is_refused() {
+    refuses(&[&section("LF:1,2")], "t0:2: too many fields (refusal 3)");
+    refuses(
+        &[&section("DA:1")],
+        "t0:2: field 2: field missing (refusal 2)",
+    );
+}
