@@ -20,7 +20,7 @@ use Rattle.model.proofs.KeyOrder.{sections-order}
 use Rattle.items.specs.Items.{itemOf, Inner}
 use Rattle.items.specs.Open.{itemFrom, itemsAt, Open}
 use Rattle.dropping.specs.Alive.{alive, Buried}
-use Rattle.dropping.proofs.AliveLaws.{tag-alive, tag-dead, alive-cong, alive-none}
+use Rattle.dropping.proofs.AliveLaws.{tag-alive, tag-dead, alive-cong, alive-most}
 use Rattle.closing.specs.Sections.{testOf, pathOf, entryOf, keyOf, Named, rowsFrom, entriesFrom, goes, Past, IsRun}
 use Rattle.closing.specs.Closing.{Own, Spliced}
 use Rattle.closing.proofs.RunLaws.{run-before, run-in, run-behind, run-ends, run-absent}
@@ -334,6 +334,25 @@ module _ {text ws : List ℕ} {index used settled late dead lo hi : ℕ} {key : 
   pub none-late-has : lo < hi → alive (row ws index lo) ≡ true → (place : ℕ) × IsRun text (rowsFrom ws index settled) late key place place
   none-late-has l a = run-absent key (π .behind .rows) (λ j h q. π .apart lo j (omega (arith, ρ .high .most)) (ap alive (at-zero lo) ∙ a) h
       (ap₂ compareSections (sym (sections-order .equal q)) (sym (sections-order .equal (run-in ρ lo (omega arith) l))) ∙ sections-order .same key))
+
+-- where the run of a key ends, and how many of its rows die, as far as `omega` needs it
+pub record Bounds (settled late dead used n lo hi buried : ℕ) : Type 0 where
+  pub ends : lo ≤ hi
+  pub most : hi ≤ settled
+  pub rows : settled + late + 1 + n ≤ used
+  pub died : dead ≤ settled
+  pub lived : buried ≤ hi - lo
+
+pub bounds : {text ws : List ℕ} {g : ℕ → Row} {index used settled late dead n lo hi buried : ℕ} {key : SectionKey} → InParts text ws index used settled late dead
+    → IsRun text (rowsFrom ws index 0) settled key lo hi → settled + late + 1 + n ≤ used
+    → Buried (row ws index) g used lo hi buried → Bounds settled late dead used n lo hi buried
+bounds {ws = ws} {index = index} {lo = lo} {hi = hi} π ρ room β = record {
+  ends = run-ends ρ;
+  most = ρ .high .most;
+  rows = room;
+  died = omega (arith, π .count);
+  lived = omega (arith, β .count, alive-most (λ k. row ws index (lo + k)) (hi - lo));
+}
 
 -- a run of no entries, told by its start
 pub run-at : {text : Bytes} {f : ℕ → Row} {n lo hi : ℕ} {key : SectionKey} → IsRun text f n key lo hi → hi ≤ lo → IsRun text f n key lo lo
