@@ -10,10 +10,10 @@ use lib.ListN.{length, set, length-set}
 use lib.Seq.{getD-set-same, getD-set-other}
 use Rattle.store.specs.declared.Row.{Row}
 use Rattle.store.specs.Places.{listed, Same, Cut}
-use Rattle.store.specs.Rows.{word, rowAt, Kept}
-use Rattle.store.specs.Store.{number, Store, row}
+use Rattle.store.specs.Rows.{word, Kept}
+use Rattle.store.specs.Store.{Store, row}
 use Rattle.store.proofs.PlaceLaws.{by-eq, by-lt}
-use Rattle.store.proofs.WordLaws.{same-row}
+use Rattle.store.proofs.StoreLaws.{behind-store, behind-rows}
 use Rattle.store.proofs.ListedLaws.{map-listed}
 use Rattle.map.specs.Compare.{lex}
 use Rattle.map.specs.Result.{accepted}
@@ -38,23 +38,6 @@ use Rattle.late.proofs.TogetherLaws.{pass-mix}
 use Rattle.late.proofs.HeldLaws.{place-as, parts-as, kept-length, lives-length, none-late, kept-early}
 use Rattle.late.proofs.MarkLaws.{markOf, compareMarks, marks-order, Front, lives-both}
 use Rattle.late.proofs.PairLaws.{pairs-listed}
-
--- words behind the index are no rows
-module _ {ws ws′ : List ℕ} {index used lo hi : ℕ} (σ : Store ws index used) (κ : Kept ws ws′ lo hi) (h : index + used ≤ lo) where
-  pub spare-store : length ws′ ≡ length ws → Store ws′ index used
-  spare-store e = record {
-    rows-end = σ .rows-end;
-    index-end = omega (arith, σ .index-end);
-    numbers = record {
-      below = λ k l. rw (κ .below (index + k) (omega arith)) (σ .numbers .below k l);
-      once = λ k j l m x. σ .numbers .once k j l m (sym (κ .below (index + k) (omega arith)) ∙ x ∙ κ .below (index + j) (omega arith));
-    };
-  }
-
-  pub spare-rows : Same (row ws index) (row ws′ index) 0 used
-  unfolding row
-  spare-rows k p l = ap (rowAt ws′) (κ .below (index + k) (omega arith)) ∙ same-row κ (number ws index k)
-      (omega (arith, σ .numbers .below k l, σ .rows-end))
 
 -- ---- the place of a late entry
 
@@ -97,7 +80,7 @@ noting-none text ws index spare settled late = record {
 module _ {text ws₀ ws : List ℕ} {index used spare settled late dead j : ℕ} (π : InParts text ws₀ index used settled late dead) (b : index + used ≤ spare)
     (η : Noting text ws₀ ws index spare settled late j) where
   same : Same (row ws₀ index) (row ws index) 0 (settled + late)
-  same k l h = spare-rows (π .early .store) (η .kept) b k l (omega (arith, π .behind .room))
+  same k l h = behind-rows (π .early .store) (η .kept) b k l (omega (arith, π .behind .room))
 
   later : Same (row ws₀ index) (row ws index) settled (settled + late)
   later k l h = same k (omega arith) h
@@ -106,7 +89,7 @@ module _ {text ws₀ ws : List ℕ} {index used spare settled late dead j : ℕ}
   same-keys k l = ap (keyOf text) (same (0 + k) (omega arith) (omega arith))
 
   pub noting-parts : InParts text ws index used settled late dead
-  noting-parts = parts-as ws used π (spare-store (π .early .store) (η .kept) b (η .size)) (π .behind .room) same
+  noting-parts = parts-as ws used π (behind-store (π .early .store) (η .kept) b (η .size)) (π .behind .room) same
 
   -- the one before is noted
   pub noting-last : j < late → 0 < j → PlaceOf text ws index settled (j - 1) (word ws (spare + (j - 1)))
@@ -215,7 +198,7 @@ module _ {text ws ws₁ : List ℕ} {index used spare settled late dead : ℕ} (
     room = omega (arith, π .behind .room)
 
     woven : Woven (row ws index) (row ws₂ index) place used 0 settled late
-    woven = woven-as room (λ k l. spare-rows (π .early .store) (ν .kept) b k (omega arith) l) (λ k l. refl) ω
+    woven = woven-as room (λ k l. behind-rows (π .early .store) (ν .kept) b k (omega arith) l) (λ k l. refl) ω
 
     second : (j : ℕ) → row ws index (0 + settled + j) ≡ row ws index (settled + j)
     second j = ap (row ws index) (let e : 0 + settled + j ≡ settled + j = omega arith in e)

@@ -41,7 +41,7 @@ pub enum Step {
 }
 
 // For so many entries one dead row may stay.
-pub const SLACK: usize = 8;
+const SLACK: usize = 8;
 
 // How many dead rows may stay: `slack` in specs/Reading.antt.
 pub fn slack(limit: usize) -> usize
@@ -55,7 +55,7 @@ pub fn capacity(limit: usize) -> usize
     requires { ⌜ capacity limit < 2 ^ 64 ⌝ }
     ensures { λ r. ⌜ r ≡ capacity limit ⌝ }
 {
-    limit + limit / SLACK
+    limit + slack(limit)
 }
 
 // The kept rows in their parts.

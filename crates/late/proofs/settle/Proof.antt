@@ -1,7 +1,8 @@
 -- `late::settle` meets its contract. Assumes nothing.
 use mathlib.Core.Path.{refl}
 use native.Mathlib.Omega.{arith}
-use Rattle.late.proofs.LateLaws.{spare-store, noted-rising, settled-all}
+use Rattle.store.proofs.StoreLaws.{behind-store}
+use Rattle.late.proofs.LateLaws.{noted-rising, settled-all}
 use borrow.Author.Needs.{needs}
 use Rattle.late.proofs.settle.Statement.{statement}
 use Rattle.late.proofs.settle.Tie as tie
@@ -16,7 +17,7 @@ settle-spec =
     (λ c κs. let s = c .before .before .before in (s .pre .0, s .pre .1, omega (arith, s .pre .2, s .pre .0 .behind .room)))
     (λ c κs. let n = c .before .before .before in
     let s = start n in (
-      (spare-store (s .pre .0 .early .store) (n .note-places .ensures .kept) (s .pre .1) (n .note-places .kept .1 .0), omega (arith, s .pre .0 .behind .room)),
+      (behind-store (s .pre .0 .early .store) (n .note-places .ensures .kept) (s .pre .1) (n .note-places .kept .1 .0), omega (arith, s .pre .0 .behind .room)),
       (s .pre .1, omega (arith, s .pre .2, s .pre .0 .behind .room, n .note-places .kept .1 .0), noted-rising (s .pre .0) (n .note-places .ensures)),
     ))
     (λ c. let s = start (c .before .before .before .before .before .before .before) in omega (arith, s .pre .0 .behind .room, s .pre .2))
