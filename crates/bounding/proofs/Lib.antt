@@ -1,4 +1,5 @@
 pub mod EachLaws
 pub mod LengthLaws
 pub mod ReportLaws
+mod SumLaws
 pub mod RowLaws

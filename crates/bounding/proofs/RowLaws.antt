@@ -10,7 +10,8 @@ use mathlib.Core.Option.{none, some}
 use lib.ListN.{length, take, drop, length-take}
 use Rattle.store.specs.declared.Row.{Row}
 use Rattle.store.specs.Places.{listed}
-use Rattle.store.specs.Store.{row}
+use Rattle.store.specs.Rows.{rowAt}
+use Rattle.store.specs.Store.{Store, number, row}
 use Rattle.store.proofs.ListedLaws.{listed-split}
 use Rattle.model.specs.Bytes.{Bytes}
 use Rattle.model.specs.Limits.{u64-max}
@@ -18,10 +19,11 @@ use Rattle.model.specs.Number.{decimal}
 use Rattle.model.specs.Report.{Entry, Report, sectionItem, functionItem, branchItem, lineItem}
 use Rattle.decimal.proofs.DecimalLaws.{decimal-most}
 use Rattle.items.specs.Items.{part, itemOf}
-use Rattle.closing.specs.Sections.{testOf, pathOf, entryOf, entryAt, entriesAt}
+use Rattle.closing.specs.Sections.{testOf, pathOf, entryOf, entryAt}
 use Rattle.emit.proofs.LentLaws.{item}
 use Rattle.bounding.specs.Bounding.{itemLines, sectionMost, entryMost, reportMost, Roomy}
 use Rattle.bounding.proofs.LengthLaws.{item-length}
+use Rattle.bounding.proofs.SumLaws.{total, total-next, total-some}
 
 -- ---- a row
 
@@ -105,21 +107,42 @@ most-next f i =
     let one : reportMost (listed (λ k. f (i + k)) 1) ≡ entryMost (f i) = rw z (omega arith) in
     ap reportMost (listed-split f i 1) ∙ most-append (listed f i) (listed (λ k. f (i + k)) 1) ∙ ap (λ (n : ℕ). reportMost (listed f i) + n) one
 
--- of `room`, the first i rows leave so much
-pub record Leaving (ws : List ℕ) (index room i left : ℕ) : Type 0 where
-  pub bytes : (text : Bytes) → reportMost (entriesAt text ws index i) + left ≤ room
+-- ---- the bound of so many rows
 
-module _ {ws : List ℕ} {index room : ℕ} where
-  pub leaving-start : Leaving ws index room 0 room
-  unfolding listed reportMost
+abbrev rowMost : Bytes → List ℕ → ℕ → ℕ
+rowMost text ws j = entryMost (entryOf text (rowAt ws j))
+
+most-total : (f : ℕ → Entry) (n : ℕ) → reportMost (listed f n) ≡ total (λ k. entryMost (f k)) n
+unfolding total listed reportMost
+most-total f zero = refl
+most-total f (suc n) =
+    ap (λ (k : ℕ). reportMost (listed f k)) (let z : suc n ≡ n + 1 = omega arith in z)
+    ∙ most-next f n
+    ∙ ap (λ (k : ℕ). k + entryMost (f n)) (most-total f n)
+
+-- of `room`, the first j rows in memory leave so much
+pub record Leaving (ws : List ℕ) (room j left : ℕ) : Type 0 where
+  pub bytes : (text : Bytes) → total (rowMost text ws) j + left ≤ room
+
+module _ {ws : List ℕ} {room : ℕ} where
+  pub leaving-start : Leaving ws room 0 room
+  unfolding total
   leaving-start = record { bytes = λ text. omega arith }
 
-  module _ {i left : ℕ} (ρ : Leaving ws index room i left) where
-    pub leaving-next : {r : Row} {n : ℕ} → room < u64-max → r ≡ row ws index i → ((text : Bytes) → min (entryMost (entryOf text r)) u64-max ≤ n) → n ≤ left
-        → Leaving ws index room (i + 1) (left - n)
+  module _ {j left : ℕ} (ρ : Leaving ws room j left) where
+    pub leaving-next : {r : Row} {n : ℕ} → room < u64-max → r ≡ rowAt ws j → ((text : Bytes) → min (entryMost (entryOf text r)) u64-max ≤ n) → n ≤ left
+        → Leaving ws room (j + 1) (left - n)
     leaving-next {r} {n} s e h l = record {
-      bytes = λ text. omega (arith, ρ .bytes text, most-next (entryAt text ws index) i, rw e at (h text));
+      bytes = λ text. omega (arith, ρ .bytes text, total-next (rowMost text ws) j, rw e at (h text));
     }
 
-    pub leaving-end : {n : ℕ} → i ≤ n → n ≤ i → Roomy ws index n room true
-    leaving-end {n} h l text = omega (arith, rw (let z : i ≡ n = omega arith in z) at (ρ .bytes text))
+    -- the n are some of them, each once
+    pub leaving-end : {index used n : ℕ} → Store ws index used → n ≤ used → used ≤ j → j ≤ used → Roomy ws index n room true
+    unfolding row
+    leaving-end {index} {used} {n} σ few h l text =
+        omega (
+          arith,
+          rw (let z : j ≡ used = omega arith in z) at (ρ .bytes text),
+          most-total (entryAt text ws index) n,
+          total-some (rowMost text ws) (number ws index) n used (λ i k. σ .numbers .below i (omega arith)) (λ i k a b e. σ .numbers .once i k (omega arith) (omega arith) e),
+        )

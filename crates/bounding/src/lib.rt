@@ -50,20 +50,21 @@ fn row_most(row: Row) -> u64
     held_sum(held_sum(row.test_len, row.path_len), 80)
 }
 
-// Whether the first n rows print at most `room` bytes. The answer may be no where they do, and never yes where they don't.
+// Whether the first n rows print at most `room` bytes. The answer may be no where they do, and never yes where they don't. All used rows are
+// counted, in the order in which they stand in memory: that is faster than the order of the index, and few are not among the n.
 pub fn is_roomy(words: &[u64], index: usize, used: usize, n: usize, room: usize) -> bool
     requires { ⌜ Store (now words) index used × (n ≤ used) × (room < u64-max) ⌝ }
     ensures { λ r. ⌜ Roomy (now (words .entry)) index n room r ⌝ }
 {
     let mut left = room as u64;
-    let mut i = 0;
-    while i < n {
-        let most = row_most(store::get(words, index, used, i));
+    let mut j = 0;
+    while j < used {
+        let most = row_most(store::read_row(words, j));
         if left < most {
             return false;
         }
         left = left - most;
-        i += 1;
+        j += 1;
     }
     true
 }

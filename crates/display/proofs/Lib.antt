@@ -2,3 +2,4 @@ pub mod OverLaws
 pub mod FieldLaws
 pub mod ShapeLaws
 pub mod LineLaws
+mod CountLaws

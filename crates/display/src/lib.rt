@@ -1,17 +1,19 @@
 // A record printed as a line: `Display for Record`, document 01's "The line printer tries 17, then 14".
 ghost use mathlib.Core.Path.{_≡_};
+ghost use mathlib.Core.List.{[]};
 ghost use lib.ListN.{length};
 ghost use Rattle.model.specs.Calls.{writeAnswer};
 ghost use Rattle.model.specs.Output.{outputAfter};
 ghost use Rattle.model.specs.Parts.{printLine};
 ghost use Rattle.model.specs.Tags.{defaultTag};
 ghost use Rattle.display.specs.Shape.{neededAt};
-ghost use Rattle.display.specs.Lines.{lineIn};
+ghost use Rattle.display.specs.Lines.{lineIn, counted};
 
 mod put;
 mod shape;
 mod tag;
 
+use model::Checksum;
 use model::Fault;
 use model::Record;
 use model::Refusal;
@@ -57,4 +59,22 @@ pub fn print_line(text: &[u8], record: Record, out: &mut [u8]) -> WriteAnswer
         return WriteAnswer::Refused(refusal(Fault::OutputTooShort, needed as u64));
     }
     WriteAnswer::Refused(refusal(Fault::PartOutside, 0))
+}
+
+// Prints a line's record with no checksum, as `print_line` does, and makes no record of it where the output surely holds it: most lines of a
+// report are such.
+pub fn print_count(line: u32, count: u64, out: &mut [u8]) -> WriteAnswer
+    ensures { λ r. ⌜ r ≡ writeAnswer (printLine defaultTag [] (counted line count) (length (now (out .entry)))) ⌝ }
+    ensures { λ _. ⌜ now (out .exit) ≡ outputAfter (printLine defaultTag [] (counted line count) (length (now (out .entry)))) (now (out .entry)) ⌝ }
+{
+    if 98 <= out.len() {
+        let n = put::put_count(line as u64, count, out);
+        return WriteAnswer::Written(n);
+    }
+    let record = Record::LineData {
+        line,
+        count,
+        checksum: Checksum::Absent,
+    };
+    print_line(b"", record, out)
 }

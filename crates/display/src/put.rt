@@ -1,11 +1,13 @@
 // A shape's line measured and written, field by field, each into the rest of the output.
 ghost use mathlib.Core.Path.{_≡_};
 ghost use Prim.Native.Nat.{_+_, _≤_, _<_};
-ghost use mathlib.Core.List.{_∷_};
+ghost use mathlib.Core.List.{[], _∷_};
 ghost use mathlib.Core.Bool.{true};
 ghost use lib.ListN.{length};
+ghost use Rattle.model.specs.declared.Kind.the-variants as Kd;
 ghost use Rattle.model.specs.Number.{decimal};
 ghost use Rattle.decimal.specs.Put.{over};
+ghost use Rattle.display.specs.declared.shape.Last.the-variants as L;
 ghost use Rattle.display.specs.Shape.{separated, shown, lastLen, lastField, inside, sepAfter, headOf, shapeFields, shapeLine, Fitting};
 use crate::shape;
 use crate::shape::Last;
@@ -62,6 +64,16 @@ fn put_numbers(numbers: [u64; 4], count: usize, out: &mut [u8]) -> usize
         i += 1;
     }
     at
+}
+
+// Writes two numbers as fields at the front of out.
+fn put_pair(a: u64, b: u64, out: &mut [u8]) -> usize
+    requires { ⌜ length (separated 58 (shown (a ∷ b ∷ []) 2)) ≤ length (now out) ⌝ }
+    ensures { λ r. ⌜ (r ≡ length (separated 58 (shown (a ∷ b ∷ []) 2))) × (now (out .exit) ≡ over (separated 58 (shown (a ∷ b ∷ []) 2)) (now (out .entry))) ⌝ }
+{
+    let at = put_number(b':', a, out);
+    let n = put_number(b',', b, &mut out[at..]);
+    at + n
 }
 
 // Writes the last field at the front of out.
@@ -161,6 +173,19 @@ pub fn put_line(shape: Shape, text: &[u8], out: &mut [u8]) -> usize
     let numbers = shape.numbers;
     let last = shape.last;
     let end = put_fields(kind, numbers, shape.count, last, text, out);
+    out[end] = 10;
+    end + 1
+}
+
+// Writes the line of a DA with no checksum at the front of out.
+pub fn put_count(line: u64, count: u64, out: &mut [u8]) -> usize
+    requires { ⌜ length (shapeLine [] Kd.LineData (line ∷ count ∷ []) 2 L.Nothing) ≤ length (now out) ⌝ }
+    ensures { λ r. ⌜ r ≡ length (shapeLine [] Kd.LineData (line ∷ count ∷ []) 2 L.Nothing) ⌝ }
+    ensures { λ _. ⌜ now (out .exit) ≡ over (shapeLine [] Kd.LineData (line ∷ count ∷ []) 2 L.Nothing) (now (out .entry)) ⌝ }
+{
+    let at = tag::put_tag(Kind::LineData, out);
+    let n = put_pair(line, count, &mut out[at..]);
+    let end = at + n;
     out[end] = 10;
     end + 1
 }

@@ -100,6 +100,13 @@ emitted-as write a b e w = rw e at w
 pub room-as : (write : Bool) (out : Bytes) (at : ℕ) (a b : Bytes) → a ≡ b → RoomFor write out at b → RoomFor write out at a
 room-as write out at a b e h = rw e h
 
+-- what is written
+pub room-written : (write : Bool) (out : Bytes) (at : ℕ) (a b : Bytes) → write ≡ true → a ≡ b → RoomFor write out at b → RoomFor true out at a
+room-written write out at a b e q h = rw q (rw e at h)
+
+pub emitted-written : (write : Bool) {out out′ : Bytes} {at r : ℕ} (a b : Bytes) → write ≡ true → a ≡ b → Emitted true out out′ at a r → Emitted write out out′ at b r
+emitted-written write a b e q w = rw e (rw q at w)
+
 -- what is only measured
 pub emitted-past : (write : Bool) (out bytes : Bytes) (at r : ℕ) → write ≡ false → r ≡ min (at + length bytes) u64-max → Emitted write out out at bytes r
 emitted-past write out bytes at r e h = rw e (record { next = h; after = refl })

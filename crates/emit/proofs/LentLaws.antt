@@ -2,6 +2,7 @@
 use Prim.Native.Nat.{ℕ, zero, suc, _+_, _/_, _%_, _≤_, _<_}
 use mathlib.Core.Path.{_≡_, refl, sym, ap, _∙_}
 use mathlib.Core.Logic.{_≢_}
+use mathlib.Core.Option.{none}
 use mathlib.Core.List.{[], _∷_, _++_, append-nil}
 use native.Mathlib.Omega.{arith}
 use lib.ListN.{length}
@@ -27,7 +28,7 @@ use Rattle.model.specs.Tags.{defaultTag}
 use Rattle.model.specs.Printing.{startRecord, dataRecord, printRecords}
 use Rattle.model.specs.Valid.{Fits}
 use Rattle.items.specs.Items.{part, byKind, ifGiven, itemOf, Good}
-use Rattle.display.specs.Lines.{lineIn}
+use Rattle.display.specs.Lines.{lineIn, counted}
 use Rattle.display.proofs.LineLaws.{part-there, line-made}
 use Rattle.emit.specs.Emit.{foundOf, hitOf, hitOne, lentPart, lentTaken, lentChecksum}
 
@@ -133,6 +134,10 @@ module _ (text : Bytes) (row : Row) where
       rw (item-is 3 e)
       (one-line text (Lent.LineData (row .k1) (row .count) c) (lineData (row .k1) (row .count) (ifGiven (row .tag % 2) (part text (row .k2) (row .k3))))
       (rw (q, checksum-in text (row .tag % 2) (row .k2) (row .k3) (omega arith) (g .checksum e))))
+
+  pub count-line : row .tag ≡ 6 → lineIn [] (counted (row .k1) (row .count)) ≡ printRecords defaultTag (dataRecord (itemOf text row))
+  unfolding dataRecord itemOf recordIn checksumIn
+  count-line e = rw e (one-line [] (counted (row .k1) (row .count)) (lineData (row .k1) (row .count) none) refl)
 
   pub no-data : Good text row → row .tag / 2 ≢ 1 → row .tag / 2 ≢ 2 → row .tag / 2 ≢ 3 → printRecords defaultTag (dataRecord (itemOf text row)) ≡ []
   unfolding dataRecord printRecords each

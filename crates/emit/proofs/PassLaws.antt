@@ -12,7 +12,7 @@ use mir.Syntax.{w32}
 use Rattle.store.specs.declared.Row.{Row}
 use Rattle.store.specs.Places.{listed}
 use Rattle.store.specs.Rows.{word, rowAt}
-use Rattle.store.proofs.ListedLaws.{length-listed, listed-split}
+use Rattle.store.proofs.ListedLaws.{length-listed, listed-cong, listed-split}
 use Rattle.model.specs.Bytes.{Bytes, newline}
 use Rattle.model.specs.Limits.{u32-max}
 use Rattle.model.specs.Lists.{select, each}
@@ -21,10 +21,10 @@ use Rattle.model.specs.Report.{Item, countOf}
 use Rattle.model.specs.Line.{printRecord}
 use Rattle.model.specs.Tags.{defaultTag}
 use Rattle.model.specs.Valid.{Fits}
-use Rattle.model.specs.Printing.{dataRecord, hits, group, printRecords}
+use Rattle.model.specs.Printing.{startRecord, dataRecord, hits, group, printRecords}
 use Rattle.model.proofs.ListLaws.{each-append, select-length}
 use Rattle.items.specs.Items.{itemOf, Good}
-use Rattle.emit.specs.Emit.{RoomFor, Emitted, Printable, numberedItem, hitOne}
+use Rattle.emit.specs.Emit.{RoomFor, Emitted, Numbered, Printable, numberedItem, passRecords, hitOne}
 use Rattle.emit.proofs.EmitLaws.{room-first, room-then, emitted-size, emitted-both}
 
 abbrev pub lines : List Record → Bytes
@@ -33,6 +33,14 @@ lines = printRecords defaultTag
 pub lines-append : (xs ys : List Record) → lines (xs ++ ys) ≡ lines xs ++ lines ys
 unfolding printRecords
 lines-append xs ys = each-append (λ r. printRecord defaultTag r ++ (newline ∷ [])) xs ys
+
+-- ---- what a pass prints of an item
+
+pub pass-starts : (starts : Bool) (x : Item) → starts ≡ true → lines (startRecord x) ≡ lines (passRecords starts x)
+pass-starts starts x e = rw e
+
+pub pass-data : (starts : Bool) (x : Item) → starts ≡ false → lines (dataRecord x) ≡ lines (passRecords starts x)
+pass-data starts x e = rw e
 
 -- ---- two records, one after the other
 
@@ -66,14 +74,13 @@ module _ (records : Item → List Record) (f : ℕ → Item) where
       ∙ ap lines (each-append records (listed f i) (listed (λ k. f (i + k)) n))
       ∙ lines-append (each records (listed f i)) (each records (listed (λ k. f (i + k)) n))
 
-  printed-next : (i : ℕ) → printed (i + 1) ≡ printed i ++ lines (records (f i))
+  rest-one : (i : ℕ) → rest i 1 ≡ lines (records (f i))
   unfolding each listed
-  printed-next i =
-      printed-split i 1
-      ∙ ap (λ (l : List Record). printed i ++ lines l) (append-nil (records (f (i + 0))))
-      ∙ ap (λ (k : ℕ). printed i ++ lines (records (f k))) (let z : i + 0 ≡ i = omega arith in z)
+  rest-one i =
+      ap lines (append-nil (records (f (i + 0))))
+      ∙ ap (λ (k : ℕ). lines (records (f k))) (let z : i + 0 ≡ i = omega arith in z)
 
-  -- the first i rows are emitted
+  -- the first i rows are emitted, and then m more
   module _ (write : Bool) (old : Bytes) (at n : ℕ) (all more : Bytes) (is : all ≡ printed n ++ more) (room : RoomFor write old at all) where
     pub room-so-far : (i : ℕ) → i ≤ n → RoomFor write old at (printed i)
     room-so-far i h =
@@ -81,15 +88,15 @@ module _ (records : Item → List Record) (f : ℕ → Item) where
         let whole : printed n ≡ printed i ++ rest i (n - i) = ap printed (sym e) ∙ printed-split i (n - i) in
         room-first write old at (printed i) (rest i (n - i)) (rw whole at (room-first write old at (printed n) more (rw is at room)))
 
-    room-next : (i : ℕ) → i < n → RoomFor write old at (printed i ++ lines (records (f i)))
-    room-next i h = rw (printed-next i) at (room-so-far (i + 1) (omega arith))
+    module _ (few : length old * 1 < 2 ^ 63) (out : Bytes) (end i m : ℕ) (within : i + m ≤ n) (so-far : Emitted write old out at (printed i) end) where
+      room-next : RoomFor write old at (printed i ++ rest i m)
+      room-next = rw (printed-split i m) at (room-so-far (i + m) within)
 
-    module _ (few : length old * 1 < 2 ^ 63) (out : Bytes) (end i : ℕ) (within : i < n) (so-far : Emitted write old out at (printed i) end) where
-      pub next-room : RoomFor write out end (lines (records (f i)))
-      next-room = room-then write old at (printed i) (lines (records (f i))) (room-next i within) few so-far
+      pub next-room : RoomFor write out end (rest i m)
+      next-room = room-then write old at (printed i) (rest i m) room-next few so-far
 
-      pub next-emitted : {out′ : Bytes} {r : ℕ} → Emitted write out out′ end (lines (records (f i))) r → Emitted write old out′ at (printed (i + 1)) r
-      next-emitted e = rw (printed-next i) (emitted-both write old at (printed i) (lines (records (f i))) (room-next i within) few so-far e)
+      pub next-emitted : {out′ : Bytes} {r : ℕ} → Emitted write out out′ end (rest i m) r → Emitted write old out′ at (printed (i + m)) r
+      next-emitted e = rw (printed-split i m) (emitted-both write old at (printed i) (rest i m) room-next few so-far e)
 
   pub printed-done : (i n : ℕ) → i ≤ n → n ≤ i → printed i ≡ printed n
   printed-done i n h k = ap printed (let z : i ≡ n = omega arith in z)
@@ -97,6 +104,27 @@ module _ (records : Item → List Record) (f : ℕ → Item) where
   pub printed-start : printed 0 ≡ []
   unfolding printRecords each listed
   printed-start = refl
+
+-- m of the numbered rows, from the i-th on
+module _ (text ws : List ℕ) (numbers i m : ℕ) where
+  same-place : (k : ℕ) → numbers + i + k ≡ numbers + (i + k)
+  same-place k = omega arith
+
+  pub part-items : listed (λ k. numberedItem text ws numbers (i + k)) m ≡ listed (numberedItem text ws (numbers + i)) m
+  part-items = listed-cong (λ k. numberedItem text ws numbers (i + k)) (numberedItem text ws (numbers + i)) m (λ k h. rw (same-place k))
+
+pub part-numbered : {ws : List ℕ} {numbers n : ℕ} → Numbered ws numbers n → (i m : ℕ) → i + m ≤ n → Numbered ws (numbers + i) m
+part-numbered {ws} {numbers} ν i m h = record {
+  words = omega (arith, ν .words);
+  inside = λ k l. rw (same-place [] ws numbers i m k) (ν .inside (i + k) (omega arith));
+}
+
+pub part-printable : {text ws : List ℕ} {numbers n : ℕ} → Printable text ws numbers n → (i m : ℕ) → i + m ≤ n → Printable text ws (numbers + i) m
+part-printable {text} {ws} {numbers} π i m h = record {
+  numbered = part-numbered (π .numbered) i m h;
+  good = λ k l. rw (same-place text ws numbers i m k) (π .good (i + k) (omega arith));
+  fits = λ k l. rw (same-place text ws numbers i m k) (π .fits (i + k) (omega arith));
+}
 
 -- the n rows whose numbers stand from word `numbers` on are to be printed, and then more
 pub record Rows (records : Item → List Record) (text ws : List ℕ) (numbers n : ℕ) (write : Bool) (old : Bytes) (at : ℕ) (all more : Bytes) : Type 0 where
@@ -121,16 +149,31 @@ module _ {records : Item → List Record} {text ws : List ℕ} {numbers n : ℕ}
       (emitted-both write old at (printed records (numberedItem text ws numbers) n) more (rw (p .is) at (p .room)) (p .few)
       (rw (printed-done records (numberedItem text ws numbers) i n h k) at so-far) e)
 
+  module _ (m : ℕ) (within : i + m ≤ n) where
+    part-is : lines (each records (listed (λ k. numberedItem text ws numbers (i + k)) m)) ≡ printed records (numberedItem text ws (numbers + i)) m
+    part-is = ap (λ (l : List Item). lines (each records l)) (part-items text ws numbers i m)
+
+    pub part-ready : RoomFor write out end (printed records (numberedItem text ws (numbers + i)) m)
+    part-ready = rw part-is at (next-room records (numberedItem text ws numbers) write old at n all more (p .is) (p .room) (p .few) out end i m within so-far)
+
+    pub part-emitted : {out′ : Bytes} {r : ℕ} → Emitted write out out′ end (printed records (numberedItem text ws (numbers + i)) m) r
+        → Emitted write old out′ at (printed records (numberedItem text ws numbers) (i + m)) r
+    part-emitted e =
+        next-emitted records (numberedItem text ws numbers) write old at n all more (p .is) (p .room) (p .few) out end i m within so-far (rw part-is e)
+
   module _ (within : i < n) (row : Row) (here : row ≡ rowAt ws (word ws (numbers + i))) where
+    row-is : lines (each records (listed (λ k. numberedItem text ws numbers (i + k)) 1)) ≡ lines (records (itemOf text row))
+    row-is = rw here (rest-one records (numberedItem text ws numbers) i)
+
     pub row-ready : (Good text row × Fits (itemOf text row)) × RoomFor write out end (lines (records (itemOf text row)))
-    row-ready =
-        rw here (
-          (p .rows .good i within, p .rows .fits i within),
-          next-room records (numberedItem text ws numbers) write old at n all more (p .is) (p .room) (p .few) out end i within so-far,
-        )
+    row-ready = (
+      rw here (p .rows .good i within, p .rows .fits i within),
+      rw row-is at (next-room records (numberedItem text ws numbers) write old at n all more (p .is) (p .room) (p .few) out end i 1 (omega arith) so-far),
+    )
 
     pub row-emitted : {out′ : Bytes} {r : ℕ} → Emitted write out out′ end (lines (records (itemOf text row))) r → Emitted write old out′ at (printed records (numberedItem text ws numbers) (i + 1)) r
-    row-emitted e = next-emitted records (numberedItem text ws numbers) write old at n all more (p .is) (p .room) (p .few) out end i within so-far (rw here at e)
+    row-emitted e =
+        next-emitted records (numberedItem text ws numbers) write old at n all more (p .is) (p .room) (p .few) out end i 1 (omega arith) so-far (rw row-is e)
 
 -- ---- how many are hit
 
@@ -156,21 +199,22 @@ module _ (f : ℕ → Item) where
   unfolding hits select listed
   hits-start = refl
 
+  pub hits-more : (i m h d : ℕ) → h ≡ hits (listed f i) → d ≡ hits (listed (λ k. f (i + k)) m) → h + d ≡ hits (listed f (i + m))
+  hits-more i m h d e q = rw (e, q) (sym (ap hits (listed-split f i m) ∙ hits-append (listed f i) (listed (λ k. f (i + k)) m)))
+
   pub hits-next : (i h d : ℕ) → h ≡ hits (listed f i) → d ≡ hitOne (f i) → h + d ≡ hits (listed f (i + 1))
   unfolding listed
-  hits-next i h d e q =
-      let z : i + 0 ≡ i = omega arith in
-      rw (e, q) (sym (ap hits (listed-split f i 1) ∙ hits-append (listed f i) (f (i + 0) ∷ []) ∙ rw (z, hits-one)))
+  hits-next i h d e q = let z : i + 0 ≡ i = omega arith in hits-more i 1 h d e (q ∙ rw (z, hits-one))
 
   pub hits-done : (i n h : ℕ) → i ≤ n → n ≤ i → h ≡ hits (listed f i) → h ≡ hits (listed f n)
   hits-done i n h a b e = e ∙ ap (λ (k : ℕ). hits (listed f k)) (let z : i ≡ n = omega arith in z)
 
-  hits-most : (i : ℕ) → hits (listed f i) ≤ i
+  pub hits-most : (i : ℕ) → hits (listed f i) ≤ i
   unfolding hits
   hits-most i = rw (length-listed f i) at (select-length (λ x. ltb 0 (countOf x)) (listed f i))
 
-  pub hits-fit : (i n h d : ℕ) → h ≡ hits (listed f i) → d ≤ 1 → i < n → n ≤ u32-max → Val.Fits w32 (h + d)
-  hits-fit i n h d e q k m = record { fits = omega (arith, hits-most i) }
+  pub hits-fit : (i m n h d : ℕ) → h ≡ hits (listed f i) → d ≤ m → i + m ≤ n → n ≤ u32-max → Val.Fits w32 (h + d)
+  hits-fit i m n h d e q k l = record { fits = omega (arith, hits-most i) }
 
 -- ---- a group
 

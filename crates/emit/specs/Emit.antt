@@ -16,6 +16,7 @@ use Rattle.model.specs.Bytes.{Bytes}
 use Rattle.model.specs.Limits.{u64-max}
 use Rattle.model.specs.Record.{Record, functionsFound, functionsHit, branchesFound, branchesHit, linesFound, linesHit}
 use Rattle.model.specs.Report.{Item, countOf}
+use Rattle.model.specs.Printing.{startRecord, dataRecord}
 use Rattle.model.specs.Valid.{Fits}
 use Rattle.items.specs.Items.{byKind, itemOf, Good}
 
@@ -45,12 +46,21 @@ pub record Emitted (write : Bool) (out out′ : Bytes) (at : ℕ) (bytes : Bytes
 abbrev pub numberedItem : Bytes → List ℕ → ℕ → ℕ → Item
 numberedItem text ws numbers k = itemOf text (rowAt ws (word ws (numbers + k)))
 
--- the n rows whose numbers stand from word `numbers` on can be printed
-pub record Printable (text ws : List ℕ) (numbers n : ℕ) : Type 0 where
+-- from word `numbers` on stand the numbers of n rows
+pub record Numbered (ws : List ℕ) (numbers n : ℕ) : Type 0 where
   pub words : numbers + n ≤ length ws
   pub inside : (k : ℕ) → k < n → word ws (numbers + k) * row-words + row-words ≤ length ws
+
+-- these rows can be printed
+pub record Printable (text ws : List ℕ) (numbers n : ℕ) : Type 0 where
+  pub numbered : Numbered ws numbers n
   pub good : (k : ℕ) → k < n → Good text (rowAt ws (word ws (numbers + k)))
   pub fits : (k : ℕ) → k < n → Fits (numberedItem text ws numbers k)
+
+-- what one pass over rows prints of an item: FN, or FNDA, BRDA or DA
+abbrev pub passRecords : Bool → Item → List Record
+passRecords true = startRecord
+passRecords false = dataRecord
 
 -- the records of how many were found and hit, by kind of row; a section's own row has none
 abbrev pub foundOf : ℕ → ℕ → Record

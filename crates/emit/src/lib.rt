@@ -7,6 +7,7 @@ use model::Taken;
 use model::WriteAnswer;
 use store::Row;
 ghost use mathlib.Core.Path.{_≡_};
+ghost use mathlib.Core.Bool.{true};
 ghost use mathlib.Core.List.{List, [], _∷_};
 ghost use Prim.Native.Nat.{ℕ, _+_, _%_, _≤_, min};
 ghost use lib.ListN.{length};
@@ -17,11 +18,11 @@ ghost use Rattle.model.specs.Limits.{u32-max, u64-max};
 ghost use Rattle.model.specs.Record.{testName, sourceFile, endOfRecord};
 ghost use Rattle.model.specs.Tags.{defaultTag};
 ghost use Rattle.model.specs.Parts.{recordIn};
-ghost use Rattle.model.specs.Printing.{startRecord, dataRecord, group, printRecords};
+ghost use Rattle.model.specs.Printing.{startRecord, dataRecord, group, hits, printRecords};
 ghost use Rattle.model.specs.Valid.{Fits};
 ghost use Rattle.items.specs.Items.{part, itemOf, Good};
-ghost use Rattle.display.specs.Lines.{lineIn};
-ghost use Rattle.emit.specs.Emit.{RoomFor, Emitted, Printable, numberedItem, foundOf, hitOf, lentPart, lentTaken, lentChecksum, hitOne};
+ghost use Rattle.display.specs.Lines.{lineIn, counted};
+ghost use Rattle.emit.specs.Emit.{RoomFor, Emitted, Numbered, Printable, numberedItem, passRecords, foundOf, hitOf, lentPart, lentTaken, lentChecksum, hitOne};
 
 // The place behind n bytes, held at 2^64 − 1.
 fn past(at: usize, n: usize) -> usize
@@ -58,7 +59,7 @@ fn past_start(row: Row, at: usize) -> usize
 }
 
 // FN, where a function has a start.
-pub fn emit_start(text: &[u8], row: Row, out: &mut [u8], at: usize, write: bool) -> usize
+fn emit_start(text: &[u8], row: Row, out: &mut [u8], at: usize, write: bool) -> usize
     requires { ⌜ Good (now text) row × Fits (itemOf (now text) row) ⌝ }
     requires { ⌜ RoomFor write (now out) at (printRecords defaultTag (startRecord (itemOf (now text) row))) ⌝ }
     ensures { λ r. ⌜ Emitted write (now (out .entry)) (now (out .exit)) at (printRecords defaultTag (startRecord (itemOf (now (text .entry)) row))) r ⌝ }
@@ -165,38 +166,66 @@ fn past_data(row: Row, at: usize) -> usize
     at
 }
 
+// DA of a line with no checksum, written with no record made.
+fn emit_count(line: u32, count: u64, out: &mut [u8], at: usize) -> usize
+    requires { ⌜ RoomFor true (now out) at (lineIn [] (counted line count)) ⌝ }
+    ensures { λ r. ⌜ Emitted true (now (out .entry)) (now (out .exit)) at (lineIn [] (counted line count)) r ⌝ }
+{
+    let wrote = display::print_count(line, count, &mut out[at..]);
+    let WriteAnswer::Written(n) = wrote else {
+        return at;
+    };
+    at + n
+}
+
 // FNDA, BRDA or DA.
-pub fn emit_data(text: &[u8], row: Row, out: &mut [u8], at: usize, write: bool) -> usize
+fn emit_data(text: &[u8], row: Row, out: &mut [u8], at: usize, write: bool) -> usize
     requires { ⌜ Good (now text) row × Fits (itemOf (now text) row) ⌝ }
     requires { ⌜ RoomFor write (now out) at (printRecords defaultTag (dataRecord (itemOf (now text) row))) ⌝ }
     ensures { λ r. ⌜ Emitted write (now (out .entry)) (now (out .exit)) at (printRecords defaultTag (dataRecord (itemOf (now (text .entry)) row))) r ⌝ }
 {
     if write {
+        if row.tag == items::LINE * 2 {
+            return emit_count(row.k1 as u32, row.count, out, at);
+        }
         return emit_item(text, row, out, at, write);
     }
     past_data(row, at)
 }
 
-// Every FN of the n rows whose numbers stand from word `numbers` on.
-pub fn emit_starts(
+// What one pass prints of a row: FN where `starts`, and FNDA, BRDA or DA in the other.
+fn emit_row(text: &[u8], row: Row, starts: bool, out: &mut [u8], at: usize, write: bool) -> usize
+    requires { ⌜ Good (now text) row × Fits (itemOf (now text) row) ⌝ }
+    requires { ⌜ RoomFor write (now out) at (printRecords defaultTag (passRecords starts (itemOf (now text) row))) ⌝ }
+    ensures { λ r. ⌜ Emitted write (now (out .entry)) (now (out .exit)) at (printRecords defaultTag (passRecords starts (itemOf (now (text .entry)) row))) r ⌝ }
+{
+    if starts {
+        return emit_start(text, row, out, at, write);
+    }
+    emit_data(text, row, out, at, write)
+}
+
+// One pass over the n rows whose numbers stand from word `numbers` on.
+pub fn emit_rows(
     text: &[u8],
     words: &[u64],
     numbers: usize,
     n: usize,
+    starts: bool,
     out: &mut [u8],
     at: usize,
     write: bool,
 ) -> usize
     requires { ⌜ Printable (now text) (now words) numbers n ⌝ }
-    requires { ⌜ RoomFor write (now out) at (printRecords defaultTag (each startRecord (listed (numberedItem (now text) (now words) numbers) n))) ⌝ }
-    ensures { λ r. ⌜ Emitted write (now (out .entry)) (now (out .exit)) at (printRecords defaultTag (each startRecord (listed (numberedItem (now (text .entry)) (now (words .entry)) numbers) n))) r ⌝ }
+    requires { ⌜ RoomFor write (now out) at (printRecords defaultTag (each (passRecords starts) (listed (numberedItem (now text) (now words) numbers) n))) ⌝ }
+    ensures { λ r. ⌜ Emitted write (now (out .entry)) (now (out .exit)) at (printRecords defaultTag (each (passRecords starts) (listed (numberedItem (now (text .entry)) (now (words .entry)) numbers) n))) r ⌝ }
 {
     let mut end = at;
     let mut i = 0;
     while i < n {
         let j = words[numbers + i] as usize;
         let row = store::read_row(words, j);
-        end = emit_start(text, row, out, end, write);
+        end = emit_row(text, row, starts, out, end, write);
         i += 1;
     }
     end
@@ -216,6 +245,21 @@ fn hit_of(row: Row) -> u32
         return 0;
     }
     1
+}
+
+// How many of the n rows are hit whose numbers stand from word `numbers` on.
+fn count_hits(words: &[u64], numbers: usize, n: usize) -> u32
+    requires { ⌜ Numbered (now words) numbers n × (n ≤ u32-max) ⌝ }
+    ensures { λ r. ⌜ ((text : List ℕ) → r ≡ hits (listed (numberedItem text (now (words .entry)) numbers) n)) ⌝ }
+{
+    let mut hit = 0;
+    let mut i = 0;
+    while i < n {
+        let j = words[numbers + i] as usize;
+        hit = hit + hit_of(store::read_row(words, j));
+        i += 1;
+    }
+    hit
 }
 
 // FNF, BRF or LF.
@@ -246,8 +290,22 @@ fn hit_record(kind: u64, n: u32) -> Record
     Record::LinesHit(n)
 }
 
+// How many rows are counted before they are printed.
+const BATCH: usize = 32;
+
+// The next batch of so many rows.
+fn batch_of(left: usize) -> usize
+    ensures { λ r. ⌜ (r ≤ left) × (1 ≤ left → 1 ≤ r) ⌝ }
+{
+    if left < BATCH {
+        return left;
+    }
+    BATCH
+}
+
 // The data of the n rows whose numbers stand from word `numbers` on, how many were found and how many hit: "a loop that carries the hit
-// number". An empty group prints nothing.
+// number". An empty group prints nothing. Rows stand anywhere in the scratch: the hits of some of them are counted first, in a short loop that
+// waits for many rows of memory at once.
 pub fn emit_group(
     text: &[u8],
     words: &[u64],
@@ -270,11 +328,10 @@ pub fn emit_group(
     let mut hit = 0;
     let mut i = 0;
     while i < n {
-        let j = words[numbers + i] as usize;
-        let row = store::read_row(words, j);
-        end = emit_data(text, row, out, end, write);
-        hit = hit + hit_of(row);
-        i += 1;
+        let m = batch_of(n - i);
+        hit = hit + count_hits(words, numbers + i, m);
+        end = emit_rows(text, words, numbers + i, m, false, out, end, write);
+        i += m;
     }
     let found = emit_record(text, found_record(kind, n as u32), out, end, write);
     emit_record(text, hit_record(kind, hit), out, found, write)

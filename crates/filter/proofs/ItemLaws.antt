@@ -26,6 +26,7 @@ use Rattle.items.specs.Items.{itemOf}
 use Rattle.sorting.specs.Sorting.{itemsBy}
 use Rattle.emit.specs.Emit.{Printable}
 use Rattle.emit.proofs.LentLaws.{item}
+use Rattle.emit.proofs.PassLaws.{part-printable}
 use Rattle.filter.specs.declared.Rule.{Rule}
 use Rattle.filter.specs.declared.Rule.the-variants.{Started, Held, UntilNext}
 use Rattle.filter.specs.Keeping.{keeps}
@@ -116,21 +117,13 @@ module _ (text ws : List ℕ) (next n : ℕ) where
 
 module _ {text ws : List ℕ} {at n : ℕ} (π : Printable text ws at n) (some : 0 < n) where
   pub first-inside : word ws at * row-words + row-words ≤ length ws
-  first-inside = let e : at + 0 ≡ at = add-zero at in rw e at (π .inside 0 some)
+  first-inside = let e : at + 0 ≡ at = add-zero at in rw e at (π .numbered .inside 0 some)
 
   pub first-fits : (r : Row) → r ≡ rowAt ws (word ws at) → Fits (itemOf text r)
   first-fits r is = let e : at + 0 ≡ at = add-zero at in rw is (rw e at (π .fits 0 some))
 
   pub next-printable : Printable text ws (at + 1) (n - 1)
-  next-printable = record {
-    words = omega (arith, π .words);
-    inside = λ k h. rw (next k) (π .inside (k + 1) (omega arith));
-    good = λ k h. rw (next k) (π .good (k + 1) (omega arith));
-    fits = λ k h. rw (next k) (π .fits (k + 1) (omega arith));
-  }
-    where
-      next : (k : ℕ) → at + 1 + k ≡ at + (k + 1)
-      next k = omega arith
+  next-printable = part-printable π 1 (n - 1) (omega arith)
 
 -- whether it stays, by each rule
 module _ (ranges : List Range) (ws : List ℕ) (at n : ℕ) (rule : Rule) (row : Row) (is : row ≡ rowAt ws (word ws at)) (t : Bool) where

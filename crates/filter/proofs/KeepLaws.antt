@@ -41,8 +41,10 @@ module _ {ws ws′ : List ℕ} {p : ℕ} (σ : Spared ws ws′ p) where
         → ((k : ℕ) → k < m → (i : ℕ) × (i < n) × (word ws′ (to + k) ≡ word ws (from + i))) → Behind text ws′ to m
     behind-of to m h room of = record {
       printable = record {
-        words = omega (arith, σ .words);
-        inside = λ k l. let (i, a, e) = of k l in rw e (omega (arith, σ .words, β .printable .inside i a));
+        numbered = record {
+          words = omega (arith, σ .words);
+          inside = λ k l. let (i, a, e) = of k l in rw e (omega (arith, σ .words, β .printable .numbered .inside i a));
+        };
         good = λ k l. let (i, a, e) = of k l in rw (e, row-of i a) (β .printable .good i a);
         fits = λ k l. let (i, a, e) = of k l in rw (e, row-of i a) (β .printable .fits i a);
       };
@@ -114,11 +116,11 @@ module _ {rule : Rule} {ranges : List Range} {ws₀ ws : List ℕ} {numbers n i 
     -- those not looked at yet, and those that stay
     pub left-rows : i ≤ n → Behind text ws (numbers + i) (n - i)
     left-rows h =
-        behind-of (κ .spared) β (omega arith) (numbers + i) (n - i) (omega arith) (omega (arith, β .printable .words))
+        behind-of (κ .spared) β (omega arith) (numbers + i) (n - i) (omega arith) (omega (arith, β .printable .numbered .words))
         (λ k l. let e : numbers + i + k ≡ numbers + (i + k) = omega arith in (i + k, omega arith, rw e (κ .rest (i + k) (omega arith) (omega arith))))
 
     kept-rows : Behind text ws numbers r
-    kept-rows = behind-of (κ .spared) β (omega arith) numbers r (omega arith) (omega (arith, κ .places, β .printable .words)) (κ .each)
+    kept-rows = behind-of (κ .spared) β (omega arith) numbers r (omega arith) (omega (arith, κ .places, β .printable .numbered .words)) (κ .each)
 
   module _ (more : i < n) where
     module _ (text : Bytes) (β : Behind text ws₀ numbers n) where

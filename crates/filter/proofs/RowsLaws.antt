@@ -95,7 +95,7 @@ index-behind {index = index} τ from end l h = record {
 holding-kept : {text ws ws′ : List ℕ} {numbers n p : ℕ} {items : List Item} → Spared ws ws′ p → numbers + n ≤ p → Holding text ws numbers n items
     → Holding text ws′ numbers n items
 holding-kept {text} {ws} {ws′} {numbers} {n} σ h η = record {
-  rows = behind-of σ (η .rows) (omega arith) numbers n (omega arith) (η .rows .printable .words) (λ k l. (k, l, σ .kept (numbers + k) (omega arith)));
+  rows = behind-of σ (η .rows) (omega arith) numbers n (omega arith) (η .rows .printable .numbered .words) (λ k l. (k, l, σ .kept (numbers + k) (omega arith)));
   are =
       items-of σ (η .rows) (omega arith) numbers n 0 (omega arith)
       (λ k l. σ .kept (numbers + k) (omega arith) ∙ ap (λ (j : ℕ). word ws (numbers + j)) (let z : k ≡ 0 + k = omega arith in z))

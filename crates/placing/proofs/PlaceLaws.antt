@@ -2,10 +2,13 @@
 use Prim.Native.Nat.{ℕ, _+_, _-_, _≤_, _<_, compare, Ordering, Ordering·lt, Ordering·eq, Ordering·gt}
 use native.Mathlib.Omega.{arith}
 use mathlib.Core.Path.{_≡_, refl, sym, ap, _∙_}
+use mathlib.Core.Logic.{_≢_}
 use mathlib.Core.Bool.{true, false}
 use mathlib.Core.List.{List}
-use lib.Dec.{isEq, ltb}
+use lib.Dec.{isEq, eqb, leb, ltb}
+use borrow.Author.Tests.{leb-true, lt-ltb, le-ltb, eq-eqb, ne-eqb}
 use Rattle.store.specs.declared.Row.{Row}
+use Rattle.store.specs.Store.{row}
 use Rattle.store.specs.Places.{Cut, Halved}
 use Rattle.store.proofs.PlaceLaws.{by-eq}
 use Rattle.store.proofs.Halving.{Falling, by-test, halved-done}
@@ -22,7 +25,7 @@ use Rattle.items.proofs.CompareLaws.{lines, lines-before}
 use Rattle.items.proofs.SearchLaws.{is-lt, sorted-at}
 use Rattle.closing.specs.Sections.{entryOf, entryAt, keyOf, Whole}
 use Rattle.placing.specs.Naming.{LinesOfOne}
-use Rattle.placing.specs.Placing.{Ranked, compareEntries, Before, Passed, Spanned, Seated}
+use Rattle.placing.specs.Placing.{Ranked, compareEntries, Before, Between, Passed, Spanned, Seated}
 use Rattle.placing.proofs.NameLaws.{same-key}
 
 -- ---- entries compared
@@ -50,6 +53,9 @@ module _ {text : Bytes} {x y : Row} (wx : Whole text x) (wy : Whole text y) (bot
   pub by-lines : (o : Ordering) → o ≡ compare (x .k1) (y .k1) → o ≡ compareEntries (entryOf text x) (entryOf text y)
   by-lines o e =
       of-one o (lines text x y (wx .good) (wy .good) (omega (arith, both .left, both .right)) (omega (arith, both .left, both .right)) (both .left) o e)
+
+  pub same-lines : eqb (x .k1) (y .k1) ≡ isEq (compareEntries (entryOf text x) (entryOf text y))
+  same-lines = ap isEq (by-lines _ refl)
 
   pub less-lines : ltb (x .k1) (y .k1) ≡ isLess (compareEntries (entryOf text x) (entryOf text y))
   less-lines = lines-before text x y (wx .good) (wy .good) (both .left) (both .right) ∙ ap isLess (of-one _ refl)
@@ -127,3 +133,38 @@ module _ (text ws : List ℕ) (index n i : ℕ) (key : Row) (κ : Cut (Before te
       go Ordering·lt p n = p
       go Ordering·eq p n = cc
       go Ordering·gt p n = let z : true ≡ false = sym (ap isLess (keys-order .less p)) ∙ κ .rest i (omega arith) h in impossible cc
+
+-- ---- a line between two
+
+-- what was read of the rows tells it
+pub between : {ws : List ℕ} {index at : ℕ} {key before here : Row} → before ≡ row ws index (at - 1) → here ≡ row ws index at
+    → LinesOfOne before key → LinesOfOne here key → before .k1 < key .k1 → leb (key .k1) (here .k1) ≡ true → Between ws index key at
+between {key = key} {here = r} e f b h l m = record { before = rw e at b; here = rw f at h; past = rw e at l; upTo = rw f at (leb-true (key .k1) (r .k1) m) }
+
+turned : {x y : Row} → LinesOfOne x y → LinesOfOne y x
+turned λ′ = record {
+  left = λ′ .right;
+  right = λ′ .left;
+  names = record {
+    test = sym (λ′ .names .test);
+    test-len = sym (λ′ .names .test-len);
+    path = sym (λ′ .names .path);
+    path-len = sym (λ′ .names .path-len);
+  };
+}
+
+module _ {text ws : List ℕ} {index used n : ℕ} (key : Row) (whole : Whole text key) (ρ : Ranked text ws index used n) (at : ℕ) (h : 0 < at) (l : at < n)
+    (β : Between ws index key at) where
+  between-cut : Cut (Before text ws index key) n at
+  between-cut = cut-here key ρ at h l
+      (sym (less-lines (ρ .whole at l) whole (β .here)) ∙ le-ltb _ _ (β .upTo))
+      (sym (less-lines (ρ .whole (at - 1) (omega arith)) whole (β .before)) ∙ lt-ltb _ _ (β .past))
+
+  stands : eqb (key .k1) (row ws index at .k1) ≡ isEq (compareEntries (entryOf text key) (entryAt text ws index at))
+  stands = same-lines whole (ρ .whole at l) (turned (β .here))
+
+  pub between-known : {here : Row} → here ≡ row ws index at → key .k1 ≡ here .k1 → Seated text ws index n key (At at)
+  between-known e q = seat-known text ws index n at key between-cut l (sym stands ∙ eq-eqb _ _ (rw e at q))
+
+  pub between-gap : {here : Row} → here ≡ row ws index at → key .k1 ≢ here .k1 → Seated text ws index n key (Insert at)
+  between-gap e q = seat-gap text ws index n at key between-cut l (sym stands ∙ ne-eqb _ _ (rw e at q))

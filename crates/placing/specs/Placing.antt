@@ -1,5 +1,5 @@
 -- Entries in ascending order, and the place of a key among them. Assumes nothing.
-use Prim.Native.Nat.{ℕ, _≤_, _<_, Ordering, Ordering·lt, Ordering·eq}
+use Prim.Native.Nat.{ℕ, _-_, _≤_, _<_, Ordering, Ordering·lt, Ordering·eq}
 use mathlib.Core.Path.{_≡_}
 use mathlib.Core.Bool.{Bool, true, false}
 use mathlib.Core.List.{List}
@@ -12,6 +12,7 @@ use Rattle.model.specs.Report.{Entry, entryKey, compareKeys}
 use Rattle.items.specs.declared.Found.{Found}
 use Rattle.items.specs.declared.Found.the-variants.{At, Insert}
 use Rattle.closing.specs.Sections.{entryOf, entryAt, entriesAt, Whole}
+use Rattle.placing.specs.Naming.{LinesOfOne}
 
 -- the first n of the used rows are entries, in ascending order of their keys
 pub record Ranked (text ws : List ℕ) (index used n : ℕ) : Type 0 where
@@ -30,6 +31,13 @@ Before text ws index key k = isLess (compareEntries (entryAt text ws index k) (e
 -- the entries before a place come before the row's
 abbrev pub Passed : Bytes → List ℕ → ℕ → Row → ℕ → Type 0
 Passed text ws index key from = (k : ℕ) → k < from → compareEntries (entryAt text ws index k) (entryOf text key) ≡ Ordering·lt
+
+-- the entries at a place and before it are lines of the row's section, and so is the row, between them or at the second
+pub record Between (ws : List ℕ) (index : ℕ) (key : Row) (at : ℕ) : Type 0 where
+  pub before : LinesOfOne (row ws index (at - 1)) key
+  pub here : LinesOfOne (row ws index at) key
+  pub past : row ws index (at - 1) .k1 < key .k1
+  pub upTo : key .k1 ≤ row ws index at .k1
 
 -- of the n places, a test holds before lo, and not at hi
 pub record Spanned (test : ℕ → Bool) (n lo hi : ℕ) : Type 0 where

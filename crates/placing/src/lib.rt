@@ -10,10 +10,11 @@ ghost use mathlib.Core.Bool.{true};
 ghost use Prim.Native.Nat.{_≤_, _<_};
 ghost use Rattle.model.specs.Report.{entryKey, compareKeys};
 ghost use Rattle.order.specs.Orders.{orderOf};
+ghost use Rattle.store.specs.Store.{Store};
 ghost use Rattle.store.specs.Places.{Cut};
 ghost use Rattle.closing.specs.Sections.{entryOf, Whole};
 ghost use Rattle.placing.specs.Naming.{LinesOfOne};
-ghost use Rattle.placing.specs.Placing.{Ranked, Before, Passed, Spanned, Seated};
+ghost use Rattle.placing.specs.Placing.{Ranked, Before, Between, Passed, Spanned, Seated};
 
 // By section, then by item.
 fn compare_rows(text: &[u8], x: Row, y: Row) -> Order
@@ -198,6 +199,24 @@ fn find_from(
     find_later(text, words, index, used, n, from + 1, key)
 }
 
+// Whether the entries at `at` and before it are lines of the key's section between which the key is, or at the second. Most keys of texts that
+// interleave are: this is told by a few words of both rows, and no call takes the key through memory.
+fn is_between(words: &[u64], index: usize, used: usize, at: usize, key: Row) -> bool
+    requires { ⌜ Store (now words) index used × (0 < at) × (at < used) ⌝ }
+    ensures { λ r. ⌜ (r ≡ true → Between (now (words .entry)) index key at) ⌝ }
+{
+    let before = store::get(words, index, used, at - 1);
+    let here = store::get(words, index, used, at);
+    if lines_of_one(before, key) {
+        if lines_of_one(here, key) {
+            if before.k1 < key.k1 {
+                return key.k1 <= here.k1;
+            }
+        }
+    }
+    false
+}
+
 // The same, where the key's place is likely to be `at`.
 fn find_near(
     text: &[u8],
@@ -213,6 +232,13 @@ fn find_near(
     requires { ⌜ (from < at) × (at < n) ⌝ }
     ensures { λ r. ⌜ Seated (now (text .entry)) (now (words .entry)) index n key r ⌝ }
 {
+    if is_between(words, index, used, at, key) {
+        let here = store::get(words, index, used, at);
+        if key.k1 == here.k1 {
+            return Found::At(at);
+        }
+        return Found::Insert(at);
+    }
     if stands_before(text, words, index, used, n, at, key) {
         return find_later(text, words, index, used, n, at + 1, key);
     }

@@ -88,10 +88,10 @@ record Fine (text ws : List ℕ) (j : ℕ) : Type 0 where
   fits : Fits (itemOf text (rowAt ws j))
 
 printable : {text ws : List ℕ} {numbers n : ℕ} → numbers + n ≤ length ws → ((k : ℕ) → k < n → Fine text ws (word ws (numbers + k))) → Printable text ws numbers n
-printable h f = record { words = h; inside = λ k l. f k l .inside; good = λ k l. f k l .good; fits = λ k l. f k l .fits }
+printable h f = record { numbered = record { words = h; inside = λ k l. f k l .inside }; good = λ k l. f k l .good; fits = λ k l. f k l .fits }
 
 fine-in : {text ws : List ℕ} {numbers n : ℕ} → Printable text ws numbers n → (k : ℕ) → k < n → Fine text ws (word ws (numbers + k))
-fine-in π k h = record { inside = π .inside k h; good = π .good k h; fits = π .fits k h }
+fine-in π k h = record { inside = π .numbered .inside k h; good = π .good k h; fits = π .fits k h }
 
 module _ {text ws : List ℕ} {index used n : ℕ} (τ : Table text ws index used n) where
   fine : (i : ℕ) → i < n → Fine text ws (number ws index i)

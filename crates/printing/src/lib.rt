@@ -75,7 +75,7 @@ pub fn print_numbered(
     requires { ⌜ RoomFor write (now out) at (functionLines (itemsBy (now text) (now words) numbers n)) ⌝ }
     ensures { λ r. ⌜ Emitted write (now (out .entry)) (now (out .exit)) at (functionLines (itemsBy (now (text .entry)) (now (words .entry)) numbers n)) r ⌝ }
 {
-    let end = emit::emit_starts(text, words, numbers, n, out, at, write);
+    let end = emit::emit_rows(text, words, numbers, n, true, out, at, write);
     emit::emit_group(text, words, items::FUNCTION, numbers, n, out, end, write)
 }
 

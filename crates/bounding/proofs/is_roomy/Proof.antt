@@ -1,15 +1,16 @@
 -- `bounding::is_roomy` meets its contract: what the rows so far come to has been taken off the room. Assumes nothing.
 use Prim.Native.Nat.{_-_, _≤_}
+use native.Mathlib.Omega.{arith}
 use borrow.Author.Needs.{needs}
 use Rattle.bounding.proofs.RowLaws.{Leaving, leaving-start, leaving-next, leaving-end}
 use Rattle.bounding.proofs.is_roomy.Statement.{statement}
 use Rattle.bounding.proofs.is_roomy.Tie as tie
 
 abbrev Inv-loop : tie.InvT-loop
-Inv-loop words index used n room left₀ i₀ left i = (i ≤ n) × Leaving words index room i left
+Inv-loop words index used n room left₀ j₀ left j = (j ≤ used) × Leaving words room j left
 
 abbrev μ-loop : tie.MeasureT-loop
-μ-loop words index used n room left₀ i₀ left i = n - i
+μ-loop words index used n room left₀ j₀ left j = used - j
 
 pub is-roomy-spec : {M : Type 1} → statement M
 is-roomy-spec =
@@ -18,7 +19,7 @@ is-roomy-spec =
     Inv-loop
     μ-loop
     (λ c. search (leaving-start, needs))
-    (λ c κs. search needs)
+    (λ c κs. let s = c .before .before .before in omega (arith, c .loop-test .taken, s .pre .0 .rows-end, s .pre .0 .index-end))
     (λ c κs. search needs)
     (λ c. search needs)
     (λ c. search needs)

@@ -1,20 +1,18 @@
 -- `emit::emit_group` meets its contract. Assumes nothing.
-use mathlib.Core.Path.{_≡_, ap, _∙_}
+use mathlib.Core.Path.{_≡_, sym, ap, _∙_}
 use mathlib.Core.List.{[], _∷_}
-use Prim.Native.Nat.{ℕ, _-_, _*_, _^_, _≤_, _<_}
+use Prim.Native.Nat.{ℕ, _+_, _-_, _*_, _^_, _≤_, _<_}
 use native.Mathlib.Omega.{arith}
 use lib.ListN.{length}
 use borrow.Author.Needs.{needs}
 use denote.Ref.{now}
-use Rattle.store.specs.declared.Row.{Row}
 use Rattle.store.specs.Places.{listed}
 use Rattle.model.specs.Bytes.{Bytes}
 use Rattle.model.specs.Record.{Record}
 use Rattle.model.specs.Report.{Item}
 use Rattle.model.specs.Printing.{dataRecord, group, hits}
-use Rattle.items.specs.Items.{itemOf}
 use Rattle.display.specs.Lines.{lineIn}
-use Rattle.emit.specs.Emit.{RoomFor, Emitted, numberedItem, foundOf, hitOf, hitOne}
+use Rattle.emit.specs.Emit.{RoomFor, Emitted, numberedItem, foundOf, hitOf}
 use Rattle.emit.proofs.EmitLaws.{emitted-empty, emitted-size, emitted-as, room-as}
 use Rattle.emit.proofs.LentLaws.{one-line}
 use Rattle.emit.proofs.PassLaws.{
@@ -28,11 +26,15 @@ use Rattle.emit.proofs.PassLaws.{
   rows-size,
   rows-more,
   rows-emitted,
-  row-ready,
-  row-emitted,
+  part-items,
+  part-numbered,
+  part-printable,
+  part-ready,
+  part-emitted,
   hits-start,
-  hits-next,
+  hits-more,
   hits-done,
+  hits-most,
   hits-fit,
   group-none,
   group-is,
@@ -71,6 +73,22 @@ rows : (l : tie.At-loop Inv-loop μ-loop) → let s = start l in
 rows l =
     let s = start l in
     record { rows = s .pre .0; is = group-is (foundOf (s .args .kind)) (hitOf (s .args .kind)) (item s) (s .args .n) (omega arith); room = s .pre .1 .1; few = omega arith }
+
+-- ---- a batch
+
+abbrev batched : tie.After-batch-of Inv-loop μ-loop → tie.At-loop Inv-loop μ-loop
+batched b = b .before .before
+
+within : (b : tie.After-batch-of Inv-loop μ-loop) → batched b .loop .i + b .batch-of .result ≤ start (batched b) .args .n
+within b = omega (arith, b .batch-of .ensures .0, b .before .loop-test .taken)
+
+-- how many of the batch are hit
+hit-there : (h : tie.After-count-hits Inv-loop μ-loop) → let b = h .before in
+    h .count-hits .result ≡ hits (listed (λ k. item (start (batched b)) (batched b .loop .i + k)) (b .batch-of .result))
+hit-there h =
+    let b = h .before in
+    let a = start (batched b) .args in
+    h .count-hits .ensures (now (a .text)) ∙ ap hits (sym (part-items (now (a .text)) (now (a .words)) (a .numbers) (batched b .loop .i) (b .batch-of .result)))
 
 -- ---- behind the rows
 
@@ -123,26 +141,30 @@ emit-group-spec =
     (λ c. let s = c .before .before .before .before in
     (omega arith, hits-start (item s), emitted-empty (s .args .write) (now (s .args .out)) _ (s .args .at) (omega arith) (printed-start dataRecord (item s))))
     (λ c. omega arith)
-    (λ c. omega arith)
-    (λ c. omega arith)
-    (λ c κs. let l = c .before .before in start l .pre .0 .inside (l .loop .i) (c .before .loop-test .taken))
-    (λ c κs. let r = c .before in
-    let b = r .before .before in
-    let l = b .before in
-    row-ready (rows l) _ _ (l .loop .i) (l .loop .inv .2) (b .loop-test .taken) (r .read-row .result) (r .read-row .ensures))
     (λ c κs. search needs)
-    (λ c. let b = c .before .before .before .before .before .before .before in
-    let l = b .before in
-    hits-fit (item (start l)) (l .loop .i) (start l .args .n) (l .loop .hit) (c .hit-of .result) (l .loop .inv .1) (c .hit-of .ensures .1) (b .loop-test .taken) (start l .pre .1 .0 .2))
-    (λ c. omega arith)
-    (λ c. omega arith)
-    (λ c. let r = c .before .before .before .before .before in
-    let b = r .before .before in
-    let l = b .before in
-    let t = now (start l .args .text) in (
-      omega arith,
-      hits-next (item (start l)) (l .loop .i) (l .loop .hit) (c .hit-of .result) (l .loop .inv .1) (c .hit-of .ensures .0 t ∙ ap (λ (row : Row). hitOne (itemOf t row)) (r .read-row .ensures)),
-      row-emitted (rows l) _ _ (l .loop .i) (l .loop .inv .2) (b .loop-test .taken) (r .read-row .result) (r .read-row .ensures) (c .before .before .before .emit-data .ensures),
+    (λ c. omega (arith, start (batched c) .pre .0 .numbered .words, c .before .loop-test .taken))
+    (λ c κs. let l = batched c in (part-numbered (start l .pre .0 .numbered) (l .loop .i) (c .batch-of .result) (within c), omega (arith, within c, start l .pre .1 .0 .2)))
+    (λ c. let b = c .before in
+    let l = batched b in
+    let s = start l in
+    hits-fit (item s) (l .loop .i) (b .batch-of .result) (s .args .n) (l .loop .hit) (c .count-hits .result) (l .loop .inv .1)
+    (rw (hit-there c) (hits-most (λ k. item s (l .loop .i + k)) (b .batch-of .result))) (within b) (s .pre .1 .0 .2))
+    (λ c. let b = c .before in omega (arith, start (batched b) .pre .0 .numbered .words, b .before .loop-test .taken))
+    (λ c κs. let b = c .before .before in
+    let l = batched b in (
+      part-printable (start l .pre .0) (l .loop .i) (b .batch-of .result) (within b),
+      part-ready (rows l) _ _ (l .loop .i) (l .loop .inv .2) (b .batch-of .result) (within b),
+    ))
+    (λ c. omega (arith, within (c .before .before .before .before .before)))
+    (λ c. let b = c .before .before .before .before .before in
+    omega (arith, within b, b .batch-of .ensures .1 (omega (arith, b .before .loop-test .taken)), b .before .loop-test .taken))
+    (λ c. let e = c .before .before in
+    let h = e .before .before in
+    let b = h .before in
+    let l = batched b in (
+      within b,
+      hits-more (item (start l)) (l .loop .i) (b .batch-of .result) (l .loop .hit) (h .count-hits .result) (l .loop .inv .1) (hit-there h),
+      part-emitted (rows l) _ _ (l .loop .i) (l .loop .inv .2) (b .batch-of .result) (within b) (e .emit-rows .ensures),
     ))
     (λ c. omega arith)
     (λ c κs. omega arith)

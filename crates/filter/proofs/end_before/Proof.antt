@@ -15,7 +15,7 @@ end-before-spec =
     (tie.spec
     (λ c. let s = c .before .before .args in λ text. end-last text (now (s .words)) (s .next) (s .n) (c .if1 .taken))
     (λ c. search needs)
-    (λ c. omega (arith, c .before .before .before .pre .1 .words))
+    (λ c. omega (arith, c .before .before .before .pre .1 .numbered .words))
     (λ c κs. first-inside (c .before .before .before .pre .1) (omega arith))
     (λ c κs. let s = start c in (s .pre .0, first-fits (s .pre .1) (omega arith) (c .read-row .result) (c .read-row .ensures)))
     (λ c. let r = c .before .before in

@@ -23,7 +23,7 @@ turn c = c .before .before .before .before .before
 -- the numbers are in the words, and what stays is not past what is looked at
 abbrev places : (l : tie.At-loop Inv-loop μ-loop) → let a = start l .args in
     (a .numbers + a .n ≤ length (l .loop .words)) × (l .loop .kept ≤ l .loop .i)
-places l = (omega (arith, start l .pre .0 .1 .printable .words, l .loop .inv .spared .words), l .loop .inv .places .0)
+places l = (omega (arith, start l .pre .0 .1 .printable .numbered .words, l .loop .inv .spared .words), l .loop .inv .places .0)
 
 pub keep-spec : {M : Type 1} → statement M
 keep-spec =
@@ -47,7 +47,7 @@ keep-spec =
     (λ c. omega arith)
     (λ c. omega arith)
     (λ c. let l = turn c in
-    keep-kept (l .loop .inv) (omega arith) (start l .pre .0 .1 .printable .words) _ (c .before .before .stays .ensures) (c .before .if1 .taken))
+    keep-kept (l .loop .inv) (omega arith) (start l .pre .0 .1 .printable .numbered .words) _ (c .before .before .stays .ensures) (c .before .if1 .taken))
     (λ c. omega arith)
     (λ c. omega arith)
     (λ c. let l = c .before .before .before .before in

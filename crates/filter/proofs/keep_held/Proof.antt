@@ -18,7 +18,7 @@ pub keep-held-spec : {M : Type 1} → statement M
 keep-held-spec =
     tie.close
     (tie.spec
-    (λ c κs. let s = c .before .before in (omega (arith, s .pre .0 .1 .printable .words), s .pre .1 .1, inr (s .pre .1 .0)))
+    (λ c κs. let s = c .before .before in (omega (arith, s .pre .0 .1 .printable .numbered .words), s .pre .1 .1, inr (s .pre .1 .0)))
     (λ c κs. let m = c .before .before .before in
     let s = start m in
     ((s .pre .0 .0, moved-rows (m .move-down .ensures) (m .move-down .kept .0) (s .pre .1 .0) (s .pre .1 .1) (s .pre .0 .1)), s .pre .1 .2))

@@ -26,8 +26,8 @@ pub print-kept-spec : {M : Type 1} → statement M
 print-kept-spec =
     tie.close
     (tie.spec
-    (λ c. let s = c .before .before .before in omega (arith, s .pre .0 .branches .words))
-    (λ c. let s = c .before .before .before in omega (arith, s .pre .0 .lines .words))
+    (λ c. let s = c .before .before .before in omega (arith, s .pre .0 .branches .numbered .words))
+    (λ c. let s = c .before .before .before in omega (arith, s .pre .0 .lines .numbered .words))
     (λ c κs. let s = c .before .before .before .before in (
       (s .pre .0 .named .test, s .pre .0 .named .path),
       head-room (begun (c .before)),

@@ -21,7 +21,7 @@ stays-spec =
     tie.close
     (tie.spec
     (λ c. search needs)
-    (λ c. let s = c .before .before in omega (arith, s .pre .0 .1 .words, s .pre .1 .0))
+    (λ c. let s = c .before .before in omega (arith, s .pre .0 .1 .numbered .words, s .pre .1 .0))
     (λ c κs. let s = c .before .before in first-inside (s .pre .0 .1) (s .pre .1 .0))
     (λ c. search needs)
     (λ c κs. search needs)
@@ -31,7 +31,7 @@ stays-spec =
     (s .pre .0 .0, first-fits (s .pre .0 .1) (s .pre .1 .0) (r .read-row .result) (r .read-row .ensures)))
     (λ c κs. search needs)
     (λ c. search needs)
-    (λ c. let s = start (c .before .before) in omega (arith, s .pre .0 .1 .words, s .pre .1 .0))
+    (λ c. let s = start (c .before .before) in omega (arith, s .pre .0 .1 .numbered .words, s .pre .1 .0))
     (λ c. let s = start (c .before .before) in s .pre .1 .0)
     (λ c κs. let s = start (c .before .before) in (s .pre .0 .0, next-printable (s .pre .0 .1) (s .pre .1 .0)))
     (λ c κs. let r = c .before .before .before in

@@ -30,7 +30,7 @@ print-functions-spec =
       sorted-done _ _ _ _ _ (f .sort-functions .ensures) (c .before .before .print-numbered .ensures),
       order-spared (s .pre .0) (f .sort-functions .ensures) (f .sort-functions .kept .1 .0),
     ))
-    (λ c. omega (arith, unsorted (c .before) .pre .0 .rows .words))
+    (λ c. omega (arith, unsorted (c .before) .pre .0 .rows .numbered .words))
     (λ c κs. let e = c .before .before in
     let s = unsorted e in (
       (s .pre .0 .rows, s .pre .0 .few),

@@ -27,7 +27,7 @@ print-groups-spec =
     tie.close
     (tie.spec
     (λ c. c .before .before .before .pre .0 .order .0)
-    (λ c. omega (arith, c .before .before .before .pre .0 .branches .words))
+    (λ c. omega (arith, c .before .before .before .pre .0 .branches .numbered .words))
     (λ c κs. let s = c .before .before .before .before in (
       s .pre .0 .branches,
       (
@@ -36,7 +36,7 @@ print-groups-spec =
       ),
     ))
     (λ c. start (c .before .before .before) .pre .0 .order .1)
-    (λ c. omega (arith, start (c .before .before .before) .pre .0 .lines .words))
+    (λ c. omega (arith, start (c .before .before .before) .pre .0 .lines .numbered .words))
     (λ c κs. let b = c .before .before .before .before in
     let s = start b in (
       s .pre .0 .lines,

@@ -32,8 +32,8 @@ print-numbered-spec =
     (λ c κs. let s = c .before .before .before .before in (s .pre .0 .0, room-first (s .args .write) (now (s .args .out)) (s .args .at) (starts s) (others s) (s .pre .1)))
     (λ c κs. let s = c .before .before .before .before .before .before .before .before in
     let few : length (now (s .args .out)) * 1 < 2 ^ 63 = omega arith in
-    (s .pre .0 .0, (omega arith, room-then (s .args .write) (now (s .args .out)) (s .args .at) (starts s) (others s) (s .pre .1) few (c .before .before .before .emit-starts .ensures))))
+    (s .pre .0 .0, (omega arith, room-then (s .args .write) (now (s .args .out)) (s .args .at) (starts s) (others s) (s .pre .1) few (c .before .before .before .emit-rows .ensures))))
     (λ c. search needs)
     (λ c. let s = c .before .before .before .before .before .before .before .before .before .before .before in
     let few : length (now (s .args .out)) * 1 < 2 ^ 63 = omega arith in
-    emitted-both (s .args .write) (now (s .args .out)) (s .args .at) (starts s) (others s) (s .pre .1) few (c .before .before .before .before .before .before .emit-starts .ensures) (c .before .before .emit-group .ensures)))
+    emitted-both (s .args .write) (now (s .args .out)) (s .args .at) (starts s) (others s) (s .pre .1) few (c .before .before .before .before .before .before .emit-rows .ensures) (c .before .before .emit-group .ensures)))
