@@ -15,7 +15,8 @@ use Rattle.closing.specs.Sections.{testOf, pathOf, entryOf, keyOf, Named
 use Rattle.closing.specs.Closing.{withSection, Spliced}
 use Rattle.closing.proofs.RunLaws.{run-before, run-in, run-behind, run-ends}
 use Rattle.closing.proofs.OwnLaws.{item-kept, runAt, own-place, OwnAs}
-use Rattle.closing.proofs.ReplaceLaws.{all-listed, Compared, replaced, keep-some}
+use Rattle.items.proofs.AllLaws.{all-listed}
+use Rattle.closing.proofs.ReplaceLaws.{Compared, replaced, keep-some}
 use Rattle.closing.proofs.SpliceLaws.{spliced-each, spliced-keys, spliced-places, spliced-same, spliced-ordered}
 
 -- ---- the entries as three parts, by a key

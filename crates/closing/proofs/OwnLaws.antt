@@ -15,7 +15,7 @@ use Rattle.model.specs.Path.{Path, components}
 use Rattle.model.specs.Report.{Item, sectionItem, functionItem, branchItem, lineItem, Entry, Report, SectionKey, inSection}
 use Rattle.model.specs.Reading.{spellingOf}
 use Rattle.model.proofs.KeyOrder.{sections-order}
-use Rattle.items.specs.Items.{kindOf, byKind, itemOf, Good}
+use Rattle.items.specs.Items.{kindOf, dead-tag, byKind, itemOf, Good}
 use Rattle.closing.specs.Sections.{testOf, pathOf, entryOf, keyOf, Named, Whole, Ordered, IsRun}
 use Rattle.closing.specs.Closing.{withSection, Filled, withPath, Own}
 use Rattle.closing.proofs.RunLaws.{run-in}
@@ -158,14 +158,14 @@ module _ {text : Bytes} {f : ℕ → Row} {n lo hi : ℕ} {key : Row} (σ : Orde
       paths = ap (λ (k : SectionKey). k .1) (sections-order .equal (run-in ρ lo (omega arith) l))
 
   -- spelled as entries say that begin with the first of the rows from lo up to hi, or that are none where there is none or that one is dead
-  pub own-as : {r : Row} (es : Report) → (lo < hi → f lo .tag ≢ 1 → (l : Report) × (es ≡ entryOf text (f lo) ∷ l)) → (lo < hi → f lo .tag ≡ 1 → es ≡ [])
+  pub own-as : {r : Row} (es : Report) → (lo < hi → f lo .tag ≢ dead-tag → (l : Report) × (es ≡ entryOf text (f lo) ∷ l)) → (lo < hi → f lo .tag ≡ dead-tag → es ≡ [])
       → (hi ≤ lo → es ≡ []) → Own (f lo) lo hi key r → OwnAs text key (spellingOf (pathOf text key) es) r
   unfolding spellingOf
   own-as es living dead none ω =
       by-lt lo hi
       (λ l. by-eq (f lo .tag) 0
       (λ e. rw (ω .spelled l e) (spelled (living l (omega arith)) l e))
-      (λ e. rw (ω .other l e) (by-eq (f lo .tag) 1
+      (λ e. rw (ω .other l e) (by-eq (f lo .tag) dead-tag
       (λ d. key-entry (ap (spellingOf (pathOf text key)) (dead l d)))
       (λ d. not-spelled (living l d) (omega arith)))))
       (λ h. rw (ω .new h) (key-entry (ap (spellingOf (pathOf text key)) (none h))))
@@ -177,7 +177,7 @@ module _ {text : Bytes} {f : ℕ → Row} {n lo hi : ℕ} {key : Row} (σ : Orde
       not-spelled (l, e) h = key-entry (ap (spellingOf (pathOf text key)) e ∙ not-spelled-by (pathOf text key) text (f lo) l h)
 
   -- where all rows live
-  pub own-entry : {r : Row} → (lo < hi → f lo .tag ≢ 1) → Own (f lo) lo hi key r → OwnAs text key (spellingOf (pathOf text key) (runAt text f lo hi)) r
+  pub own-entry : {r : Row} → (lo < hi → f lo .tag ≢ dead-tag) → Own (f lo) lo hi key r → OwnAs text key (spellingOf (pathOf text key) (runAt text f lo hi)) r
   unfolding listed
   own-entry living ω =
       own-as (runAt text f lo hi) (λ l d. (listed (λ k. entryOf text (f (lo + suc k))) (hi - suc lo), run-cons text f lo hi l)) (λ l d. absurd (living l d))

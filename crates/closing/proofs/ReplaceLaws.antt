@@ -16,11 +16,6 @@ use Rattle.model.specs.Report.{Item, sectionItem, Entry, Report, SectionKey, se
 use Rattle.model.specs.Reading.{spellingOf, replaceSection, keepSection}
 use Rattle.model.proofs.ListLaws.{All, select-append}
 
-pub all-listed : {A : Type 0} (P : A → Type 0) (f : ℕ → A) (n : ℕ) → ((k : ℕ) → k < n → P (f k)) → All P (listed f n)
-unfolding listed
-all-listed P f zero h = tt
-all-listed P f (suc n) h = (h 0 (omega arith), all-listed P (λ k. f (suc k)) n (λ k l. h (suc k) (omega arith)))
-
 module _ (key : SectionKey) where
   -- the entries with which the key compares as o
   abbrev pub Compared : Ordering → Report → Type 0

@@ -14,19 +14,21 @@ use Rattle.model.proofs.ListLaws.{All, select-all, select-none, select-length, 
 use Rattle.store.specs.declared.Row.{Row}
 use Rattle.store.specs.Places.{listed}
 use Rattle.store.proofs.ListedLaws.{length-listed, listed-cong, listed-split}
+use Rattle.items.specs.Items.{dead-tag}
+use Rattle.items.proofs.AllLaws.{all-listed}
 use Rattle.dropping.specs.Alive.{alive, deadRow, aliveOf}
 
 -- ---- what a tag says
 
 module _ (r : Row) where
-  pub tag-alive : r .tag ≢ 1 → alive r ≡ true
-  tag-alive h = ap not (ne-eqb (r .tag) 1 h)
+  pub tag-alive : r .tag ≢ dead-tag → alive r ≡ true
+  tag-alive h = ap not (ne-eqb (r .tag) dead-tag h)
 
-  pub tag-dead : r .tag ≡ 1 → alive r ≡ false
-  tag-dead e = ap not (eq-eqb (r .tag) 1 e)
+  pub tag-dead : r .tag ≡ dead-tag → alive r ≡ false
+  tag-dead e = ap not (eq-eqb (r .tag) dead-tag e)
 
-  pub dead-tagged : alive r ≡ false → r .tag ≡ 1
-  dead-tagged e = eqb-true (r .tag) 1 (not-false (eqb (r .tag) 1) e)
+  pub dead-tagged : alive r ≡ false → r .tag ≡ dead-tag
+  dead-tagged e = eqb-true (r .tag) dead-tag (not-false (eqb (r .tag) dead-tag) e)
 
   -- a dead row stays the same when it is made dead
   pub dead-again : alive r ≡ false → deadRow r ≡ r
@@ -58,11 +60,6 @@ pub alive-three : (f : ℕ → Row) (a b c : ℕ)
 alive-three f a b c = alive-split f a (b + c) ∙ ap (λ (t : List Row). aliveOf f a ++ t) (alive-split (λ k. f (a + k)) b c)
 
 module _ (P : Row → Type 0) where
-  each-listed : (f : ℕ → Row) (n : ℕ) → ((k : ℕ) → k < n → P (f k)) → All P (listed f n)
-  unfolding listed
-  each-listed f zero h = tt
-  each-listed f (suc n) h = (h 0 (omega arith), each-listed (λ k. f (suc k)) n (λ k l. h (suc k) (omega arith)))
-
   -- what each living row has, each of the living has
   pub alive-each : (f : ℕ → Row) (n : ℕ) → ((k : ℕ) → k < n → alive (f k) ≡ true → P (f k)) → All P (aliveOf f n)
   unfolding listed select
@@ -75,10 +72,10 @@ module _ (P : Row → Type 0) where
       go false e i = i
 
 pub alive-all : (f : ℕ → Row) (n : ℕ) → ((k : ℕ) → k < n → alive (f k) ≡ true) → aliveOf f n ≡ listed f n
-alive-all f n h = select-all alive (listed f n) (each-listed (λ r. alive r ≡ true) f n h)
+alive-all f n h = select-all alive (listed f n) (all-listed (λ r. alive r ≡ true) f n h)
 
 pub alive-none : (f : ℕ → Row) (n : ℕ) → ((k : ℕ) → k < n → alive (f k) ≡ false) → aliveOf f n ≡ []
-alive-none f n h = select-none alive (listed f n) (each-listed (λ r. alive r ≡ false) f n h)
+alive-none f n h = select-none alive (listed f n) (all-listed (λ r. alive r ≡ false) f n h)
 
 pub alive-most : (f : ℕ → Row) (n : ℕ) → length (aliveOf f n) ≤ n
 alive-most f n = omega (arith, select-length alive (listed f n), length-listed f n)

@@ -9,24 +9,25 @@ use lib.ListN.{length, set, length-set}
 use lib.Seq.{getD-set-same, getD-set-other}
 use Rattle.store.specs.declared.Row.{Row}
 use Rattle.store.specs.Places.{Same, Put}
-use Rattle.store.specs.Rows.{row-words, word, rowAt, Written}
+use Rattle.store.specs.Rows.{tag-word, row-words, word, rowAt, Written}
 use Rattle.store.specs.Store.{number, Store, row}
 use Rattle.store.proofs.PlaceLaws.{by-eq, by-lt}
 use Rattle.store.proofs.ListedLaws.{length-listed}
 use Rattle.store.proofs.Halving.{by-test}
 use Rattle.store.proofs.StoreLaws.{put-store, put-row}
-use Rattle.dropping.specs.Alive.{dead-tag, alive, deadRow, aliveOf, Buried}
+use Rattle.items.specs.Items.{dead-tag}
+use Rattle.dropping.specs.Alive.{alive, deadRow, aliveOf, Buried}
 use Rattle.dropping.proofs.AliveLaws.{tag-alive, tag-dead, dead-again, alive-split, alive-all, alive-none}
 
 -- ---- the tag's word is read
 
 -- what it says of the row
 module _ (ws : List ℕ) (index i : ℕ) where
-  pub reads-alive : word ws (number ws index i * row-words + 4) ≢ dead-tag → alive (row ws index i) ≡ true
+  pub reads-alive : word ws (number ws index i * row-words + tag-word) ≢ dead-tag → alive (row ws index i) ≡ true
   unfolding row
   reads-alive h = tag-alive (rowAt ws (number ws index i)) h
 
-  pub reads-dead : word ws (number ws index i * row-words + 4) ≡ dead-tag → alive (row ws index i) ≡ false
+  pub reads-dead : word ws (number ws index i * row-words + tag-word) ≡ dead-tag → alive (row ws index i) ≡ false
   unfolding row
   reads-dead e = tag-dead (rowAt ws (number ws index i)) e
 
@@ -34,16 +35,16 @@ module _ (ws : List ℕ) (index i : ℕ) where
 
 -- the words with the tag of row j written
 abbrev pub tagged : List ℕ → ℕ → List ℕ
-tagged ws j = set ws (j * row-words + 4) dead-tag
+tagged ws j = set ws (j * row-words + tag-word) dead-tag
 
-tag-written : (ws : List ℕ) (j : ℕ) → j * row-words + 4 < length ws → Written ws (tagged ws j) j (deadRow (rowAt ws j))
+tag-written : (ws : List ℕ) (j : ℕ) → j * row-words + tag-word < length ws → Written ws (tagged ws j) j (deadRow (rowAt ws j))
 tag-written ws j h = record {
   there = λ i. record {
     test = same (j * row-words) (omega arith) i;
     «test_len» = same (j * row-words + 1) (omega arith) i;
     path = same (j * row-words + 2) (omega arith) i;
     «path_len» = same (j * row-words + 3) (omega arith) i;
-    tag = getD-set-same ws (j * row-words + 4) dead-tag 0 h i;
+    tag = getD-set-same ws (j * row-words + tag-word) dead-tag 0 h i;
     k1 = same (j * row-words + 5) (omega arith) i;
     k2 = same (j * row-words + 6) (omega arith) i;
     k3 = same (j * row-words + 7) (omega arith) i;
@@ -52,12 +53,12 @@ tag-written ws j h = record {
   kept = record { below = λ k l. same k (omega arith); above = λ k l. same k (omega arith) };
 }
   where
-    same : (k : ℕ) → (k ≡ j * row-words + 4 → ⊥) → word (tagged ws j) k ≡ word ws k
-    same k n = getD-set-other ws (j * row-words + 4) k dead-tag 0 n
+    same : (k : ℕ) → (k ≡ j * row-words + tag-word → ⊥) → word (tagged ws j) k ≡ word ws k
+    same k n = getD-set-other ws (j * row-words + tag-word) k dead-tag 0 n
 
 module _ {ws : List ℕ} {index used : ℕ} (i : ℕ) (σ : Store ws index used) (l : i < used) where
   -- where the tag stands
-  pub tag-room : number ws index i * row-words + 4 < index
+  pub tag-room : number ws index i * row-words + tag-word < index
   tag-room = omega (arith, σ .numbers .below i l, σ .rows-end)
 
   was-tagged : Written ws (tagged ws (number ws index i)) (number ws index i) (deadRow (row ws index i))
@@ -65,7 +66,7 @@ module _ {ws : List ℕ} {index used : ℕ} (i : ℕ) (σ : Store ws index used)
   was-tagged = tag-written ws (number ws index i) (omega (arith, tag-room, σ .index-end))
 
   pub tagged-store : Store (tagged ws (number ws index i)) index used
-  tagged-store = put-store σ l was-tagged (length-set ws (number ws index i * row-words + 4) dead-tag)
+  tagged-store = put-store σ l was-tagged (length-set ws (number ws index i * row-words + tag-word) dead-tag)
 
   pub tagged-row : Put (row ws index) (row (tagged ws (number ws index i)) index) used i (deadRow (row ws index i))
   tagged-row = put-row σ l was-tagged

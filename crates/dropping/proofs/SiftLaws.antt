@@ -10,11 +10,12 @@ use lib.ListN.{length, set, length-set}
 use lib.Seq.{getD-set-same, getD-set-other}
 use Rattle.store.specs.declared.Row.{Row}
 use Rattle.store.specs.Places.{Same}
-use Rattle.store.specs.Rows.{row-words, word, rowAt, Kept, Moved}
+use Rattle.store.specs.Rows.{tag-word, row-words, word, rowAt, Kept, Moved}
 use Rattle.store.specs.Store.{number, Index, Store, row}
 use Rattle.store.proofs.PlaceLaws.{by-eq, by-lt}
 use Rattle.store.proofs.WordLaws.{same-row}
-use Rattle.dropping.specs.Alive.{dead-tag, alive, oneFor, Sifted}
+use Rattle.items.specs.Items.{dead-tag}
+use Rattle.dropping.specs.Alive.{alive, oneFor, Sifted}
 use Rattle.dropping.proofs.LivingLaws.{living, living-none, living-next, living-most, living-past, dead-past, live-at, dead-at, gathered}
 use Rattle.dropping.proofs.BuryLaws.{tag-room}
 
@@ -137,12 +138,12 @@ module _ {ws₀ ws : List ℕ} {index used n spare i v : ℕ} (φ : Fits ws₀ i
     same-number = η .rest i (omega arith) (omega (arith, φ .rows))
 
     -- where the tag stands
-    pub sifting-room : number ws index i * row-words + 4 < index
+    pub sifting-room : number ws index i * row-words + tag-word < index
     sifting-room = omega (arith, same-number, tag-room i (φ .store) (omega (arith, φ .rows)))
 
-    same-tag : word ws (number ws index i * row-words + 4) ≡ row ws₀ index i .tag
+    same-tag : word ws (number ws index i * row-words + tag-word) ≡ row ws₀ index i .tag
     unfolding row
-    same-tag = η .kept .below (number ws index i * row-words + 4) sifting-room ∙ ap (λ (j : ℕ). word ws₀ (j * row-words + 4)) same-number
+    same-tag = η .kept .below (number ws index i * row-words + tag-word) sifting-room ∙ ap (λ (j : ℕ). word ws₀ (j * row-words + tag-word)) same-number
 
     -- the number goes to both, of which one is free still
     abbrev ws₁ : List ℕ
@@ -151,7 +152,7 @@ module _ {ws₀ ws : List ℕ} {index used n spare i v : ℕ} (φ : Fits ws₀ i
     abbrev ws₂ : List ℕ
     ws₂ = set ws₁ (index + v) (number ws index i)
 
-    module _ {s : ℕ} (told : s ≡ oneFor (not (eqb (word ws (number ws index i * row-words + 4)) dead-tag))) where
+    module _ {s : ℕ} (told : s ≡ oneFor (not (eqb (word ws (number ws index i * row-words + tag-word)) dead-tag))) where
       other : (k : ℕ) → (k ≡ index + v → ⊥) → (k ≡ spare + (i - v) → ⊥) → word ws₂ k ≡ word ws k
       other k a b =
           getD-set-other ws₁ (index + v) k (number ws index i) 0 a ∙ getD-set-other ws (spare + (i - v)) k (number ws index i) 0 b

@@ -8,10 +8,7 @@ use lib.ListN.{length}
 use Rattle.model.specs.Lists.{select}
 use Rattle.store.specs.declared.Row.{Row}
 use Rattle.store.specs.Places.{listed, Same}
-
--- the tag that no living row has
-abbrev pub dead-tag : ℕ
-dead-tag = 1
+use Rattle.items.specs.Items.{dead-tag}
 
 abbrev pub alive : Row → Bool
 alive r = not (eqb (r .tag) dead-tag)

@@ -1,20 +1,17 @@
 // Rows that were replaced are marked dead where they stand, and later many dead ones are dropped together, in one pass over the index: to
 // take each out as it dies would move the rest of the index every time. Each row is marked once: `bury` stops where the dead ones begin. Of a
 // row only the word of its tag is read and written.
+use items::DEAD;
 use store::ROW_WORDS;
+use store::TAG_WORD;
 ghost use mathlib.Core.Path.{_≡_};
 ghost use mathlib.Core.Bool.{true, not};
 ghost use Prim.Native.Nat.{ℕ, _+_, _≤_, _<_};
 ghost use lib.Dec.{eqb};
 ghost use lib.ListN.{length};
 ghost use Rattle.store.specs.Store.{Store, row};
-ghost use Rattle.dropping.specs.Alive.{dead-tag, alive, oneFor, Buried, Sifted};
-
-// The tag that no living row has: `dead-tag` in specs/Alive.antt.
-pub const DEAD: u64 = 1;
-
-// The word of a row that has its tag.
-const TAG: usize = 4;
+ghost use Rattle.items.specs.Items.{dead-tag};
+ghost use Rattle.dropping.specs.Alive.{alive, oneFor, Buried, Sifted};
 
 // One for a living row's tag, none for a dead one's: a number to add, so that the loop of `sift` has no branch that can't be foretold.
 fn lives(tag: u64) -> usize
@@ -39,7 +36,7 @@ pub fn bury(words: &mut [u64], index: usize, used: usize, lo: usize, hi: usize) 
     let mut i = lo;
     while i < hi {
         let number = words[index + i] as usize;
-        let at = number * ROW_WORDS + TAG;
+        let at = number * ROW_WORDS + TAG_WORD;
         if words[at] == DEAD {
             return i - lo;
         }
@@ -62,7 +59,7 @@ pub fn sift(words: &mut [u64], index: usize, used: usize, n: usize, spare: usize
     let mut i = 0;
     while i < n {
         let number = words[index + i];
-        let tag = words[(number as usize) * ROW_WORDS + TAG];
+        let tag = words[(number as usize) * ROW_WORDS + TAG_WORD];
         words[spare + (i - living)] = number;
         words[index + living] = number;
         living += lives(tag);

@@ -16,11 +16,9 @@ use Rattle.model.specs.Report.{Item, sectionItem, functionItem, branchItem, lin
 use Rattle.model.specs.Tags.{defaultTag}
 use Rattle.model.specs.Printing.{Section, isFunction, isBranch, isLine, functionsOf, sections, comparePrinted, printRecords, printSections}
 use Rattle.model.specs.Filter.{isHeld, hasStart, filterItems, filterSection}
-use Rattle.model.proofs.ListLaws.{select-all, select-none, select-append}
-use Rattle.model.proofs.ListLaws as L
+use Rattle.model.proofs.ListLaws.{All, all-map, all-select, all-sort, select-all, select-none, select-append}
 use Rattle.items.specs.Items.{kindOf, branch-kind, line-kind}
 use Rattle.items.specs.Open.{itemsAt}
-use Rattle.sorting.proofs.MergeLaws.{All, all-map, all-sort}
 use Rattle.emit.specs.Emit.{RoomFor, Emitted}
 use Rattle.emit.proofs.EmitLaws.{room-first}
 use Rattle.printing.specs.declared.Runs.{Runs}
@@ -31,7 +29,7 @@ use Rattle.printing.proofs.TableLaws.{entries-kept}
 use Rattle.printing.proofs.LoopLaws.{Prints, entries-none}
 use Rattle.filter.specs.declared.Kept.{Kept}
 use Rattle.filter.specs.Filtered.{filteredFrom, functionsLeft, KeptRows, Ready, keptLines}
-use Rattle.filter.proofs.ResortLaws.{all-chosen, all-held, printed-again}
+use Rattle.filter.proofs.ResortLaws.{all-held, printed-again}
 
 -- ---- items by kind
 
@@ -45,10 +43,6 @@ passing test (x ∷ l) = go (test x) refl (passing test l)
         (if t then x ∷ select test l else select test l)
     go true e h = (e, h)
     go false e h = h
-
-all-as : (P : Item → Type 0) (l : List Item) → All P l → L.All P l
-all-as P [] h = tt
-all-as P (x ∷ l) h = (h .0, all-as P l (h .1))
 
 -- of two kinds, an item is one
 abbrev Excludes : (Item → Bool) → (Item → Bool) → Type 0
@@ -104,21 +98,21 @@ module _ (ranges : List Range) (its fs bs ls : List Item) (F : select isFunction
 
   all-functions : All (λ i. isFunction i ≡ true) functions
   all-functions =
-      all-sort compareItems (λ i. isFunction i ≡ true) (functionsLeft ranges fs)
+      all-sort (λ i. isFunction i ≡ true) compareItems (functionsLeft ranges fs)
       (all-held (λ i. isFunction i ≡ true) ranges (select hasStart (sort comparePrinted fs))
-      (all-chosen (λ i. isFunction i ≡ true) hasStart (sort comparePrinted fs) (all-sort comparePrinted (λ i. isFunction i ≡ true) fs all-fs)))
+      (all-select (λ i. isFunction i ≡ true) hasStart (sort comparePrinted fs) (all-sort (λ i. isFunction i ≡ true) comparePrinted fs all-fs)))
 
   all-branches : All (λ i. isBranch i ≡ true) branches
-  all-branches = all-chosen (λ i. isBranch i ≡ true) (isHeld ranges) bs (rw B at (passing isBranch its))
+  all-branches = all-select (λ i. isBranch i ≡ true) (isHeld ranges) bs (rw B at (passing isBranch its))
 
   all-lines : All (λ i. isLine i ≡ true) lines
-  all-lines = all-chosen (λ i. isLine i ≡ true) (isHeld ranges) ls (rw L at (passing isLine its))
+  all-lines = all-select (λ i. isLine i ≡ true) (isHeld ranges) ls (rw L at (passing isLine its))
 
   kind-in : (test : Item → Bool) (l : List Item) → All (λ i. test i ≡ true) l → select test l ≡ l
-  kind-in test l h = select-all test l (all-as (λ i. test i ≡ true) l h)
+  kind-in test l h = select-all test l h
 
   kind-out : (test kind : Item → Bool) → Excludes kind test → (l : List Item) → All (λ i. kind i ≡ true) l → select test l ≡ []
-  kind-out test kind x l h = select-none test l (all-as (λ i. test i ≡ false) l (all-map (λ i. kind i ≡ true) (λ i. test i ≡ false) x l h))
+  kind-out test kind x l h = select-none test l (all-map (λ i. kind i ≡ true) (λ i. test i ≡ false) x l h)
 
   select-parts : (test : Item → Bool) → select test (filterItems ranges its) ≡ select test functions ++ select test branches ++ select test lines
   select-parts test =

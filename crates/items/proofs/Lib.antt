@@ -2,3 +2,4 @@ pub mod CompareLaws
 pub mod SearchLaws
 pub mod CountLaws
 pub mod RowLaws
+pub mod AllLaws

@@ -29,6 +29,10 @@ branch-kind = 2
 abbrev pub line-kind : ℕ
 line-kind = 3
 
+-- nothing is given of a section's own row: one more than its tag marks a row that was replaced
+abbrev pub dead-tag : ℕ
+dead-tag = 1
+
 -- by kind: a section's own row, a function, a branch, a line
 abbrev pub byKind : {A : Type 0} → ℕ → A → A → A → A → A
 byKind zero a b c d = a

@@ -30,6 +30,9 @@ pub const BRANCH: u64 = 2;
 
 pub const LINE: u64 = 3;
 
+// The tag that no living row has, since nothing is given of a section's own row: `dead-tag` in specs/Items.antt.
+pub const DEAD: u64 = 1;
+
 // "FN:10,main"
 pub fn start_row(name: Part, start: u32) -> Row
     ensures { λ r. ⌜ Makes r (λ text. functionItem (partIn text name) (some start) 0) (λ text. PartInside text name) ⌝ }

@@ -16,7 +16,7 @@ use Rattle.model.specs.Bytes.{Bytes}
 use Rattle.model.specs.Report.{Item, sectionItem, Report, SectionKey, inSection, compareSections}
 use Rattle.model.specs.Reading.{keepSection}
 use Rattle.model.proofs.KeyOrder.{sections-order}
-use Rattle.items.specs.Items.{itemOf, Inner}
+use Rattle.items.specs.Items.{dead-tag, itemOf, Inner}
 use Rattle.items.specs.Open.{itemFrom, itemsAt}
 use Rattle.dropping.specs.Alive.{alive, aliveOf, deadRow, Buried}
 use Rattle.dropping.proofs.AliveLaws.{tag-alive, tag-dead, alive-cong, alive-split, alive-three, alive-all, alive-none, alive-most}
@@ -125,7 +125,7 @@ module _ {text : Bytes} {f : ℕ → Row} {m lo hi : ℕ} {key : SectionKey} (ρ
 -- ---- rows of a section live
 
 pub item-alive : {text : Bytes} (r key : Row) → Inner text r → alive (withSection r key) ≡ true
-item-alive r key i = tag-alive (withSection r key) (let h : r .tag ≢ 1 = omega (arith, i .inner) in h)
+item-alive r key i = tag-alive (withSection r key) (let h : r .tag ≢ dead-tag = omega (arith, i .inner) in h)
 
 pub own-alive : (r : Row) → r .tag ≡ 0 → alive r ≡ true
 own-alive r e = tag-alive r (omega arith)
@@ -175,7 +175,7 @@ module _ {text ws ws′ : List ℕ} {index used settled late dead lo hi buried :
       go (out e h) = h
       go (gone p q e) = absurd (gone-dead k e a)
 
-  pub buried-dies : (k : ℕ) → lo ≤ k → k < hi → E′ k .tag ≡ 1
+  pub buried-dies : (k : ℕ) → lo ≤ k → k < hi → E′ k .tag ≡ dead-tag
   buried-dies k l h = ap (λ (r : Row). r .tag) (β .there (0 + k) (omega arith) (omega arith))
 
   pub buried-keys : (k : ℕ) → k < settled → keyOf text (E′ k) ≡ keyOf text (E k)

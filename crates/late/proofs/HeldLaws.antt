@@ -17,7 +17,7 @@ use Rattle.items.specs.Items.{kindOf}
 use Rattle.dropping.specs.Alive.{alive, aliveOf}
 use Rattle.dropping.proofs.AliveLaws.{alive-cong, alive-all, alive-each}
 use Rattle.closing.specs.Sections.{entryOf, keyOf, entryAt, entriesAt, Sections, rowsFrom, entriesFrom, SectionsFrom, goes}
-use Rattle.closing.proofs.ReplaceLaws.{all-listed}
+use Rattle.items.proofs.AllLaws.{all-listed}
 use Rattle.late.specs.Late.{together, livesOf, keptAt, InParts, PlaceOf}
 use Rattle.late.proofs.TogetherLaws.{together-none, together-length}
 

@@ -17,7 +17,7 @@ use Rattle.model.specs.Bytes.{Bytes}
 use Rattle.model.specs.Report.{Item, sectionItem, Entry, Report, SectionKey, sectionKey, inSection, compareSections}
 use Rattle.model.specs.Reading.{spellingOf, keepSection, replaceSection}
 use Rattle.model.proofs.KeyOrder.{sections-order}
-use Rattle.items.specs.Items.{itemOf, Inner}
+use Rattle.items.specs.Items.{dead-tag, itemOf, Inner}
 use Rattle.items.specs.Open.{itemFrom, itemsAt, Open}
 use Rattle.dropping.specs.Alive.{alive, Buried}
 use Rattle.dropping.proofs.AliveLaws.{tag-alive, tag-dead, alive-cong, alive-most}
@@ -102,7 +102,7 @@ module _ {text ws : List ℕ} {index used settled late dead n lo₀ hi₀ : ℕ}
     named : Named text (withPlace key lo₀)
     named = record { test = ν .test; path = ν .path }
 
-    first-living : lo₁ < hi₁ → F lo₁ .tag ≢ 1
+    first-living : lo₁ < hi₁ → F lo₁ .tag ≢ dead-tag
     first-living h t = let x : true ≡ false = sym (π .living lo₁ (omega (arith, ρ₁ .high .most))) ∙ tag-dead (F lo₁) t in impossible cc
 
     own-said : OwnAs text (withPlace key lo₀) (spellingOf (pathOf text key) (runAt text F lo₁ hi₁)) (rowsFrom ws₁ index settled lo₁)
@@ -133,7 +133,7 @@ module _ {text ws : List ℕ} {index used settled late dead n lo₀ hi₀ : ℕ}
           ∙ (let e : E (lo₀ + 0) ≡ E lo₀ = ap E (add-zero lo₀) in rw (e, a) refl),
     )
 
-    none-in : lo₀ < hi₀ → E lo₀ .tag ≡ 1 → livesIn text E lo₀ hi₀ ≡ []
+    none-in : lo₀ < hi₀ → E lo₀ .tag ≡ dead-tag → livesIn text E lo₀ hi₀ ≡ []
     none-in h t = none-lives text E lo₀ hi₀ (λ k p q a. let x : true ≡ false = sym (first-alive k p q a) ∙ tag-dead (E lo₀) t in impossible cc)
       where
         first-alive : (k : ℕ) → lo₀ ≤ k → k < hi₀ → alive (E k) ≡ true → alive (E lo₀) ≡ true

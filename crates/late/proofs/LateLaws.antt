@@ -31,7 +31,7 @@ use Rattle.weaving.proofs.SeatLaws.{woven-pass}
 use Rattle.dropping.specs.Alive.{alive}
 use Rattle.closing.specs.Sections.{entryOf, keyOf, Whole, rowsFrom, SectionsFrom, goes, Past}
 use Rattle.closing.proofs.RunLaws.{goes-greater}
-use Rattle.closing.proofs.ReplaceLaws.{all-listed}
+use Rattle.items.proofs.AllLaws.{all-listed}
 use Rattle.closing.proofs.SpliceLaws.{less-not-greater}
 use Rattle.late.specs.Late.{mix, together, livesOf, keptAt, InParts, PlaceOf, Noted, SameReport}
 use Rattle.late.proofs.TogetherLaws.{pass-mix}

@@ -7,7 +7,7 @@ use Rattle.store.specs.Places.{listed}
 use Rattle.model.specs.Order.{if_then_else_}
 use Rattle.model.specs.Lists.{select}
 use Rattle.model.proofs.ListLaws.{All, all-select}
-use Rattle.closing.proofs.ReplaceLaws.{all-listed}
+use Rattle.items.proofs.AllLaws.{all-listed}
 
 pub all-at : {A : Type 0} (P : A → Type 0) (f : ℕ → A) (n : ℕ) → All P (listed f n) → (k : ℕ) → k < n → P (f k)
 unfolding listed

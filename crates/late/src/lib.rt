@@ -8,7 +8,6 @@ use closing::compare_sections;
 use closing::find_run;
 use closing::own_row;
 use closing::splice;
-use dropping::DEAD;
 use dropping::bury;
 use store::Row;
 ghost use mathlib.Core.Path.{_≡_};
@@ -170,7 +169,7 @@ fn lives_at(words: &[u64], index: usize, used: usize, lo: usize, hi: usize) -> b
         return false;
     }
     let first = store::get(words, index, used, lo);
-    first.tag != DEAD
+    first.tag != items::DEAD
 }
 
 // The open section is kept, where a settled one that lives has its key, and as many rows at least: these die, and it comes in their place. No

@@ -41,7 +41,7 @@ use Rattle.items.specs.Items.{kindOf, function-kind, branch-kind, line-kind, it
 use Rattle.items.specs.Open.{itemAt, itemFrom, itemsAt}
 use Rattle.closing.specs.Sections.{testOf, pathOf, entryAt}
 use Rattle.section.specs.Table.{Table}
-use Rattle.closing.proofs.ReplaceLaws.{all-listed}
+use Rattle.items.proofs.AllLaws.{all-listed}
 use Rattle.emit.proofs.PassLaws.{lines-append}
 use Rattle.printing.specs.Printing.{entriesFrom, printedFrom, RunOf, functionLines}
 use Rattle.printing.proofs.KindLaws.{kindIn, kind-at, next-own}

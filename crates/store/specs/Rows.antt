@@ -10,6 +10,10 @@ use Rattle.store.specs.Places.{Shifted}
 abbrev pub row-words : ℕ
 row-words = 9
 
+-- the one that has its tag
+abbrev pub tag-word : ℕ
+tag-word = 4
+
 abbrev pub word : List ℕ → ℕ → ℕ
 word ws j = getD ws j 0
 
@@ -24,7 +28,7 @@ rowFrom ws p = record {
   «test_len» = word ws (p + 1);
   path = word ws (p + 2);
   «path_len» = word ws (p + 3);
-  tag = word ws (p + 4);
+  tag = word ws (p + tag-word);
   k1 = word ws (p + 5);
   k2 = word ws (p + 6);
   k3 = word ws (p + 7);

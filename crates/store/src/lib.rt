@@ -13,6 +13,9 @@ ghost use Rattle.store.specs.Store.{Store, row};
 // The words of a row: `row-words` in specs/Rows.antt.
 pub const ROW_WORDS: usize = 9;
 
+// The one that has its tag: `tag-word`.
+pub const TAG_WORD: usize = 4;
+
 // One entry. Names are a start and a length in the lent text; the tag says the item's kind and what is given.
 pub struct Row {
     pub test: u64,
@@ -36,7 +39,7 @@ pub fn read_row(words: &[u64], j: usize) -> Row
         test_len: words[p + 1],
         path: words[p + 2],
         path_len: words[p + 3],
-        tag: words[p + 4],
+        tag: words[p + TAG_WORD],
         k1: words[p + 5],
         k2: words[p + 6],
         k3: words[p + 7],
@@ -53,7 +56,7 @@ pub fn write_row(words: &mut [u64], j: usize, row: Row)
     words[p + 1] = row.test_len;
     words[p + 2] = row.path;
     words[p + 3] = row.path_len;
-    words[p + 4] = row.tag;
+    words[p + TAG_WORD] = row.tag;
     words[p + 5] = row.k1;
     words[p + 6] = row.k2;
     words[p + 7] = row.k3;

@@ -3,7 +3,7 @@ use mathlib.Core.Path.{_≡_, refl}
 use Prim.Native.Nat.{_+_, _*_, _-_, _≤_, _<_}
 use native.Mathlib.Omega.{arith}
 use lib.ListN.{length, length-set}
-use Rattle.store.specs.Rows.{row-words}
+use Rattle.store.specs.Rows.{tag-word, row-words}
 use Rattle.store.specs.Store.{number, row, Store}
 use Rattle.dropping.proofs.BuryLaws.{reads-alive, reads-dead, tag-room, tagged-store, tagged-row, Burying, burying-none, burying-one, buried-dead, buried-all}
 use Rattle.dropping.proofs.bury.Statement.{statement}
@@ -21,7 +21,7 @@ at-loop k = k .before .before .before
 
 -- where the tag stands that a turn reads
 record Bounds (c : tie.In-loop Inv-loop μ-loop) : Type 0 where
-  room : number (c .before .loop .words) (c .before .before .args .index) (c .before .loop .i) * row-words + 4 < c .before .before .args .index
+  room : number (c .before .loop .words) (c .before .before .args .index) (c .before .loop .i) * row-words + tag-word < c .before .before .args .index
 
 bounds : (c : tie.In-loop Inv-loop μ-loop) → Bounds c
 bounds c = record { room = tag-room _ (c .before .loop .inv .3) (omega arith) }

@@ -5,7 +5,7 @@ use Prim.Native.Nat.{_+_, _*_, _-_, _≤_, _<_}
 use native.Mathlib.Omega.{arith}
 use lib.ListN.{length, length-set}
 use denote.Ref.{now}
-use Rattle.store.specs.Rows.{row-words}
+use Rattle.store.specs.Rows.{tag-word, row-words}
 use Rattle.store.specs.Store.{number}
 use Rattle.dropping.proofs.SiftLaws.{Fits, Sifting, sifting-start, sifting-most, sifting-room, sifting-next, sifted-store, sifted-rows}
 use Rattle.dropping.proofs.sift.Statement.{statement}
@@ -40,7 +40,7 @@ bounds l =
 
 -- where the tag stands that a turn reads
 record Tag (c : tie.In-loop Inv-loop μ-loop) : Type 0 where
-  room : number (c .before .loop .words) (start (c .before) .args .index) (c .before .loop .i) * row-words + 4 < start (c .before) .args .index
+  room : number (c .before .loop .words) (start (c .before) .args .index) (c .before .loop .i) * row-words + tag-word < start (c .before) .args .index
 
 tag : (c : tie.In-loop Inv-loop μ-loop) → Tag c
 tag c = record { room = sifting-room (fits (start (c .before))) (c .before .loop .inv) (c .loop-test .taken) }
