@@ -220,6 +220,9 @@ fn measure_ranges() {
     for many in [1, 10, 100, 1000] {
         query_row(&ranges_of(many));
     }
+    for many in [1, 10, 100, 1000] {
+        lent_query_row(&ranges_of(many));
+    }
     println!("\nthe median of {FEWEST_ROUNDS} to {MOST_ROUNDS} rounds, in milliseconds\n");
     println!("| | Rust | port | Rust / port |");
     println!("|---|---:|---:|---:|");
@@ -241,6 +244,32 @@ fn query_row(list: &List) {
         || {
             for line in asked() {
                 black_box(held.probe_query(black_box(line), line));
+            }
+        },
+        || {
+            let mut answer = [0; WORDS];
+            for line in asked() {
+                let pairs = black_box(&list.pairs);
+                black_box(Linked.query_range(pairs, list.used, line, line, &mut answer));
+            }
+        },
+    );
+}
+
+/// The same work for both: a list that comes as pairs is taken over and asked once.
+fn lent_query_row(list: &List) {
+    let lines = 4 * list.used as u32;
+    let lists = QUERIES as usize / list.used;
+    let asked = move || (0..lists as u32).map(move |k| k.wrapping_mul(2_654_435_761) % lines);
+    row(
+        &format!(
+            "lists of {} ranges, each taken over and asked once",
+            grouped(list.used)
+        ),
+        lists,
+        || {
+            for line in asked() {
+                black_box(rust_ranges(black_box(list)).probe_query(line, line));
             }
         },
         || {
