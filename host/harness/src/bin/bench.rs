@@ -239,7 +239,7 @@ fn query_row(list: &List) {
     let lines = 4 * list.used as u32;
     let asked = move || (0..QUERIES).map(move |k| k.wrapping_mul(2_654_435_761) % lines);
     row(
-        &format!("queries of {} ranges", grouped(list.used)),
+        &format!("a kept list of {} ranges asked", grouped(list.used)),
         QUERIES as usize,
         || {
             for line in asked() {
