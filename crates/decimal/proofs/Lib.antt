@@ -1,2 +1,4 @@
 pub mod PutLaws
 pub mod DecimalLaws
+pub mod OverLaws
+pub mod PairLaws

@@ -1,10 +1,11 @@
 // Bytes and decimal numbers written at the front of an output: what prints a count, of document 01's paragraph "Printing".
 ghost use mathlib.Core.Path.{_≡_};
-ghost use Prim.Native.Nat.{_≤_, _<_};
+ghost use mathlib.Core.List.{_∷_};
+ghost use Prim.Native.Nat.{_+_, _≤_, _<_};
 ghost use lib.ListN.{length};
 ghost use Rattle.model.specs.Number.{decimal};
 ghost use Rattle.model.specs.Output.{written, outputAfter};
-ghost use Rattle.decimal.specs.Put.{putLen, over};
+ghost use Rattle.decimal.specs.Put.{putLen, over, pair};
 
 // Writes s at the front of out, where out holds it, and answers how many bytes it wrote.
 pub fn put_bytes(s: &[u8], out: &mut [u8]) -> usize
@@ -118,4 +119,24 @@ pub fn put_decimal(v: u64, out: &mut [u8]) -> usize
         }
     }
     put_long(v, out)
+}
+
+// Writes a field at the front of out: the byte sep, then the digits of v.
+pub fn put_number(sep: u8, v: u64, out: &mut [u8]) -> usize
+    requires { ⌜ 1 + length (decimal v) ≤ length (now out) ⌝ }
+    ensures { λ r. ⌜ (r ≡ 1 + length (decimal v)) × (now (out .exit) ≡ over (sep ∷ decimal v) (now (out .entry))) ⌝ }
+{
+    out[0] = sep;
+    let n = put_decimal(v, &mut out[1..]);
+    1 + n
+}
+
+// Writes two fields at the front of out.
+pub fn put_pair(first: u8, a: u64, then: u8, b: u64, out: &mut [u8]) -> usize
+    requires { ⌜ length (pair first a then b) ≤ length (now out) ⌝ }
+    ensures { λ r. ⌜ (r ≡ length (pair first a then b)) × (now (out .exit) ≡ over (pair first a then b) (now (out .entry))) ⌝ }
+{
+    let at = put_number(first, a, out);
+    let n = put_number(then, b, &mut out[at..]);
+    at + n
 }

@@ -16,53 +16,20 @@ use Rattle.model.specs.Tags.{defaultTag}
 use Rattle.model.specs.Output.{outputAfter}
 use Rattle.model.specs.Calls.{writeAnswer}
 use Rattle.model.specs.Parts.{printLine}
-use Rattle.decimal.specs.Put.{over}
+use Rattle.decimal.specs.Put.{over, pair}
 use Rattle.display.specs.Shape.{ShapeOf, separated, shown, lastLen, lastField, headOf, shapeFields, shapeLine, Fitting}
 use Rattle.display.specs.Lines.{counted}
 use Rattle.display.specs.declared.shape.Last.the-variants as L
 use Rattle.display.specs.declared.shape.Shape.{Shape}
-use Rattle.display.proofs.OverLaws.{first-room, second-at, second-room, second-fits, second-len, second-out}
-use Rattle.display.proofs.FieldLaws.{head-is, head-first, inside-nothing}
+use Rattle.decimal.proofs.OverLaws.{second-at, second-room, second-fits, second-len, second-out}
+use Rattle.display.proofs.FieldLaws.{head-first, inside-nothing}
 use Rattle.display.proofs.ShapeLaws.{line-first, line-len, line-within, line-fits, line-kept, line-out, fits-any}
 use Rattle.display.proofs.LineLaws.{print-room, print-written, print-out}
 
--- ---- two numbers as fields
-
-abbrev pair : ℕ → ℕ → Bytes
-pair a b = separated 58 (shown (a ∷ b ∷ []) 2)
-
-pair-is : (a b : ℕ) → pair a b ≡ (58 ∷ decimal a) ++ (44 ∷ decimal b)
-unfolding separated shown
-pair-is a b = ap (λ (l : Bytes). 58 ∷ decimal a ++ 44 ∷ l) (append-nil (decimal b))
-
-module _ (a b : ℕ) (old : Bytes) (room : length (pair a b) ≤ length old) where
-  pub pair-first : 1 + length (decimal a) ≤ length old
-  pair-first = omega (arith, first-room (pair a b) (58 ∷ decimal a) (44 ∷ decimal b) old (pair-is a b) room)
-
-  module _ (out : Bytes) (at : ℕ) (upTo : at ≡ 1 + length (decimal a)) (held : out ≡ over (58 ∷ decimal a) old) where
-    ends : at ≡ length (58 ∷ decimal a)
-    ends = omega arith
-
-    pub pair-at : at ≤ length out
-    pair-at = second-at (pair a b) (58 ∷ decimal a) (44 ∷ decimal b) old (pair-is a b) room out at held ends
-
-    pub pair-room : 1 + length (decimal b) ≤ length (take (length out - at) (drop at out))
-    pair-room = omega (arith, second-room (pair a b) (58 ∷ decimal a) (44 ∷ decimal b) old (pair-is a b) room out at held ends)
-
-    module _ (n : ℕ) (more : n ≡ 1 + length (decimal b)) where
-      more-ends : n ≡ length (44 ∷ decimal b)
-      more-ends = omega arith
-
-      pub pair-fits : length old < 2 ^ 64 → Fits w64 (at + n)
-      pair-fits h = second-fits (pair a b) (58 ∷ decimal a) (44 ∷ decimal b) old (pair-is a b) room out at held ends n more-ends h
-
-      pub pair-len : at + n ≡ length (pair a b)
-      pair-len = second-len (pair a b) (58 ∷ decimal a) (44 ∷ decimal b) old (pair-is a b) room out at held ends n more-ends
-
-    pub pair-out : (ys : Bytes) → ys ≡ over (44 ∷ decimal b) (take (length out - at) (drop at out)) → take at out ++ (ys ++ drop (length out - at) (drop at out)) ≡ over (pair a b) old
-    pair-out ys y = second-out (pair a b) (58 ∷ decimal a) (44 ∷ decimal b) old (pair-is a b) room out at held ends ys y
-
 -- ---- the line
+
+abbrev both : ℕ → ℕ → Bytes
+both line count = pair 58 line 44 count
 
 abbrev numbers : ℕ → ℕ → List ℕ
 numbers line count = line ∷ count ∷ []
@@ -79,6 +46,10 @@ fields line count = shapeFields [] Kd.LineData (numbers line count) 2 L.Nothing
 abbrev whole : ℕ → ℕ → Bytes
 whole line count = shapeLine [] Kd.LineData (numbers line count) 2 L.Nothing
 
+head-both : (line count : ℕ) → head line count ≡ tag ++ both line count
+unfolding headOf separated shown
+head-both line count = ap (λ (l : Bytes). tag ++ (58 ∷ decimal line ++ 44 ∷ l)) (append-nil (decimal count))
+
 fields-head : (line count : ℕ) → fields line count ≡ head line count
 unfolding shapeFields separated lastField
 fields-head line count = append-nil (head line count)
@@ -92,29 +63,29 @@ module _ (line count : ℕ) (old : Bytes) (room : length (whole line count) ≤ 
 
   module _ (out : Bytes) (at : ℕ) (upTo : at ≡ length tag) (held : out ≡ over tag old) where
     pub count-at : at ≤ length out
-    count-at = second-at (head line count) tag (pair line count) old (head-is Kd.LineData 2 (numbers line count)) head-room out at held upTo
+    count-at = second-at (head line count) tag (both line count) old (head-both line count) head-room out at held upTo
 
-    pub count-room : length (pair line count) ≤ length (take (length out - at) (drop at out))
-    count-room = second-room (head line count) tag (pair line count) old (head-is Kd.LineData 2 (numbers line count)) head-room out at held upTo
+    pub count-room : length (both line count) ≤ length (take (length out - at) (drop at out))
+    count-room = second-room (head line count) tag (both line count) old (head-both line count) head-room out at held upTo
 
-    module _ (n : ℕ) (more : n ≡ length (pair line count)) where
+    module _ (n : ℕ) (more : n ≡ length (both line count)) where
       pub count-ends : length old < 2 ^ 64 → Fits w64 (at + n)
-      count-ends h = second-fits (head line count) tag (pair line count) old (head-is Kd.LineData 2 (numbers line count)) head-room out at held upTo n more h
+      count-ends h = second-fits (head line count) tag (both line count) old (head-both line count) head-room out at held upTo n more h
 
       end : at + n ≡ length (fields line count)
       end =
-          second-len (head line count) tag (pair line count) old (head-is Kd.LineData 2 (numbers line count)) head-room out at held upTo n more
+          second-len (head line count) tag (both line count) old (head-both line count) head-room out at held upTo n more
           ∙ ap length (sym (fields-head line count))
 
       pub count-len : at + n + 1 ≡ length (whole line count)
       count-len = line-len [] Kd.LineData 2 (numbers line count) L.Nothing (at + n) end
 
-      module _ (ys : Bytes) (rest : ys ≡ over (pair line count) (take (length out - at) (drop at out))) where
+      module _ (ys : Bytes) (rest : ys ≡ over (both line count) (take (length out - at) (drop at out))) where
         abbrev written : Bytes
         written = take at out ++ (ys ++ drop (length out - at) (drop at out))
 
         done : written ≡ over (fields line count) old
-        done = rw (fields-head line count) (second-out (head line count) tag (pair line count) old (head-is Kd.LineData 2 (numbers line count)) head-room out at held upTo ys rest)
+        done = rw (fields-head line count) (second-out (head line count) tag (both line count) old (head-both line count) head-room out at held upTo ys rest)
 
         pub count-within : at + n < length written
         count-within = line-within [] Kd.LineData 2 (numbers line count) L.Nothing (at + n) old written done end room

@@ -24,7 +24,7 @@ use Rattle.display.specs.Shape.{TagOf, separated, shown, lastLen, lastFi
 use Rattle.display.specs.declared.shape.Last.{Last}
 use Rattle.display.specs.declared.shape.Last.the-variants as L
 use Rattle.display.specs.declared.tag.Tag.{Tag}
-use Rattle.display.proofs.OverLaws.{lent-size, over-more, put-len, put-over, to-end}
+use Rattle.decimal.proofs.OverLaws.{lent-size, over-more, put-len, put-over, to-end}
 
 -- the last field, known by its variant
 module _ (last : Last) where

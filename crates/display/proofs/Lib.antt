@@ -1,4 +1,3 @@
-pub mod OverLaws
 pub mod FieldLaws
 pub mod ShapeLaws
 pub mod LineLaws

@@ -6,8 +6,8 @@ use mathlib.Core.Bool.{true}
 use native.Mathlib.Omega.{arith}
 use native.Mathlib.Numerals.{one-add}
 use lib.Dec.{eqb·suc-zero, leb, lit≤}
-use lib.ListN.{length, take, drop, set, length-append, length-drop, length-set, length-take}
-use lib.Seq.{length-take-le, set-append-seam, append-snoc}
+use lib.ListN.{length, take, drop, set, length-append, length-drop, length-take}
+use lib.Seq.{length-take-le}
 use mir.Val.{Fits}
 use mir.Syntax.{w64}
 use borrow.Author.Tests.{leb-true, le-leb}
@@ -19,16 +19,14 @@ use Rattle.model.specs.declared.Record.{Record}
 use Rattle.model.specs.declared.Record.the-variants.{BranchData, LineData}
 use Rattle.model.specs.Bytes.{Bytes}
 use Rattle.model.specs.Number.{decimal}
-use Rattle.model.specs.Output.{outputAfter}
 use Rattle.model.specs.Tags.{defaultTag}
 use Rattle.decimal.specs.Put.{over}
-use Rattle.text.proofs.ByteLaws.{drop-next}
 use Rattle.decimal.proofs.DecimalLaws.{decimal-most}
 use Rattle.display.specs.Shape.{ShapeOf, separated, shown, lastLen, lastField, inside, sepAfter, headOf, shapeFields, shapeLine, Fitting}
 use Rattle.display.specs.declared.shape.Last.{Last}
 use Rattle.display.specs.declared.shape.Last.the-variants as L
 use Rattle.display.specs.declared.shape.Shape.{Shape}
-use Rattle.display.proofs.OverLaws.{over-size, second-room}
+use Rattle.decimal.proofs.OverLaws.{second-room, last-within, last-out, last-kept}
 
 -- the shape of a record that is known by its variant
 pub shape-is : (a b : Record) (s : Shape) → a ≡ b → ShapeOf b s → ShapeOf a s
@@ -85,22 +83,21 @@ module _ (t : Bytes) where
     line-len e = omega (arith, line-more)
 
     module _ (old out : Bytes) (held : out ≡ over (shapeFields t kind numbers count last) old) (upTo : n ≡ length (shapeFields t kind numbers count last)) (room : length (shapeLine t kind numbers count last) ≤ length old) where
-      line-size : length out ≡ length old
-      line-size = over-size old out (shapeFields t kind numbers count last) [] [] n held (omega (arith, line-more))
+      short : n < length old
+      short = omega (arith, line-more)
 
       pub line-within : n < length out
-      line-within = omega (arith, line-more, line-size)
+      line-within = last-within old out (shapeFields t kind numbers count last) n 10 held upTo short
 
       pub line-fits : length old < 2 ^ 64 → Fits w64 (n + 1)
       line-fits h = record { fits = omega (arith, line-more) }
 
       pub line-out : set out n 10 ≡ over (shapeLine t kind numbers count last) old
-      unfolding outputAfter shapeLine
-      line-out =
-          rw (held, upTo, drop-next 0 old (length (shapeFields t kind numbers count last)) (omega (arith, line-more)), set-append-seam, append-snoc, length-append)
+      unfolding shapeLine
+      line-out = last-out old out (shapeFields t kind numbers count last) n 10 held upTo short
 
       pub line-kept : length (set out n 10) ≡ length old
-      line-kept = length-set out n 10 ∙ line-size
+      line-kept = last-kept old out (shapeFields t kind numbers count last) n 10 held upTo short
 
 -- fields after fields
 all-commas : (fs gs : List Bytes) → separated 44 (fs ++ gs) ≡ separated 44 fs ++ separated 44 gs

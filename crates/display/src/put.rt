@@ -15,16 +15,6 @@ use crate::shape::Shape;
 use crate::tag;
 use model::Kind;
 
-// Writes a field at the front of out: the byte sep, then the digits of v.
-fn put_number(sep: u8, v: u64, out: &mut [u8]) -> usize
-    requires { ⌜ 1 + length (decimal v) ≤ length (now out) ⌝ }
-    ensures { λ r. ⌜ (r ≡ 1 + length (decimal v)) × (now (out .exit) ≡ over (sep ∷ decimal v) (now (out .entry))) ⌝ }
-{
-    out[0] = sep;
-    let n = decimal::put_decimal(v, &mut out[1..]);
-    1 + n
-}
-
 // Writes a field at the front of out: the byte sep, then the bytes of s.
 fn put_text(sep: u8, s: &[u8], out: &mut [u8]) -> usize
     requires { ⌜ 1 + length (now s) ≤ length (now out) ⌝ }
@@ -58,22 +48,12 @@ fn put_numbers(numbers: [u64; 4], count: usize, out: &mut [u8]) -> usize
     let mut sep = b':';
     let mut i = 0;
     while i < count {
-        let n = put_number(sep, numbers[i], &mut out[at..]);
+        let n = decimal::put_number(sep, numbers[i], &mut out[at..]);
         at = at + n;
         sep = b',';
         i += 1;
     }
     at
-}
-
-// Writes two numbers as fields at the front of out.
-fn put_pair(a: u64, b: u64, out: &mut [u8]) -> usize
-    requires { ⌜ length (separated 58 (shown (a ∷ b ∷ []) 2)) ≤ length (now out) ⌝ }
-    ensures { λ r. ⌜ (r ≡ length (separated 58 (shown (a ∷ b ∷ []) 2))) × (now (out .exit) ≡ over (separated 58 (shown (a ∷ b ∷ []) 2)) (now (out .entry))) ⌝ }
-{
-    let at = put_number(b':', a, out);
-    let n = put_number(b',', b, &mut out[at..]);
-    at + n
 }
 
 // Writes the last field at the front of out.
@@ -184,7 +164,7 @@ pub fn put_count(line: u64, count: u64, out: &mut [u8]) -> usize
     ensures { λ _. ⌜ now (out .exit) ≡ over (shapeLine [] Kd.LineData (line ∷ count ∷ []) 2 L.Nothing) (now (out .entry)) ⌝ }
 {
     let at = tag::put_tag(Kind::LineData, out);
-    let n = put_pair(line, count, &mut out[at..]);
+    let n = decimal::put_pair(b':', line, b',', count, &mut out[at..]);
     let end = at + n;
     out[end] = 10;
     end + 1

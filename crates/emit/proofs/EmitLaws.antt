@@ -21,7 +21,7 @@ use Rattle.model.specs.Tags.{defaultTag}
 use Rattle.decimal.specs.Put.{over}
 use Rattle.text.proofs.ByteLaws.{drop-end}
 use Rattle.display.specs.Lines.{lineIn}
-use Rattle.display.proofs.OverLaws.{to-end}
+use Rattle.decimal.proofs.OverLaws.{to-end}
 use Rattle.display.proofs.LineLaws.{lent-out, lent-written, lent-refused}
 use Rattle.emit.specs.Emit.{putAt, outAfter, RoomFor, Emitted}
 

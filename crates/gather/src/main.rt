@@ -1,5 +1,12 @@
 // The program `gather` (document 01): a bundle on standard input, checked mode, 8,192 words of scratch and 65,536 bytes of output. It prints
 // the joined tracefile, or `refused` with the refusal's number, text, line and field.
+ghost use mathlib.Core.Path.{_≡_};
+ghost use lib.ListN.{length, take};
+ghost use Rattle.model.specs.declared.Mode.the-variants.{Checked};
+ghost use Rattle.model.specs.Limits.{program-words, program-output};
+ghost use Rattle.model.specs.Tags.{defaultTag};
+ghost use Rattle.model.specs.Gather.{shown, gatherProgram};
+ghost use Rattle.model.specs.Gather.{gather as gatherOf};
 use model::Fault;
 use model::WriteAnswer;
 
@@ -10,22 +17,34 @@ const SCRATCH_WORDS: usize = lcov::PROGRAM_WORDS;
 
 const MOST_OUTPUT: usize = lcov::PROGRAM_OUTPUT;
 
-fn gather(bundle: &[u8]) {
-    let mut scratch = [0u64; SCRATCH_WORDS];
-    let mut out = [0u8; MOST_OUTPUT];
-    match lcov::gather_checked(bundle, &mut scratch, &mut out) {
-        WriteAnswer::Written(n) => program::write_first(&out, n),
-        WriteAnswer::Refused(refusal) => program::show_refusal(refusal),
+// What is printed for a bundle comes to the front of out. Answers how many bytes it is.
+fn gather(bundle: &[u8], scratch: &mut [u64], out: &mut [u8]) -> usize
+    requires { ⌜ (length (now scratch) ≡ program-words) × (length (now out) ≡ program-output) ⌝ }
+    ensures { λ r. ⌜ take r (now (out .exit)) ≡ shown (gatherOf defaultTag Checked (now (bundle .entry)) program-words program-output) ⌝ }
+{
+    match lcov::gather_checked(bundle, scratch, out) {
+        WriteAnswer::Written(n) => n,
+        WriteAnswer::Refused(refusal) => program::put_refusal(refusal, out),
     }
+}
+
+// The same for any input: one that is too long is no bundle.
+fn answer(input: &[u8], scratch: &mut [u64], out: &mut [u8]) -> usize
+    requires { ⌜ (length (now scratch) ≡ program-words) × (length (now out) ≡ program-output) ⌝ }
+    ensures { λ r. ⌜ take r (now (out .exit)) ≡ gatherProgram (now (input .entry)) ⌝ }
+{
+    if MOST_INPUT < input.len() {
+        return program::put_refusal(refusal::unplaced(Fault::MalformedBundle), out);
+    }
+    gather(input, scratch, out)
 }
 
 fn main() {
     // one byte more than is allowed, so that a longer input is seen
     let mut input = [0u8; MOST_INPUT + 1];
+    let mut scratch = [0u64; SCRATCH_WORDS];
+    let mut out = [0u8; MOST_OUTPUT];
     let n = io::read_full(0, &mut input);
-    if MOST_INPUT < n {
-        program::show_refusal(refusal::unplaced(Fault::MalformedBundle));
-        return;
-    }
-    gather(&input[..n]);
+    let len = answer(&input[..n], &mut scratch, &mut out);
+    program::write_first(&out, len);
 }

@@ -2,7 +2,9 @@
 ghost use mathlib.Core.Path.{_≡_};
 ghost use Prim.Native.Nat.{_+_, _≤_};
 ghost use lib.ListN.{length};
+ghost use Rattle.decimal.specs.Put.{over};
 ghost use Rattle.program.specs.Cases.{u16At, caseEnd};
+ghost use Rattle.program.specs.Refused.{refusedLine, refused-most, places};
 use model::Refusal;
 
 fn wide(byte: u8) -> usize
@@ -32,18 +34,43 @@ pub fn case_end(input: &[u8], at: usize) -> usize
     at + 2 + len
 }
 
-// `refused`, number, text, line and field, parted by blanks (document 01, "Program `gather`").
-pub fn show_refusal(refusal: Refusal) {
+// Four numbers, a blank before each, at the front of out.
+fn put_places(number: u64, text: u64, line: u64, field: u64, out: &mut [u8]) -> usize
+    requires { ⌜ length (places number text line field) ≤ length (now out) ⌝ }
+    ensures { λ r. ⌜ (r ≡ length (places number text line field)) × (now (out .exit) ≡ over (places number text line field) (now (out .entry))) ⌝ }
+{
+    let at = decimal::put_pair(b' ', number, b' ', text, out);
+    let n = decimal::put_pair(b' ', line, b' ', field, &mut out[at..]);
+    at + n
+}
+
+// `refused`, number, text, line and field, parted by blanks (document 01, "Program `gather`"), at the front of out.
+pub fn put_refusal(refusal: Refusal, out: &mut [u8]) -> usize
+    requires { ⌜ refused-most ≤ length (now out) ⌝ }
+    ensures { λ r. ⌜ (r ≡ length (refusedLine «refusal»)) × (now (out .exit) ≡ over (refusedLine «refusal») (now (out .entry))) ⌝ }
+{
     let fault = refusal.fault;
-    io::write_all(1, b"refused ");
-    io::print_decimal(1, refusal::number_of(fault) as u64);
-    io::write_all(1, b" ");
-    io::print_decimal(1, refusal.text as u64);
-    io::write_all(1, b" ");
-    io::print_decimal(1, refusal.line);
-    io::write_all(1, b" ");
-    io::print_decimal(1, refusal.field as u64);
-    io::write_all(1, b"\n");
+    let number = refusal::number_of(fault) as u64;
+    let head = decimal::put_bytes(b"refused", out);
+    let n = put_places(
+        number,
+        refusal.text as u64,
+        refusal.line,
+        refusal.field as u64,
+        &mut out[head..],
+    );
+    let end = head + n;
+    out[end] = 10;
+    end + 1
+}
+
+// The most bytes that such a line has: `refused-most` in specs/Refused.antt.
+const REFUSED_MOST: usize = 92;
+
+pub fn show_refusal(refusal: Refusal) {
+    let mut line = [0u8; REFUSED_MOST];
+    let n = put_refusal(refusal, &mut line);
+    write_first(&line, n);
 }
 
 // The first n bytes.

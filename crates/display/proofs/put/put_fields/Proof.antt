@@ -1,5 +1,5 @@
 use borrow.Author.Needs.{needs}
-use Rattle.display.proofs.OverLaws.{over-at, second-size, second-out}
+use Rattle.decimal.proofs.OverLaws.{over-at, second-size, second-out}
 use Rattle.display.proofs.ShapeLaws.{fields-first, last-room, fields-fits, fields-len, fields-are}
 use Rattle.display.proofs.put.put_fields.Statement.{statement}
 use Rattle.display.proofs.put.put_fields.Tie as tie

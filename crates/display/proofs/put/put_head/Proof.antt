@@ -1,5 +1,5 @@
 use borrow.Author.Needs.{needs}
-use Rattle.display.proofs.OverLaws.{over-at, second-fits, second-room, second-size, second-len, second-out}
+use Rattle.decimal.proofs.OverLaws.{over-at, second-fits, second-room, second-size, second-len, second-out}
 use Rattle.display.proofs.FieldLaws.{head-first, head-is}
 use Rattle.display.proofs.put.put_head.Statement.{statement}
 use Rattle.display.proofs.put.put_head.Tie as tie

@@ -1,7 +1,7 @@
 use borrow.Author.Needs.{needs}
 use native.Mathlib.Omega.{arith}
 use lib.ListN.{length-set}
-use Rattle.display.proofs.OverLaws.{next-len, next-fits, over-next, next-size}
+use Rattle.decimal.proofs.OverLaws.{next-len, next-fits, over-next, next-size}
 use Rattle.display.proofs.put.put_text.Statement.{statement}
 use Rattle.display.proofs.put.put_text.Tie as tie
 

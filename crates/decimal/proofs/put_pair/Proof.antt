@@ -1,7 +1,7 @@
 use borrow.Author.Needs.{needs}
-use Rattle.display.proofs.CountLaws.{pair-first, pair-at, pair-room, pair-fits, pair-len, pair-out}
-use Rattle.display.proofs.put.put_pair.Statement.{statement}
-use Rattle.display.proofs.put.put_pair.Tie as tie
+use Rattle.decimal.proofs.PairLaws.{pair-first, pair-at, pair-room, pair-fits, pair-len, pair-out}
+use Rattle.decimal.proofs.put_pair.Statement.{statement}
+use Rattle.decimal.proofs.put_pair.Tie as tie
 
 pub put-pair-spec : {M : Type 1} → statement M
 put-pair-spec =

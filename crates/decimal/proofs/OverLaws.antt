@@ -4,15 +4,15 @@ use mathlib.Core.Path.{_≡_, refl, sym, ap, _∙_}
 use mathlib.Core.List.{[], _∷_, _++_, append-assoc, append-nil}
 use native.Mathlib.Omega.{arith}
 use lib.ListN.{length, take, drop, set, length-append, length-take, length-drop, length-set}
-use lib.Seq.{take-at, drop-at, drop-drop, take-all}
+use lib.Seq.{take-at, drop-at, drop-drop, take-all, set-append-seam, append-snoc}
 use mir.Val.{Fits}
 use mir.Syntax.{w64}
 use Rattle.model.specs.Bytes.{Bytes}
 use Rattle.model.specs.Answer.{Answer}
 use Rattle.model.specs.Output.{written, outputAfter}
 use Rattle.decimal.specs.Put.{putLen, over}
 use Rattle.decimal.proofs.PutLaws.{written-fits}
-use Rattle.text.proofs.ByteLaws.{drop-end}
+use Rattle.text.proofs.ByteLaws.{drop-end, drop-next}
 
 -- a part up to the end
 pub to-end : (s : Bytes) (a : ℕ) → take (length s - a) (drop a s) ≡ drop a s
@@ -100,3 +100,18 @@ module _ (s done t old : Bytes) (is : s ≡ done ++ t) (room : length s ≤ leng
 
 pub over-at : (old out done : Bytes) (at : ℕ) → out ≡ over done old → at ≡ length done → length done ≤ length old → at ≤ length out
 over-at old out done at e a h = omega (arith, over-size old out done [] [] at e h)
+
+-- one byte after those that stand at the front
+module _ (old out done : Bytes) (n b : ℕ) (held : out ≡ over done old) (upTo : n ≡ length done) (room : n < length old) where
+  last-size : length out ≡ length old
+  last-size = over-size old out done [] [] n held (omega arith)
+
+  pub last-within : n < length out
+  last-within = omega (arith, last-size)
+
+  pub last-kept : length (set out n b) ≡ length old
+  last-kept = length-set out n b ∙ last-size
+
+  pub last-out : set out n b ≡ over (done ++ (b ∷ [])) old
+  unfolding outputAfter
+  last-out = rw (held, upTo, drop-next 0 old (length done) (omega arith), set-append-seam, append-snoc, length-append)

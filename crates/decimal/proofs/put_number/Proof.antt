@@ -1,9 +1,9 @@
 use borrow.Author.Needs.{needs}
 use native.Mathlib.Omega.{arith}
 use lib.ListN.{length-set}
-use Rattle.display.proofs.OverLaws.{next-len, next-fits, over-next, next-size}
-use Rattle.display.proofs.put.put_number.Statement.{statement}
-use Rattle.display.proofs.put.put_number.Tie as tie
+use Rattle.decimal.proofs.OverLaws.{next-len, next-fits, over-next, next-size}
+use Rattle.decimal.proofs.put_number.Statement.{statement}
+use Rattle.decimal.proofs.put_number.Tie as tie
 
 pub put-number-spec : {M : Type 1} → statement M
 put-number-spec =
