@@ -17,7 +17,7 @@ use Rattle.model.specs.Output.{outputAfter}
 use Rattle.model.specs.Calls.{writeAnswer}
 use Rattle.model.specs.Parts.{printLine}
 use Rattle.decimal.specs.Put.{over, pair}
-use Rattle.display.specs.Shape.{ShapeOf, separated, shown, lastLen, lastField, headOf, shapeFields, shapeLine, Fitting}
+use Rattle.display.specs.Shape.{ShapeOf, separated, shown, lastLen, lastField, headOf, most-head, shapeFields, shapeLine, Fitting}
 use Rattle.display.specs.Lines.{counted}
 use Rattle.display.specs.declared.shape.Last.the-variants as L
 use Rattle.display.specs.declared.shape.Shape.{Shape}
@@ -107,18 +107,18 @@ countShape line count = record { kind = Kd.LineData; numbers = numbers line coun
 shaped : (line count : ℕ) → ShapeOf (counted line count) (countShape line count)
 shaped line count = record { kind = refl; few = lit≤ tt; long = lit≤ tt; numbers = refl; last = refl }
 
-fitting : (line count room : ℕ) → 98 ≤ room → Fitting (countShape line count) room true
+fitting : (line count room : ℕ) → most-head ≤ room → Fitting (countShape line count) room true
 unfolding lastLen
 fitting line count room h = fits-any 0 (lit≤ tt) refl h
 
 module _ (line count : ℕ) where
-  pub counted-room : (room : ℕ) → 98 ≤ room → length (whole line count) ≤ room
+  pub counted-room : (room : ℕ) → most-head ≤ room → length (whole line count) ≤ room
   counted-room room h = print-room [] (counted line count) (countShape line count) (shaped line count) true (inside-nothing L.Nothing 0 refl) refl (fitting line count room h) refl
 
-  pub counted-written : (room n : ℕ) → 98 ≤ room → n ≡ length (whole line count) → Written n ≡ writeAnswer (printLine defaultTag [] (counted line count) room)
+  pub counted-written : (room n : ℕ) → most-head ≤ room → n ≡ length (whole line count) → Written n ≡ writeAnswer (printLine defaultTag [] (counted line count) room)
   counted-written room n h e =
       print-written [] (counted line count) (countShape line count) (shaped line count) true (inside-nothing L.Nothing 0 refl) refl (fitting line count room h) refl n e
 
-  pub counted-out : (old out : Bytes) → 98 ≤ length old → out ≡ over (whole line count) old → out ≡ outputAfter (printLine defaultTag [] (counted line count) (length old)) old
+  pub counted-out : (old out : Bytes) → most-head ≤ length old → out ≡ over (whole line count) old → out ≡ outputAfter (printLine defaultTag [] (counted line count) (length old)) old
   counted-out old out h e =
       print-out [] (counted line count) (countShape line count) (shaped line count) true (inside-nothing L.Nothing 0 refl) refl old out (fitting line count (length old) h) refl e

@@ -29,7 +29,7 @@ use Rattle.model.specs.Calls.{writeAnswer}
 use Rattle.model.specs.Parts.{partOf, takenIn, checksumIn, recordIn, printLine}
 use Rattle.decimal.specs.Put.{over}
 use Rattle.decimal.proofs.PutLaws.{written-fits}
-use Rattle.display.specs.Shape.{ShapeOf, separated, shown, lastLen, lastField, inside, sepAfter, headOf, shapeFields, shapeLine, Fitting, neededAt, kindOf, numbersOf, lastOf}
+use Rattle.display.specs.Shape.{ShapeOf, separated, shown, lastLen, lastField, inside, sepAfter, headOf, most-head, shapeFields, shapeLine, Fitting, neededAt, kindOf, numbersOf, lastOf}
 use Rattle.display.specs.Lines.{lineOf, lineIn}
 use Rattle.display.specs.declared.shape.Last.{Last}
 use Rattle.display.specs.declared.shape.Last.the-variants as L
@@ -182,7 +182,7 @@ module _ (t : Bytes) (a : Record) (s : Shape) (w : ShapeOf a s) where
           unfolding written
           short = line-inside t a room (tested-of true yes) ∙ rw (← needed, lt-leb n room too-long)
 
-          pub print-short : (q : Refusal) → n ≤ 98 + lastLen (s .last) → length t * 1 < 2 ^ 63 → q ≡ neededAt OutputTooShort n → Refused q ≡ writeAnswer (printLine defaultTag t a room)
+          pub print-short : (q : Refusal) → n ≤ most-head + lastLen (s .last) → length t * 1 < 2 ^ 63 → q ≡ neededAt OutputTooShort n → Refused q ≡ writeAnswer (printLine defaultTag t a room)
           unfolding writeAnswer
           print-short q few b e =
               let m : min n u64-max ≡ n = omega (arith, last-most b) in

@@ -22,7 +22,7 @@ use Rattle.model.specs.Number.{decimal}
 use Rattle.model.specs.Tags.{defaultTag}
 use Rattle.decimal.specs.Put.{over}
 use Rattle.decimal.proofs.DecimalLaws.{decimal-most}
-use Rattle.display.specs.Shape.{ShapeOf, separated, shown, lastLen, lastField, inside, sepAfter, headOf, shapeFields, shapeLine, Fitting}
+use Rattle.display.specs.Shape.{ShapeOf, separated, shown, lastLen, lastField, inside, sepAfter, headOf, most-head, shapeFields, shapeLine, Fitting}
 use Rattle.display.specs.declared.shape.Last.{Last}
 use Rattle.display.specs.declared.shape.Last.the-variants as L
 use Rattle.display.specs.declared.shape.Shape.{Shape}
@@ -145,7 +145,7 @@ head-most kind count numbers h =
 
 -- whether a line fits
 module _ {s : Shape} {room : ℕ} where
-  pub fits-any : (n : ℕ) → s .count ≤ 4 → n ≡ lastLen (s .last) → 98 + n ≤ room → Fitting s room true
+  pub fits-any : (n : ℕ) → s .count ≤ 4 → n ≡ lastLen (s .last) → most-head + n ≤ room → Fitting s room true
   fits-any n few e h =
       record { is = sym (le-leb (length (headOf (s .kind) (s .numbers) (s .count)) + lastLen (s .last) + 1) room (omega (arith, head-most (s .kind) (s .count) (s .numbers) few))) }
 

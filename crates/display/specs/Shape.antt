@@ -131,6 +131,10 @@ sepAfter count = cond (eqb count 0) 58 44
 unfoldable pub headOf : Kind → List ℕ → ℕ → Bytes
 headOf kind numbers count = defaultTag kind ++ separated 58 (shown numbers count)
 
+-- the tag, four numbers and byte 10 are at most so many bytes
+abbrev pub most-head : ℕ
+most-head = 98
+
 -- all fields of a shape, and its line
 unfoldable pub shapeFields : Bytes → Kind → List ℕ → ℕ → Last → Bytes
 shapeFields t kind numbers count last = headOf kind numbers count ++ separated (sepAfter count) (lastField t last)

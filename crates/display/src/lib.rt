@@ -67,7 +67,7 @@ pub fn print_count(line: u32, count: u64, out: &mut [u8]) -> WriteAnswer
     ensures { λ r. ⌜ r ≡ writeAnswer (printLine defaultTag [] (counted line count) (length (now (out .entry)))) ⌝ }
     ensures { λ _. ⌜ now (out .exit) ≡ outputAfter (printLine defaultTag [] (counted line count) (length (now (out .entry)))) (now (out .entry)) ⌝ }
 {
-    if 98 <= out.len() {
+    if put::MOST_HEAD <= out.len() {
         let n = put::put_count(line as u64, count, out);
         return WriteAnswer::Written(n);
     }

@@ -8,7 +8,7 @@ ghost use Rattle.model.specs.declared.Kind.the-variants as Kd;
 ghost use Rattle.model.specs.Number.{decimal};
 ghost use Rattle.decimal.specs.Put.{over};
 ghost use Rattle.display.specs.declared.shape.Last.the-variants as L;
-ghost use Rattle.display.specs.Shape.{separated, shown, lastLen, lastField, inside, sepAfter, headOf, shapeFields, shapeLine, Fitting};
+ghost use Rattle.display.specs.Shape.{separated, shown, lastLen, lastField, inside, sepAfter, headOf, most-head, shapeFields, shapeLine, Fitting};
 use crate::shape;
 use crate::shape::Last;
 use crate::shape::Shape;
@@ -92,7 +92,7 @@ fn head_len(kind: Kind, numbers: [u64; 4], count: usize) -> usize
 // The length of a shape's line.
 pub fn line_len(shape: Shape) -> usize
     requires { ⌜ (shape .count ≤ 4) × (lastLen (shape .last) ≤ 9223372036854775808) ⌝ }
-    ensures { λ r. ⌜ (r ≡ length (headOf (shape .kind) (shape .numbers) (shape .count)) + lastLen (shape .last) + 1) × (r ≤ 98 + lastLen (shape .last)) ⌝ }
+    ensures { λ r. ⌜ (r ≡ length (headOf (shape .kind) (shape .numbers) (shape .count)) + lastLen (shape .last) + 1) × (r ≤ most-head + lastLen (shape .last)) ⌝ }
 {
     let kind = shape.kind;
     let numbers = shape.numbers;
@@ -100,13 +100,16 @@ pub fn line_len(shape: Shape) -> usize
     head_len(kind, numbers, shape.count) + shape::last_len(last) + 1
 }
 
+// The tag, four numbers and byte 10 are at most so many bytes: `most-head` in specs/Shape.antt.
+pub const MOST_HEAD: usize = 98;
+
 // Whether a shape's line is at most room bytes long. Where any tag and numbers fit, they are not measured.
 pub fn fits(shape: Shape, room: usize) -> bool
     requires { ⌜ (shape .count ≤ 4) × (lastLen (shape .last) ≤ 9223372036854775808) ⌝ }
     ensures { λ r. ⌜ Fitting shape room r ⌝ }
 {
     let last = shape.last;
-    if 98 + shape::last_len(last) <= room {
+    if MOST_HEAD + shape::last_len(last) <= room {
         return true;
     }
     line_len(shape) <= room
