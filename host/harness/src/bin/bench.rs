@@ -474,11 +474,11 @@ fn growth_row(what: &str, times: usize, call: impl Fn(usize)) {
             measured[size].push(one * 1e6);
         }
     }
+    // the machine may change its speed between two rounds: growth is told by what one round has of both
+    let grown = measured[0].iter().zip(&measured[2]);
+    let growth = median(grown.map(|(last, first)| last / first).collect());
     let [last, middle, first] = measured.map(median);
-    println!(
-        "| {what} | {first:.3} | {middle:.3} | {last:.3} | {:.2} |",
-        last / first
-    );
+    println!("| {what} | {first:.3} | {middle:.3} | {last:.3} | {growth:.2} |");
 }
 
 fn report_row(what: &str, rust: impl Fn(), port: impl Fn()) {
