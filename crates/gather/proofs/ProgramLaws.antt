@@ -2,7 +2,8 @@
 use Prim.Native.Nat.{ℕ, _≤_, _<_}
 use mathlib.Core.Path.{_≡_, refl, sym, ap, _∙_}
 use mathlib.Core.List.{_++_}
-use lib.ListN.{length, take, drop}
+use native.Mathlib.Omega.{arith}
+use lib.ListN.{length, drop, length-append}
 use lib.Seq.{take-at}
 use borrow.Author.Tests.{le-leb, lt-leb}
 use Rattle.model.specs.declared.Mode.the-variants.{Checked}
@@ -18,23 +19,31 @@ use Rattle.model.specs.Calls.{writeAnswer}
 use Rattle.model.specs.Tags.{defaultTag}
 use Rattle.model.specs.Gather.{gather, shown, gatherProgram}
 use Rattle.decimal.specs.Put.{over}
+use Rattle.map.proofs.Results.{impossible}
 use Rattle.program.specs.Refused.{refusedLine}
+use Rattle.gather.specs.Front.{Fronts}
 
 -- bytes at the front are the first so many
-front : (s old out : Bytes) (n : ℕ) → n ≡ length s → out ≡ over s old → take n out ≡ s
+front : (s old out : Bytes) (n : ℕ) → n ≡ length s → out ≡ over s old → Fronts n out s
 unfolding outputAfter
-front s old out n e o = rw o (take-at s (drop (length s) old) n (sym e))
+front s old out n e o = rw o (record {
+  within = omega (arith, length-append s (drop (length s) old));
+  is = take-at s (drop (length s) old) n (sym e);
+})
+
+fronts-as : {n : ℕ} {out : Bytes} (s t : Bytes) → s ≡ t → Fronts n out s → Fronts n out t
+fronts-as s t e φ = rw e at φ
 
 module _ (old out : Bytes) (n : ℕ) where
-  written-shown : (a : Answer Bytes) → Written n ≡ writeAnswer a → out ≡ outputAfter a old → take n out ≡ shown a
+  written-shown : (a : Answer Bytes) → Written n ≡ writeAnswer a → out ≡ outputAfter a old → Fronts n out (shown a)
   unfolding writeAnswer shown
   written-shown (accepted bytes) w o = front bytes old out n (cc) o
-  written-shown (refused r) w o = cc
+  written-shown (refused r) w o = impossible cc
 
-  refused-shown : (a : Answer Bytes) (q : Refusal) → Refused q ≡ writeAnswer a → n ≡ length (refusedLine q) → out ≡ over (refusedLine q) old → take n out ≡ shown a
+  refused-shown : (a : Answer Bytes) (q : Refusal) → Refused q ≡ writeAnswer a → n ≡ length (refusedLine q) → out ≡ over (refusedLine q) old → Fronts n out (shown a)
   unfolding writeAnswer
-  refused-shown (accepted bytes) q w e o = cc
-  refused-shown (refused r) q w e o = let z : q ≡ r = cc in front (refusedLine q) old out n e o ∙ ap refusedLine z
+  refused-shown (accepted bytes) q w e o = impossible cc
+  refused-shown (refused r) q w e o = let z : q ≡ r = cc in fronts-as _ _ (ap refusedLine z) (front (refusedLine q) old out n e o)
 
 abbrev answered : Bytes → ℕ → ℕ → Answer Bytes
 answered bundle words room = gather defaultTag Checked bundle words room
@@ -44,19 +53,19 @@ module _ (bundle old : Bytes) (words : ℕ) (scratch : words ≡ program-words) 
   as-lent = rw (scratch, lent)
 
   pub gathered : (out : Bytes) (n : ℕ) (a : WriteAnswer) → a ≡ writeAnswer (answered bundle words (length old)) → out ≡ outputAfter (answered bundle words (length old)) old → a ≡ Written n
-      → take n out ≡ shown (answered bundle program-words program-output)
-  gathered out n a e o w = written-shown old out n (answered bundle words (length old)) (sym w ∙ e) o ∙ ap shown as-lent
+      → Fronts n out (shown (answered bundle program-words program-output))
+  gathered out n a e o w = fronts-as _ _ (ap shown as-lent) (written-shown old out n (answered bundle words (length old)) (sym w ∙ e) o)
 
   pub gather-refused : (mid out : Bytes) (n : ℕ) (a : WriteAnswer) (q : Refusal) → a ≡ writeAnswer (answered bundle words (length old)) → a ≡ Refused q
-      → n ≡ length (refusedLine q) → out ≡ over (refusedLine q) mid → take n out ≡ shown (answered bundle program-words program-output)
-  gather-refused mid out n a q e w l o = refused-shown mid out n (answered bundle words (length old)) q (sym w ∙ e) l o ∙ ap shown as-lent
+      → n ≡ length (refusedLine q) → out ≡ over (refusedLine q) mid → Fronts n out (shown (answered bundle program-words program-output))
+  gather-refused mid out n a q e w l o = fronts-as _ _ (ap shown as-lent) (refused-shown mid out n (answered bundle words (length old)) q (sym w ∙ e) l o)
 
 -- any input
 module _ (input old out : Bytes) (n : ℕ) where
-  pub too-long : (q : Refusal) → program-input < length input → q ≡ unplaced MalformedBundle → n ≡ length (refusedLine q) → out ≡ over (refusedLine q) old → take n out ≡ gatherProgram input
+  pub too-long : (q : Refusal) → program-input < length input → q ≡ unplaced MalformedBundle → n ≡ length (refusedLine q) → out ≡ over (refusedLine q) old → Fronts n out (gatherProgram input)
   unfolding gatherProgram
-  too-long q h e l o = front (refusedLine q) old out n l o ∙ ap refusedLine e ∙ rw (lt-leb (length input) program-input h)
+  too-long q h e l o = fronts-as _ _ (ap refusedLine e ∙ rw (lt-leb (length input) program-input h)) (front (refusedLine q) old out n l o)
 
-  pub short-enough : length input ≤ program-input → take n out ≡ shown (answered input program-words program-output) → take n out ≡ gatherProgram input
+  pub short-enough : length input ≤ program-input → Fronts n out (shown (answered input program-words program-output)) → Fronts n out (gatherProgram input)
   unfolding gatherProgram
-  short-enough h e = e ∙ rw (le-leb (length input) program-input h)
+  short-enough h φ = fronts-as _ _ (rw (le-leb (length input) program-input h)) φ

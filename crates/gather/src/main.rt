@@ -1,12 +1,13 @@
 // The program `gather` (document 01): a bundle on standard input, checked mode, 8,192 words of scratch and 65,536 bytes of output. It prints
 // the joined tracefile, or `refused` with the refusal's number, text, line and field.
 ghost use mathlib.Core.Path.{_≡_};
-ghost use lib.ListN.{length, take};
+ghost use lib.ListN.{length};
 ghost use Rattle.model.specs.declared.Mode.the-variants.{Checked};
 ghost use Rattle.model.specs.Limits.{program-words, program-output};
 ghost use Rattle.model.specs.Tags.{defaultTag};
 ghost use Rattle.model.specs.Gather.{shown, gatherProgram};
 ghost use Rattle.model.specs.Gather.{gather as gatherOf};
+ghost use Rattle.gather.specs.Front.{Fronts};
 use model::Fault;
 use model::WriteAnswer;
 
@@ -20,7 +21,7 @@ const MOST_OUTPUT: usize = lcov::PROGRAM_OUTPUT;
 // What is printed for a bundle comes to the front of out. Answers how many bytes it is.
 fn gather(bundle: &[u8], scratch: &mut [u64], out: &mut [u8]) -> usize
     requires { ⌜ (length (now scratch) ≡ program-words) × (length (now out) ≡ program-output) ⌝ }
-    ensures { λ r. ⌜ take r (now (out .exit)) ≡ shown (gatherOf defaultTag Checked (now (bundle .entry)) program-words program-output) ⌝ }
+    ensures { λ r. ⌜ Fronts r (now (out .exit)) (shown (gatherOf defaultTag Checked (now (bundle .entry)) program-words program-output)) ⌝ }
 {
     match lcov::gather_checked(bundle, scratch, out) {
         WriteAnswer::Written(n) => n,
@@ -31,7 +32,7 @@ fn gather(bundle: &[u8], scratch: &mut [u64], out: &mut [u8]) -> usize
 // The same for any input: one that is too long is no bundle.
 fn answer(input: &[u8], scratch: &mut [u64], out: &mut [u8]) -> usize
     requires { ⌜ (length (now scratch) ≡ program-words) × (length (now out) ≡ program-output) ⌝ }
-    ensures { λ r. ⌜ take r (now (out .exit)) ≡ gatherProgram (now (input .entry)) ⌝ }
+    ensures { λ r. ⌜ Fronts r (now (out .exit)) (gatherProgram (now (input .entry))) ⌝ }
 {
     if MOST_INPUT < input.len() {
         return program::put_refusal(refusal::unplaced(Fault::MalformedBundle), out);
@@ -46,5 +47,5 @@ fn main() {
     let mut out = [0u8; MOST_OUTPUT];
     let n = io::read_full(0, &mut input);
     let len = answer(&input[..n], &mut scratch, &mut out);
-    program::write_first(&out, len);
+    io::write_all(1, &out[..len]);
 }
