@@ -1,4 +1,4 @@
-/* The LCOV gatherer in the C calling form. Link libexports.a, which `rt staticlib exports` writes to target/staticlib/.
+/* The LCOV gatherer in the C calling form. Link liblcov_c.a, which `rt staticlib lcov_c` writes to target/staticlib/.
  *
  * Any bytes and any buffers may be handed in: every call returns. A slice is a pointer and a length; a pointer may be anything where the
  * length is 0. Slices that are written to must not overlap others of the call.

@@ -1,7 +1,7 @@
 #!/usr/bin/env python3
 """Makes the seeded set: asks the oracle the questions of questions.py and writes the answers as the crate `vectors`.
 
-    make.py             writes crates/vectors/specs
+    make.py             writes crates/model_vectors/specs
     make.py --check     writes nothing, and fails if a file there is not what would be written
     make.py --to DIR    writes to another folder
 
@@ -19,7 +19,7 @@ import antt
 import questions
 
 HOST = pathlib.Path(__file__).resolve().parent.parent
-SPECS = HOST.parent / "crates/vectors/specs"
+SPECS = HOST.parent / "crates/model_vectors/specs"
 ORACLE = HOST / "target/release/oracle"
 WIDTH = 140
 
@@ -64,7 +64,7 @@ class Kind:
             *self.extra_uses,
             *(["use Rattle.model.specs.Bytes.{ascii}"] if "ascii " in body else []),
             *self.model_uses,
-            f"use Rattle.vectors.specs.Asked.{{{', '.join(sorted(asked))}}}",
+            f"use Rattle.model_vectors.specs.Asked.{{{', '.join(sorted(asked))}}}",
         ]
 
 

@@ -1,7 +1,7 @@
 #!/usr/bin/env python3
 """Records texts with the Rust's answers, which the program `texts` replays where there is no Rust.
 
-    recorded.py             writes crates/texts/stdin and stdout
+    recorded.py             writes crates/test_texts/stdin and stdout
     recorded.py --check     writes nothing, and fails if a file is not what would be written
 
 The texts are those of questions.py and chosen ones for the entry limit, whose refusals no Rust gives: there line k brings the k-th entry,
@@ -73,8 +73,8 @@ def recorded_texts():
 
 def files():
     stdin, stdout = recorded_texts()
-    yield ROOT / "crates/texts/stdin", stdin
-    yield ROOT / "crates/texts/stdout", stdout
+    yield ROOT / "crates/test_texts/stdin", stdin
+    yield ROOT / "crates/test_texts/stdout", stdout
 
 
 def main():

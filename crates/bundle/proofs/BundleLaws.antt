@@ -13,10 +13,10 @@ use lib.Seq.{drop-cons}
 use Rattle.model.specs.declared.Part.{Part}
 use Rattle.model.specs.Lists.{all, from}
 use Rattle.model.specs.Bytes.{Bytes}
-use Rattle.model.specs.Limits.{u32-max, most-texts}
+use Rattle.model.specs.Limits.{u32-max, max-texts}
 use Rattle.model.specs.Bundle.{u32At, textCount, textBytes, textStart, textLength, wellFormed}
 use Rattle.model.proofs.ListLaws.{and-left, and-right, all-each}
-use Rattle.order.specs.Prefixes.{numberOf, IsNumber}
+use Rattle.compare.specs.Prefixes.{numberOf, IsNumber}
 use Rattle.bundle.specs.Places.{partAt, fitsFrom}
 
 -- four bytes are a little-endian u32
@@ -73,20 +73,20 @@ module _ (s : Bytes) where
   bad-short h = rw (lt-leb 8 (length s) h)
 
   module _ (sized : 8 ≤ length s) (n total : ℕ) (count : n ≡ u32At s 0) (bytes : total ≡ u32At s 4) where
-    pub bad-count : most-texts < n → false ≡ wellFormed s
+    pub bad-count : max-texts < n → false ≡ wellFormed s
     unfolding wellFormed textCount
-    bad-count h = rw (le-leb 8 (length s) sized, ← count, lt-leb n most-texts h)
+    bad-count h = rw (le-leb 8 (length s) sized, ← count, lt-leb n max-texts h)
 
-    module _ (few : n ≤ most-texts) where
+    module _ (few : n ≤ max-texts) where
       pub bad-length : length s ≢ 8 + 8 * n + total → false ≡ wellFormed s
       unfolding wellFormed textCount textBytes
-      bad-length h = rw (le-leb 8 (length s) sized, ← count, ← bytes, le-leb n most-texts few, ne-eqb (length s) (8 + 8 * n + total) h)
+      bad-length h = rw (le-leb 8 (length s) sized, ← count, ← bytes, le-leb n max-texts few, ne-eqb (length s) (8 + 8 * n + total) h)
 
       pub good-if : length s ≡ 8 + 8 * n + total → (r : Bool) → r ≡ fitsFrom s 0 n total → r ≡ wellFormed s
       unfolding wellFormed textCount textBytes fitsFrom
       good-if h r e =
           let all-of : n - 0 ≡ n = omega arith in
-          e ∙ sym (rw (le-leb 8 (length s) sized, ← count, ← bytes, le-leb n most-texts few, eq-eqb (length s) (8 + 8 * n + total) h, all-of))
+          e ∙ sym (rw (le-leb 8 (length s) sized, ← count, ← bytes, le-leb n max-texts few, eq-eqb (length s) (8 + 8 * n + total) h, all-of))
 
 -- ---- what a well-formed bundle says
 
@@ -104,7 +104,7 @@ module _ (s : Bytes) (well : wellFormed s ≡ true) where
   sized = leb 8 (length s)
 
   abbrev few : Bool
-  few = leb (textCount s) most-texts
+  few = leb (textCount s) max-texts
 
   abbrev long : Bool
   long = eqb (length s) (8 + 8 * textCount s + textBytes s)
@@ -125,10 +125,10 @@ module _ (s : Bytes) (well : wellFormed s ≡ true) where
   pub well-sized : 8 ≤ length s
   well-sized = leb-true 8 (length s) (and-left sized few first-two)
 
-  pub well-few : textCount s ≤ most-texts
-  well-few = leb-true (textCount s) most-texts (and-right sized few first-two)
+  pub well-few : textCount s ≤ max-texts
+  well-few = leb-true (textCount s) max-texts (and-right sized few first-two)
 
-  pub counted-few : (n : ℕ) → n ≡ u32At s 0 → n ≤ most-texts
+  pub counted-few : (n : ℕ) → n ≡ u32At s 0 → n ≤ max-texts
   unfolding textCount
   counted-few n e = rw e well-few
 

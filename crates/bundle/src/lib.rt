@@ -4,12 +4,12 @@ ghost use mathlib.Core.Path.{_≡_};
 ghost use mathlib.Core.Bool.{true};
 ghost use Prim.Native.Nat.{_+_, _*_, _≤_, _<_};
 ghost use lib.ListN.{length};
-ghost use Rattle.model.specs.Limits.{u32-max, most-texts};
+ghost use Rattle.model.specs.Limits.{u32-max, max-texts};
 ghost use Rattle.model.specs.Bundle.{u32At, textCount, textStart, textLength, wellFormed};
 ghost use Rattle.bundle.specs.Places.{partAt, fitsFrom};
 
-// "n at most 64": `most-texts` in model/specs/Limits.antt.
-const MOST_TEXTS: usize = 64;
+// "n at most 64": `max-texts` in model/specs/Limits.antt.
+const MAX_TEXTS: usize = 64;
 
 // The sizes n and T.
 const SIZES: usize = 8;
@@ -19,7 +19,7 @@ fn u32_at(bundle: &[u8], at: usize) -> usize
     requires { ⌜ at + 4 ≤ length (now bundle) ⌝ }
     ensures { λ r. ⌜ (r ≡ u32At (now (bundle .entry)) at) × (r ≤ u32-max) ⌝ }
 {
-    order::quad(bundle, at) as usize
+    compare::quad(bundle, at) as usize
 }
 
 fn text_start(bundle: &[u8], i: usize) -> usize
@@ -61,7 +61,7 @@ pub fn is_well_formed(bundle: &[u8]) -> bool
     }
     let n = u32_at(bundle, 0);
     let total = u32_at(bundle, 4);
-    if MOST_TEXTS < n {
+    if MAX_TEXTS < n {
         return false;
     }
     if bundle.len() != SIZES + 8 * n + total {
@@ -73,7 +73,7 @@ pub fn is_well_formed(bundle: &[u8]) -> bool
 // The number of texts.
 pub fn text_count(bundle: &[u8]) -> usize
     requires { ⌜ wellFormed (now bundle) ≡ true ⌝ }
-    ensures { λ r. ⌜ (r ≡ textCount (now (bundle .entry))) × (r ≤ most-texts) ⌝ }
+    ensures { λ r. ⌜ (r ≡ textCount (now (bundle .entry))) × (r ≤ max-texts) ⌝ }
 {
     u32_at(bundle, 0)
 }

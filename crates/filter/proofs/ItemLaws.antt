@@ -11,22 +11,22 @@ use lib.ListN.{length}
 use borrow.Author.Tests.{ne-eqb}
 use mir.Val as Val
 use mir.Syntax.{w32}
-use Rattle.store.specs.declared.Row.{Row}
-use Rattle.store.specs.Places.{listed}
-use Rattle.store.specs.Rows.{row-words, word, rowAt}
-use Rattle.store.proofs.PlaceLaws.{by-eq}
+use Rattle.table.specs.declared.Row.{Row}
+use Rattle.table.specs.Places.{tabulate}
+use Rattle.table.specs.Rows.{row-words, word, rowAt}
+use Rattle.table.proofs.PlaceLaws.{by-eq}
 use Rattle.model.specs.Bytes.{Bytes}
 use Rattle.model.specs.Limits.{u32-max}
 use Rattle.model.specs.Report.{sectionItem, startOf}
 use Rattle.model.specs.declared.Range.{Range}
 use Rattle.model.specs.Ranges.{holds}
 use Rattle.model.specs.Filter.{lineOf, isHeld, startLine, hasStart, endBefore}
-use Rattle.model.specs.Valid.{Fits}
-use Rattle.items.specs.Items.{itemOf}
-use Rattle.sorting.specs.Sorting.{itemsBy}
-use Rattle.emit.specs.Emit.{Printable}
-use Rattle.emit.proofs.LentLaws.{item}
-use Rattle.emit.proofs.PassLaws.{part-printable}
+use Rattle.model.specs.Valid.{ItemFits}
+use Rattle.table_item.specs.Items.{itemOf}
+use Rattle.print_sort.specs.Sorting.{itemsBy}
+use Rattle.print_rows.specs.Emit.{Printable}
+use Rattle.print_rows.proofs.LentLaws.{item}
+use Rattle.print_rows.proofs.PassLaws.{part-printable}
 use Rattle.filter.specs.declared.Rule.{Rule}
 use Rattle.filter.specs.declared.Rule.the-variants.{Started, Held, UntilNext}
 use Rattle.filter.specs.Keeping.{keeps}
@@ -78,11 +78,11 @@ module _ (text : Bytes) (row : Row) where
       go (suc (suc zero)) m f = refl
       go (suc (suc (suc k))) m f = refl
 
-  pub line-fits : 4 ≤ row .tag → Fits (itemOf text row) → Val.Fits w32 (row .k1)
+  pub line-fits : 4 ≤ row .tag → ItemFits (itemOf text row) → Val.Fits w32 (row .k1)
   unfolding itemOf
   line-fits h f = record { fits = omega (arith, go (row .tag / 2) (row .tag % 2) (omega arith) f) }
     where
-      go : (k m : ℕ) → 2 ≤ k → Fits (item text row k m) → row .k1 ≤ u32-max
+      go : (k m : ℕ) → 2 ≤ k → ItemFits (item text row k m) → row .k1 ≤ u32-max
       go zero m f i = absurd (omega arith)
       go (suc zero) m f i = absurd (omega arith)
       go (suc (suc zero)) m f i = i .0
@@ -92,11 +92,11 @@ module _ (text : Bytes) (row : Row) where
 
 module _ (text ws : List ℕ) (next n : ℕ) where
   pub end-last : n ≡ 0 → u32-max ≡ endBefore (itemsBy text ws next n)
-  unfolding listed endBefore
+  unfolding tabulate endBefore
   end-last e = rw e
 
   pub end-first : n ≢ 0 → endBefore (itemsBy text ws next n) ≡ startLine (itemOf text (rowAt ws (word ws next))) - 1
-  unfolding listed endBefore
+  unfolding tabulate endBefore
   end-first e = go n refl
     where
       go : (m : ℕ) → n ≡ m → endBefore (itemsBy text ws next m) ≡ startLine (itemOf text (rowAt ws (word ws next))) - 1
@@ -119,7 +119,7 @@ module _ {text ws : List ℕ} {at n : ℕ} (π : Printable text ws at n) (some :
   pub first-inside : word ws at * row-words + row-words ≤ length ws
   first-inside = let e : at + 0 ≡ at = add-zero at in rw e at (π .numbered .inside 0 some)
 
-  pub first-fits : (r : Row) → r ≡ rowAt ws (word ws at) → Fits (itemOf text r)
+  pub first-fits : (r : Row) → r ≡ rowAt ws (word ws at) → ItemFits (itemOf text r)
   first-fits r is = let e : at + 0 ≡ at = add-zero at in rw is (rw e at (π .fits 0 some))
 
   pub next-printable : Printable text ws (at + 1) (n - 1)

@@ -7,28 +7,28 @@ use mathlib.Core.Bool.{Bool, true, false}
 use mathlib.Core.List.{List, [], _∷_, _++_, append-assoc, append-nil}
 use lib.ListN.{length, set, length-set}
 use lib.Seq.{getD-set-same, getD-set-other}
-use Rattle.store.specs.Places.{listed}
-use Rattle.store.specs.Rows.{row-words, word, rowAt}
-use Rattle.store.proofs.PlaceLaws.{by-eq}
-use Rattle.store.proofs.ListedLaws.{listed-cong, listed-split}
-use Rattle.store.proofs.WordLaws.{row-cong}
+use Rattle.table.specs.Places.{tabulate}
+use Rattle.table.specs.Rows.{row-words, word, rowAt}
+use Rattle.table.proofs.PlaceLaws.{by-eq}
+use Rattle.table.proofs.TabulateLaws.{tabulate-cong, tabulate-split}
+use Rattle.table.proofs.WordLaws.{row-cong}
 use Rattle.model.specs.declared.Range.{Range}
 use Rattle.model.specs.Order.{if_then_else_}
 use Rattle.model.specs.Bytes.{Bytes}
-use Rattle.model.specs.Lists.{select}
+use Rattle.model.specs.Lists.{filter}
 use Rattle.model.specs.Report.{Item}
 use Rattle.model.specs.Filter.{heldFunctions}
-use Rattle.items.specs.Items.{itemOf}
-use Rattle.sorting.specs.Sorting.{itemsBy}
-use Rattle.printing.specs.Printing.{Spared}
-use Rattle.printing.proofs.TableLaws.{spared-none, spared-both}
+use Rattle.table_item.specs.Items.{itemOf}
+use Rattle.print_sort.specs.Sorting.{itemsBy}
+use Rattle.print_report.specs.Printing.{UnchangedBefore}
+use Rattle.print_report.proofs.TableLaws.{spared-none, spared-both}
 use Rattle.filter.specs.declared.Rule.{Rule}
 use Rattle.filter.specs.declared.Rule.the-variants.{Started, Held, UntilNext}
 use Rattle.filter.specs.Keeping.{chosen, keeps, Behind, Chosen}
 
 -- ---- rows and numbers where the words before p stay
 
-module _ {ws ws′ : List ℕ} {p : ℕ} (σ : Spared ws ws′ p) where
+module _ {ws ws′ : List ℕ} {p : ℕ} (σ : UnchangedBefore ws ws′ p) where
   row-before : (v : ℕ) → v * row-words + row-words ≤ p → rowAt ws′ v ≡ rowAt ws v
   row-before v h = row-cong ws′ ws (v * row-words) (v * row-words) (λ k l. σ .kept (v * row-words + k) (omega arith))
 
@@ -58,7 +58,7 @@ module _ {ws ws′ : List ℕ} {p : ℕ} (σ : Spared ws ws′ p) where
     pub items-of : (to m i : ℕ) → i + m ≤ n → ((k : ℕ) → k < m → word ws′ (to + k) ≡ word ws (from + (i + k)))
         → itemsBy text ws′ to m ≡ itemsBy text ws (from + i) m
     items-of to m i h e =
-        listed-cong (λ k. itemOf text (rowAt ws′ (word ws′ (to + k)))) (λ k. itemOf text (rowAt ws (word ws (from + i + k)))) m
+        tabulate-cong (λ k. itemOf text (rowAt ws′ (word ws′ (to + k)))) (λ k. itemOf text (rowAt ws (word ws (from + i + k)))) m
         (λ k l. item-of (to + k) (i + k) (omega arith) (e k l)
         ∙ ap (λ (j : ℕ). itemOf text (rowAt ws (word ws j))) (let z : from + (i + k) ≡ from + i + k = omega arith in z))
 
@@ -66,43 +66,43 @@ module _ {ws ws′ : List ℕ} {p : ℕ} (σ : Spared ws ws′ p) where
 
 chosen-cons : (rule : Rule) (ranges : List Range) (x : Item) (l : List Item)
     → chosen rule ranges (x ∷ l) ≡ if keeps rule ranges x l then x ∷ chosen rule ranges l else chosen rule ranges l
-unfolding select heldFunctions
+unfolding filter heldFunctions
 chosen-cons Started ranges x l = refl
 chosen-cons Held ranges x l = refl
 chosen-cons UntilNext ranges x l = refl
 
 chosen-none : (rule : Rule) (ranges : List Range) → chosen rule ranges [] ≡ []
-unfolding select heldFunctions
+unfolding filter heldFunctions
 chosen-none Started ranges = refl
 chosen-none Held ranges = refl
 chosen-none UntilNext ranges = refl
 
 items-cons : (text ws : List ℕ) (at n : ℕ) → 0 < n → itemsBy text ws at n ≡ itemOf text (rowAt ws (word ws at)) ∷ itemsBy text ws (at + 1) (n - 1)
-unfolding listed
+unfolding tabulate
 items-cons text ws at n h =
     ap (itemsBy text ws at) (let e : n ≡ suc (n - 1) = omega arith in e)
     ∙ ap₂ (λ (x : Item) (t : List Item). x ∷ t)
     (ap (λ (j : ℕ). itemOf text (rowAt ws (word ws j))) (add-zero at))
-    (listed-cong (λ k. itemOf text (rowAt ws (word ws (at + suc k)))) (λ k. itemOf text (rowAt ws (word ws (at + 1 + k)))) (n - 1)
+    (tabulate-cong (λ k. itemOf text (rowAt ws (word ws (at + suc k)))) (λ k. itemOf text (rowAt ws (word ws (at + 1 + k)))) (n - 1)
     (λ k l. ap (λ (j : ℕ). itemOf text (rowAt ws (word ws j))) (let e : at + suc k ≡ at + 1 + k = omega arith in e)))
 
 items-last : (text ws : List ℕ) (at n : ℕ) → itemsBy text ws at (n + 1) ≡ itemsBy text ws at n ++ itemOf text (rowAt ws (word ws (at + n))) ∷ []
-unfolding listed
+unfolding tabulate
 items-last text ws at n =
-    listed-split (λ k. itemOf text (rowAt ws (word ws (at + k)))) n 1
+    tabulate-split (λ k. itemOf text (rowAt ws (word ws (at + k)))) n 1
     ∙ ap (λ (j : ℕ). itemsBy text ws at n ++ itemOf text (rowAt ws (word ws (at + j))) ∷ []) (add-zero n)
 
 -- of the n numbers from word `numbers` on, those of the first i are looked at, and r of them stay
 pub record Keeping (rule : Rule) (ranges : List Range) (ws₀ ws : List ℕ) (numbers n i r : ℕ) : Type 0 where
   pub places : (r ≤ i) × (i ≤ n)
-  pub spared : Spared ws₀ ws numbers
+  pub spared : UnchangedBefore ws₀ ws numbers
   pub rest : (k : ℕ) → i ≤ k → k < n → word ws (numbers + k) ≡ word ws₀ (numbers + k)
   pub each : (k : ℕ) → k < r → (m : ℕ) × (m < n) × (word ws (numbers + k) ≡ word ws₀ (numbers + m))
   pub are : (text : Bytes) → Behind text ws₀ numbers n
       → itemsBy text ws numbers r ++ chosen rule ranges (itemsBy text ws₀ (numbers + i) (n - i)) ≡ chosen rule ranges (itemsBy text ws₀ numbers n)
 
 pub keep-start : (rule : Rule) (ranges : List Range) (ws : List ℕ) (numbers n : ℕ) → Keeping rule ranges ws ws numbers n 0 0
-unfolding listed
+unfolding tabulate
 keep-start rule ranges ws numbers n = record {
   places = (omega arith, omega arith);
   spared = spared-none;
@@ -173,7 +173,7 @@ module _ {rule : Rule} {ranges : List Range} {ws₀ ws : List ℕ} {numbers n i 
       stored-other : (j : ℕ) → j < numbers + r → word stored j ≡ word ws j
       stored-other j h = getD-set-other ws (numbers + r) j (word ws (numbers + i)) 0 (omega arith)
 
-      stored-spared : (p : ℕ) → p ≤ numbers + r → Spared ws stored p
+      stored-spared : (p : ℕ) → p ≤ numbers + r → UnchangedBefore ws stored p
       stored-spared p h = record { words = length-set ws (numbers + r) (word ws (numbers + i)); kept = λ j l. stored-other j (omega arith) }
 
       stored-there : word stored (numbers + r) ≡ word ws (numbers + i)
@@ -211,7 +211,7 @@ module _ {rule : Rule} {ranges : List Range} {ws₀ ws : List ℕ} {numbers n i 
 
   -- all are looked at
   pub keep-done : n ≤ i → Chosen (chosen rule ranges) ws₀ ws numbers n numbers r
-  unfolding listed
+  unfolding tabulate
   keep-done h = record {
     most = omega (arith, κ .places);
     spared = κ .spared;

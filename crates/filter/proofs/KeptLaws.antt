@@ -4,17 +4,17 @@ use mathlib.Core.Path.{refl, sym}
 use mathlib.Core.Bool.{Bool}
 use mathlib.Core.List.{List, [], _∷_, _++_, append-nil}
 use lib.ListN.{length}
-use Rattle.store.specs.declared.Row.{Row}
+use Rattle.table.specs.declared.Row.{Row}
 use Rattle.model.specs.Bytes.{Bytes}
 use Rattle.model.specs.Limits.{u64-max}
 use Rattle.model.specs.Record.{endOfRecord}
 use Rattle.model.specs.Tags.{defaultTag}
 use Rattle.model.specs.Printing.{printRecords}
-use Rattle.items.specs.Items.{branch-kind, line-kind}
-use Rattle.sorting.specs.Sorting.{itemsBy}
-use Rattle.emit.specs.Emit.{RoomFor, Emitted}
-use Rattle.printing.specs.Printing.{headLines, functionLines, groupLines}
-use Rattle.printing.proofs.GoingLaws.{Going, going-start, going-room, going-next, going-done}
+use Rattle.table_item.specs.Items.{branch-kind, line-kind}
+use Rattle.print_sort.specs.Sorting.{itemsBy}
+use Rattle.print_rows.specs.Emit.{RoomFor, Emitted}
+use Rattle.print_report.specs.Printing.{headLines, functionLines, groupLines}
+use Rattle.print_report.proofs.GoingLaws.{Going, going-start, going-room, going-next, going-done}
 use Rattle.filter.specs.declared.Kept.{Kept}
 use Rattle.filter.specs.Filtered.{keptLines}
 

@@ -4,43 +4,43 @@ use native.Mathlib.Omega.{arith}
 use mathlib.Core.Path.{_≡_, refl, sym, ap, ap₂, _∙_}
 use mathlib.Core.Bool.{Bool, true, false}
 use mathlib.Core.List.{List, [], _∷_, _++_, map, append-assoc, append-nil}
-use Rattle.map.proofs.Results.{impossible}
-use Rattle.store.specs.declared.Row.{Row}
-use Rattle.store.specs.Store.{row}
+use Rattle.ordmap.proofs.Results.{impossible}
+use Rattle.table.specs.declared.Row.{Row}
+use Rattle.table.specs.Store.{row}
 use Rattle.model.specs.declared.Range.{Range}
 use Rattle.model.specs.Order.{if_then_else_}
 use Rattle.model.specs.Bytes.{Bytes}
-use Rattle.model.specs.Lists.{select, sort, each}
+use Rattle.model.specs.Lists.{filter, sort, concatMap}
 use Rattle.model.specs.Record.{endOfRecord}
 use Rattle.model.specs.Report.{Item, sectionItem, functionItem, branchItem, lineItem, Report, compareItems}
 use Rattle.model.specs.Tags.{defaultTag}
 use Rattle.model.specs.Printing.{Section, isFunction, isBranch, isLine, functionsOf, sections, comparePrinted, printRecords, printSections}
 use Rattle.model.specs.Filter.{isHeld, hasStart, filterItems, filterSection}
 use Rattle.model.proofs.ListLaws.{All, all-map, all-select, all-sort, select-all, select-none, select-append}
-use Rattle.items.specs.Items.{kindOf, branch-kind, line-kind}
-use Rattle.items.specs.Open.{itemsAt}
-use Rattle.emit.specs.Emit.{RoomFor, Emitted}
-use Rattle.emit.proofs.EmitLaws.{room-first}
-use Rattle.printing.specs.declared.Runs.{Runs}
-use Rattle.printing.specs.Printing.{entriesFrom, Spacious, RunsOf, SectionPrinted, headLines, functionLines, groupLines}
-use Rattle.printing.proofs.KindLaws.{next-own}
-use Rattle.printing.proofs.SplitLaws.{sectionLines, lines-of, items, items-functions, items-branches, items-lines, sectionAt, sections-at}
-use Rattle.printing.proofs.TableLaws.{entries-kept}
-use Rattle.printing.proofs.LoopLaws.{Prints, entries-none}
+use Rattle.table_item.specs.Items.{kindOf, branch-kind, line-kind}
+use Rattle.table_item.specs.SortedItems.{itemsAt}
+use Rattle.print_rows.specs.Emit.{RoomFor, Emitted}
+use Rattle.print_rows.proofs.EmitLaws.{room-first}
+use Rattle.print_report.specs.declared.KindRanges.{KindRanges}
+use Rattle.print_report.specs.Printing.{entriesFrom, PrintableTable, AreKindRanges, SectionPrinted, headLines, functionLines, groupLines}
+use Rattle.print_report.proofs.KindLaws.{next-header}
+use Rattle.print_report.proofs.SplitLaws.{sectionLines, lines-of, items, items-functions, items-branches, items-lines, sectionAt, sections-at}
+use Rattle.print_report.proofs.TableLaws.{entries-kept}
+use Rattle.print_report.proofs.LoopLaws.{Prints, entries-none}
 use Rattle.filter.specs.declared.Kept.{Kept}
-use Rattle.filter.specs.Filtered.{filteredFrom, functionsLeft, KeptRows, Ready, keptLines}
+use Rattle.filter.specs.Filtered.{filteredFrom, functionsLeft, KeptRows, SectionPrintable, keptLines}
 use Rattle.filter.proofs.ResortLaws.{all-held, printed-again}
 
 -- ---- items by kind
 
 -- those selected pass
-passing : (test : Item → Bool) (l : List Item) → All (λ i. test i ≡ true) (select test l)
-unfolding select
+passing : (test : Item → Bool) (l : List Item) → All (λ i. test i ≡ true) (filter test l)
+unfolding filter
 passing test [] = tt
 passing test (x ∷ l) = go (test x) refl (passing test l)
   where
-    go : (t : Bool) → test x ≡ t → All (λ i. test i ≡ true) (select test l) → All (λ i. test i ≡ true)
-        (if t then x ∷ select test l else select test l)
+    go : (t : Bool) → test x ≡ t → All (λ i. test i ≡ true) (filter test l) → All (λ i. test i ≡ true)
+        (if t then x ∷ filter test l else filter test l)
     go true e h = (e, h)
     go false e h = h
 
@@ -78,16 +78,16 @@ excludes-back {a} {b} x i h = go (a i) refl
 
 -- ---- what is left of a section's items
 
-module _ (ranges : List Range) (its fs bs ls : List Item) (F : select isFunction its ≡ fs) (B : select isBranch its ≡ bs)
-    (L : select isLine its ≡ ls) where
+module _ (ranges : List Range) (its fs bs ls : List Item) (F : filter isFunction its ≡ fs) (B : filter isBranch its ≡ bs)
+    (L : filter isLine its ≡ ls) where
   abbrev functions : List Item
   functions = sort compareItems (functionsLeft ranges fs)
 
   abbrev branches : List Item
-  branches = select (isHeld ranges) bs
+  branches = filter (isHeld ranges) bs
 
   abbrev lines : List Item
-  lines = select (isHeld ranges) ls
+  lines = filter (isHeld ranges) ls
 
   filter-is : filterItems ranges its ≡ functions ++ branches ++ lines
   unfolding filterItems functionsOf
@@ -99,7 +99,7 @@ module _ (ranges : List Range) (its fs bs ls : List Item) (F : select isFunction
   all-functions : All (λ i. isFunction i ≡ true) functions
   all-functions =
       all-sort (λ i. isFunction i ≡ true) compareItems (functionsLeft ranges fs)
-      (all-held (λ i. isFunction i ≡ true) ranges (select hasStart (sort comparePrinted fs))
+      (all-held (λ i. isFunction i ≡ true) ranges (filter hasStart (sort comparePrinted fs))
       (all-select (λ i. isFunction i ≡ true) hasStart (sort comparePrinted fs) (all-sort (λ i. isFunction i ≡ true) comparePrinted fs all-fs)))
 
   all-branches : All (λ i. isBranch i ≡ true) branches
@@ -108,18 +108,18 @@ module _ (ranges : List Range) (its fs bs ls : List Item) (F : select isFunction
   all-lines : All (λ i. isLine i ≡ true) lines
   all-lines = all-select (λ i. isLine i ≡ true) (isHeld ranges) ls (rw L at (passing isLine its))
 
-  kind-in : (test : Item → Bool) (l : List Item) → All (λ i. test i ≡ true) l → select test l ≡ l
+  kind-in : (test : Item → Bool) (l : List Item) → All (λ i. test i ≡ true) l → filter test l ≡ l
   kind-in test l h = select-all test l h
 
-  kind-out : (test kind : Item → Bool) → Excludes kind test → (l : List Item) → All (λ i. kind i ≡ true) l → select test l ≡ []
+  kind-out : (test kind : Item → Bool) → Excludes kind test → (l : List Item) → All (λ i. kind i ≡ true) l → filter test l ≡ []
   kind-out test kind x l h = select-none test l (all-map (λ i. kind i ≡ true) (λ i. test i ≡ false) x l h)
 
-  select-parts : (test : Item → Bool) → select test (filterItems ranges its) ≡ select test functions ++ select test branches ++ select test lines
+  select-parts : (test : Item → Bool) → filter test (filterItems ranges its) ≡ filter test functions ++ filter test branches ++ filter test lines
   select-parts test =
-      ap (select test) filter-is ∙ select-append test (functions ++ branches) lines
-      ∙ ap (λ (l : List Item). l ++ select test lines) (select-append test functions branches)
+      ap (filter test) filter-is ∙ select-append test (functions ++ branches) lines
+      ∙ ap (λ (l : List Item). l ++ filter test lines) (select-append test functions branches)
 
-  functions-left : select isFunction (filterItems ranges its) ≡ functions
+  functions-left : filter isFunction (filterItems ranges its) ≡ functions
   functions-left =
       select-parts isFunction
       ∙ rw (
@@ -128,7 +128,7 @@ module _ (ranges : List Range) (its fs bs ls : List Item) (F : select isFunction
         kind-out isFunction isLine (excludes-back function-line) lines all-lines,
       ) (append-nil (functions ++ []) ∙ append-nil functions)
 
-  branches-left : select isBranch (filterItems ranges its) ≡ branches
+  branches-left : filter isBranch (filterItems ranges its) ≡ branches
   branches-left =
       select-parts isBranch
       ∙ rw (
@@ -137,7 +137,7 @@ module _ (ranges : List Range) (its fs bs ls : List Item) (F : select isFunction
         kind-out isBranch isLine (excludes-back branch-line) lines all-lines,
       ) (append-nil branches)
 
-  lines-left : select isLine (filterItems ranges its) ≡ lines
+  lines-left : filter isLine (filterItems ranges its) ≡ lines
   lines-left =
       select-parts isLine
       ∙ rw (
@@ -153,19 +153,19 @@ module _ (ranges : List Range) (its fs bs ls : List Item) (F : select isFunction
   unfolding filterSection
   filtered-lines s e rest =
       lines-of (filterSection ranges s) functions branches lines rest
-      (ap (λ (l : List Item). select isFunction (filterItems ranges l)) e ∙ functions-left)
-      (ap (λ (l : List Item). select isBranch (filterItems ranges l)) e ∙ branches-left)
-      (ap (λ (l : List Item). select isLine (filterItems ranges l)) e ∙ lines-left)
+      (ap (λ (l : List Item). filter isFunction (filterItems ranges l)) e ∙ functions-left)
+      (ap (λ (l : List Item). filter isBranch (filterItems ranges l)) e ∙ branches-left)
+      (ap (λ (l : List Item). filter isLine (filterItems ranges l)) e ∙ lines-left)
 
   left-again : sort comparePrinted functions ≡ functionsLeft ranges fs
   left-again = printed-again ranges fs all-fs
 
 -- ---- the section at a place
 
-module _ {text ws ws′ : List ℕ} {index used n lo spare : ℕ} {own : Row} {r : Runs} {kept : Kept} (π : Spacious text ws index used n spare)
-    (more : lo < n) (kind : kindOf (row ws index lo) ≡ 0) (is : own ≡ row ws index lo) (ρ : RunsOf ws index n (lo + 1) r) (ranges : List Range)
+module _ {text ws ws′ : List ℕ} {index used n lo spare : ℕ} {own : Row} {r : KindRanges} {kept : Kept} (π : PrintableTable text ws index used n spare)
+    (more : lo < n) (kind : kindOf (row ws index lo) ≡ 0) (is : own ≡ row ws index lo) (ρ : AreKindRanges ws index n (lo + 1) r) (ranges : List Range)
     (κ : KeptRows ranges text ws ws′ index (lo + 1) spare r kept) where
-  pub section-ready : Ready text ws′ own spare kept
+  pub section-ready : SectionPrintable text ws′ own spare kept
   section-ready = record {
     named = rw is (π .table .whole lo more .named);
     functions = κ .functions .rows .printable;
@@ -192,26 +192,26 @@ module _ {text ws ws′ : List ℕ} {index used n lo spare : ℕ} {own : Row} {r
   lines-of-items : filteredFrom ranges text index n ws lo
       ≡ headLines text own
       ++ (functionLines (functionsLeft ranges fs)
-      ++ (groupLines branch-kind (select (isHeld ranges) bs) ++ (groupLines line-kind (select (isHeld ranges) ls) ++ (end ++ rest))))
+      ++ (groupLines branch-kind (filter (isHeld ranges) bs) ++ (groupLines line-kind (filter (isHeld ranges) ls) ++ (end ++ rest))))
   lines-of-items =
       ap (λ (l : List Section). printSections defaultTag (map (filterSection ranges) l))
       (sections-at (π .table) kind more (ρ .functions) (ρ .branches) (ρ .lines))
       ∙ filtered-lines ranges its fs bs ls F B L (sectionAt (π .table) kind more (ρ .functions) (ρ .branches) (ρ .lines)) refl
       (map (filterSection ranges) (sections (entriesFrom text ws index n (r .lines))))
       ∙ ap₂ (λ (o : Row) (l : List Item). headLines text o ++ (functionLines l
-      ++ (groupLines branch-kind (select (isHeld ranges) bs) ++ (groupLines line-kind (select (isHeld ranges) ls) ++ (end ++ rest)))))
+      ++ (groupLines branch-kind (filter (isHeld ranges) bs) ++ (groupLines line-kind (filter (isHeld ranges) ls) ++ (end ++ rest)))))
       (sym is) (left-again ranges its fs bs ls F B L)
     where
       its : List Item
       its = items (π .table) kind more (ρ .functions) (ρ .branches) (ρ .lines)
 
-      F : select isFunction its ≡ fs
+      F : filter isFunction its ≡ fs
       F = items-functions (π .table) kind more (ρ .functions) (ρ .branches) (ρ .lines)
 
-      B : select isBranch its ≡ bs
+      B : filter isBranch its ≡ bs
       B = items-branches (π .table) kind more (ρ .functions) (ρ .branches) (ρ .lines)
 
-      L : select isLine its ≡ ls
+      L : filter isLine its ≡ ls
       L = items-lines (π .table) kind more (ρ .functions) (ρ .branches) (ρ .lines)
 
   regroup : (a b c d e f : Bytes) → a ++ (b ++ (c ++ (d ++ (e ++ f)))) ≡ (a ++ (b ++ (c ++ (d ++ e)))) ++ f
@@ -220,14 +220,14 @@ module _ {text ws ws′ : List ℕ} {index used n lo spare : ℕ} {own : Row} {r
   kept-is : keptLines text ws′ own spare kept
       ≡ headLines text own
       ++ (functionLines (functionsLeft ranges fs)
-      ++ (groupLines branch-kind (select (isHeld ranges) bs) ++ (groupLines line-kind (select (isHeld ranges) ls) ++ end)))
+      ++ (groupLines branch-kind (filter (isHeld ranges) bs) ++ (groupLines line-kind (filter (isHeld ranges) ls) ++ end)))
   kept-is = rw (κ .functions .are, κ .branches .are, κ .lines .are)
 
   pub section-first : filteredFrom ranges text index n ws lo ≡ keptLines text ws′ own spare kept ++ rest
   section-first =
       lines-of-items
-      ∙ regroup (headLines text own) (functionLines (functionsLeft ranges fs)) (groupLines branch-kind (select (isHeld ranges) bs))
-      (groupLines line-kind (select (isHeld ranges) ls)) end rest
+      ∙ regroup (headLines text own) (functionLines (functionsLeft ranges fs)) (groupLines branch-kind (filter (isHeld ranges) bs))
+      (groupLines line-kind (filter (isHeld ranges) ls)) end rest
       ∙ ap (λ (t : Bytes). t ++ rest) (sym kept-is)
 
   pub section-room : (write : Bool) (out : Bytes) (at : ℕ) → RoomFor write out at (filteredFrom ranges text index n ws lo)
@@ -242,15 +242,15 @@ module _ {text ws ws′ : List ℕ} {index used n lo spare : ℕ} {own : Row} {r
     emitted = ε;
     more = omega (arith, ρ .functions .least, ρ .branches .least, ρ .lines .least);
     most = ρ .lines .most;
-    own = next-own (π .table) (omega arith) (ρ .functions) (ρ .branches) (ρ .lines);
+    own = next-header (π .table) (omega arith) (ρ .functions) (ρ .branches) (ρ .lines);
     spared = κ .spared;
   }
 
 -- ---- all sections
 
-pub filtered-prints : (ranges : List Range) {text ws : List ℕ} {index used n spare : ℕ} → Spacious text ws index used n spare
+pub filtered-prints : (ranges : List Range) {text ws : List ℕ} {index used n spare : ℕ} → PrintableTable text ws index used n spare
     → Prints (filteredFrom ranges text index n) ws n spare
-unfolding printSections printRecords sections each
+unfolding printSections printRecords sections concatMap
 filtered-prints ranges π = record {
   same = λ ws′ σ lo. ap (λ (e : Report). printSections defaultTag (map (filterSection ranges) (sections e))) (entries-kept π σ lo);
   none = λ lo h. ap (λ (e : Report). printSections defaultTag (map (filterSection ranges) (sections e))) (entries-none π lo h);

@@ -7,57 +7,57 @@ use mathlib.Core.List.{List, [], _∷_, _++_, map}
 use lib.ListN.{length, length-append}
 use Rattle.model.specs.declared.Range.{Range}
 use Rattle.model.specs.Order.{if_then_else_}
-use Rattle.model.specs.Lists.{select, sort, each}
+use Rattle.model.specs.Lists.{filter, sort, concatMap}
 use Rattle.model.specs.Ranges.{holds}
 use Rattle.model.specs.Report.{Item, Report, compareItems}
 use Rattle.model.specs.Tags.{defaultTag}
 use Rattle.model.specs.Printing.{isFunction, isBranch, isLine, functionsOf, comparePrinted, sections, printSections}
 use Rattle.model.specs.Filter.{isHeld, startLine, hasStart, endBefore, heldFunctions, filterItems, filterSection}
 use Rattle.model.proofs.ListLaws.{each-append}
-use Rattle.closing.specs.Sections.{entriesAt}
-use Rattle.bounding.specs.Bounding.{itemLines, reportMost}
-use Rattle.bounding.proofs.EachLaws.{sort-each, select-each-most, kinds-each}
-use Rattle.bounding.proofs.ReportLaws.{Thins, thinned-most}
-use Rattle.printing.specs.Printing.{Spacious}
-use Rattle.printing.proofs.LoopLaws.{entries-all}
-use Rattle.printing.proofs.BoundLaws.{entries-few}
+use Rattle.table_section.specs.Sections.{entriesAt}
+use Rattle.print_bound.specs.Bound.{itemLines, reportMost}
+use Rattle.print_bound.proofs.EachLaws.{sort-each, select-each-max, kinds-each}
+use Rattle.print_bound.proofs.ReportLaws.{Thins, thinned-max}
+use Rattle.print_report.specs.Printing.{PrintableTable}
+use Rattle.print_report.proofs.LoopLaws.{entries-all}
+use Rattle.print_report.proofs.BoundLaws.{entries-few}
 use Rattle.filter.specs.Filtered.{filteredFrom}
 
-held-each-most : {B : Type 0} (f : Item → List B) (ranges : List Range) (l : List Item) → length (each f (heldFunctions ranges l)) ≤ length (each f l)
-unfolding each heldFunctions
+held-each-most : {B : Type 0} (f : Item → List B) (ranges : List Range) (l : List Item) → length (concatMap f (heldFunctions ranges l)) ≤ length (concatMap f l)
+unfolding concatMap heldFunctions
 held-each-most f ranges [] = omega arith
 held-each-most f ranges (x ∷ xs) = go (holds ranges (startLine x) (endBefore xs)) (held-each-most f ranges xs)
   where
-    go : (b : Bool) → length (each f (heldFunctions ranges xs)) ≤ length (each f xs)
-        → length (each f (if b then x ∷ heldFunctions ranges xs else heldFunctions ranges xs)) ≤ length (f x ++ each f xs)
-    go true h = omega (arith, length-append (f x) (each f (heldFunctions ranges xs)), length-append (f x) (each f xs))
-    go false h = omega (arith, length-append (f x) (each f xs))
+    go : (b : Bool) → length (concatMap f (heldFunctions ranges xs)) ≤ length (concatMap f xs)
+        → length (concatMap f (if b then x ∷ heldFunctions ranges xs else heldFunctions ranges xs)) ≤ length (f x ++ concatMap f xs)
+    go true h = omega (arith, length-append (f x) (concatMap f (heldFunctions ranges xs)), length-append (f x) (concatMap f xs))
+    go false h = omega (arith, length-append (f x) (concatMap f xs))
 
 module _ {B : Type 0} (f : Item → List B) (ranges : List Range) where
-  three-each : (a b c : List Item) → length (each f (a ++ b ++ c)) ≡ length (each f a) + length (each f b) + length (each f c)
+  three-each : (a b c : List Item) → length (concatMap f (a ++ b ++ c)) ≡ length (concatMap f a) + length (concatMap f b) + length (concatMap f c)
   three-each a b c = simp (each-append, length-append)
 
-  items-each-most : (items : List Item) → length (each f (filterItems ranges items)) ≤ length (each f items)
+  items-each-most : (items : List Item) → length (concatMap f (filterItems ranges items)) ≤ length (concatMap f items)
   unfolding filterItems functionsOf
   items-each-most items =
-      let fs = select isFunction items in
-      let bs = select isBranch items in
-      let ls = select isLine items in
-      let started = select hasStart (sort comparePrinted fs) in
+      let fs = filter isFunction items in
+      let bs = filter isBranch items in
+      let ls = filter isLine items in
+      let started = filter hasStart (sort comparePrinted fs) in
       omega (
         arith,
-        three-each (sort compareItems (heldFunctions ranges started)) (select (isHeld ranges) bs) (select (isHeld ranges) ls),
+        three-each (sort compareItems (heldFunctions ranges started)) (filter (isHeld ranges) bs) (filter (isHeld ranges) ls),
         sort-each f compareItems (heldFunctions ranges started),
         held-each-most f ranges started,
-        select-each-most f hasStart (sort comparePrinted fs),
+        select-each-max f hasStart (sort comparePrinted fs),
         sort-each f comparePrinted fs,
-        select-each-most f (isHeld ranges) bs,
-        select-each-most f (isHeld ranges) ls,
+        select-each-max f (isHeld ranges) bs,
+        select-each-max f (isHeld ranges) ls,
         kinds-each f items,
       )
 
-each-one : (l : List Item) → each (λ x. x ∷ []) l ≡ l
-unfolding each
+each-one : (l : List Item) → concatMap (λ x. x ∷ []) l ≡ l
+unfolding concatMap
 each-one [] = refl
 each-one (x ∷ xs) = ap (λ (t : List Item). x ∷ t) (each-one xs)
 
@@ -75,11 +75,11 @@ thins ranges = record {
   lines = λ s. items-each-most itemLines ranges (s .items);
 }
 
-pub filtered-most : {text ws : List ℕ} {index used n spare : ℕ} (ranges : List Range) → Spacious text ws index used n spare
+pub filtered-most : {text ws : List ℕ} {index used n spare : ℕ} (ranges : List Range) → PrintableTable text ws index used n spare
     → length (filteredFrom ranges text index n ws 0) ≤ reportMost (entriesAt text ws index n)
 filtered-most {text} {ws} {index} {n = n} ranges π =
     omega (
       arith,
-      thinned-most (filterSection ranges) (thins ranges) (entriesAt text ws index n) (entries-few π),
+      thinned-max (filterSection ranges) (thins ranges) (entriesAt text ws index n) (entries-few π),
       ap (λ (r : Report). length (printSections defaultTag (map (filterSection ranges) (sections r)))) (entries-all text ws index n),
     )

@@ -2,23 +2,23 @@
 use Prim.Native.Nat.{ℕ, _+_, _-_, _≤_}
 use mathlib.Core.Path.{_≡_}
 use mathlib.Core.List.{List, [], _∷_, _++_, map}
-use Rattle.store.specs.declared.Row.{Row}
+use Rattle.table.specs.declared.Row.{Row}
 use Rattle.model.specs.declared.Range.{Range}
 use Rattle.model.specs.Bytes.{Bytes}
-use Rattle.model.specs.Limits.{most-entries}
-use Rattle.model.specs.Lists.{select, sort}
+use Rattle.model.specs.Limits.{max-entries}
+use Rattle.model.specs.Lists.{filter, sort}
 use Rattle.model.specs.Record.{endOfRecord}
 use Rattle.model.specs.Report.{Item}
 use Rattle.model.specs.Tags.{defaultTag}
 use Rattle.model.specs.Printing.{sections, comparePrinted, printRecords, printSections}
 use Rattle.model.specs.Filter.{isHeld, hasStart, heldFunctions, filterSection}
-use Rattle.items.specs.Items.{branch-kind, line-kind}
-use Rattle.items.specs.Open.{itemsAt}
-use Rattle.closing.specs.Sections.{Named}
-use Rattle.sorting.specs.Sorting.{itemsBy}
-use Rattle.emit.specs.Emit.{Printable}
-use Rattle.printing.specs.declared.Runs.{Runs}
-use Rattle.printing.specs.Printing.{entriesFrom, Spared, headLines, functionLines, groupLines}
+use Rattle.table_item.specs.Items.{branch-kind, line-kind}
+use Rattle.table_item.specs.SortedItems.{itemsAt}
+use Rattle.table_section.specs.Sections.{NamesInBounds}
+use Rattle.print_sort.specs.Sorting.{itemsBy}
+use Rattle.print_rows.specs.Emit.{Printable}
+use Rattle.print_report.specs.declared.KindRanges.{KindRanges}
+use Rattle.print_report.specs.Printing.{entriesFrom, UnchangedBefore, headLines, functionLines, groupLines}
 use Rattle.filter.specs.declared.Kept.{Kept}
 use Rattle.filter.specs.Keeping.{Behind}
 
@@ -30,28 +30,28 @@ filteredFrom ranges text index n ws lo = printSections defaultTag (map (filterSe
 pub record Holding (text ws : List ℕ) (numbers n : ℕ) (items : List Item) : Type 0 where
   pub rows : Behind text ws numbers n
   pub are : itemsBy text ws numbers n ≡ items
-  pub few : n ≤ most-entries
+  pub few : n ≤ max-entries
 
 -- the functions that stay, in printing order
 abbrev pub functionsLeft : List Range → List Item → List Item
-functionsLeft ranges items = heldFunctions ranges (select hasStart (sort comparePrinted items))
+functionsLeft ranges items = heldFunctions ranges (filter hasStart (sort comparePrinted items))
 
 -- what stays of the runs of a section's functions, branches and lines: numbers in the spare words, one run behind the other
-pub record KeptRows (ranges : List Range) (text ws ws′ : List ℕ) (index from spare : ℕ) (runs : Runs) (r : Kept) : Type 0 where
+pub record KeptRows (ranges : List Range) (text ws ws′ : List ℕ) (index from spare : ℕ) (runs : KindRanges) (r : Kept) : Type 0 where
   pub functions : Holding text ws′ spare (r .functions) (functionsLeft ranges (itemsAt text ws index from (runs .functions - from)))
   pub branches : Holding text ws′ (spare + r .functions) (r .branches)
-      (select (isHeld ranges) (itemsAt text ws index (runs .functions) (runs .branches - runs .functions)))
+      (filter (isHeld ranges) (itemsAt text ws index (runs .functions) (runs .branches - runs .functions)))
   pub lines : Holding text ws′ (spare + r .functions + r .branches) (r .lines)
-      (select (isHeld ranges) (itemsAt text ws index (runs .branches) (runs .lines - runs .branches)))
-  pub spared : Spared ws ws′ spare
+      (filter (isHeld ranges) (itemsAt text ws index (runs .branches) (runs .lines - runs .branches)))
+  pub spared : UnchangedBefore ws ws′ spare
 
 -- a section's own row, and the rows of what stays, can be printed
-pub record Ready (text ws : List ℕ) (own : Row) (numbers : ℕ) (r : Kept) : Type 0 where
-  pub named : Named text own
+pub record SectionPrintable (text ws : List ℕ) (own : Row) (numbers : ℕ) (r : Kept) : Type 0 where
+  pub named : NamesInBounds text own
   pub functions : Printable text ws numbers (r .functions)
   pub branches : Printable text ws (numbers + r .functions) (r .branches)
   pub lines : Printable text ws (numbers + r .functions + r .branches) (r .lines)
-  pub few : (r .functions ≤ most-entries) × (r .branches ≤ most-entries) × (r .lines ≤ most-entries)
+  pub few : (r .functions ≤ max-entries) × (r .branches ≤ max-entries) × (r .lines ≤ max-entries)
 
 -- the lines of what stays
 abbrev pub keptLines : Bytes → List ℕ → Row → ℕ → Kept → Bytes

@@ -3,23 +3,23 @@ use Prim.Native.Nat.{ℕ, _+_, _*_, _≤_, _<_}
 use mathlib.Core.Path.{_≡_}
 use mathlib.Core.Bool.{Bool}
 use mathlib.Core.List.{List}
-use Rattle.store.specs.Rows.{row-words, word}
+use Rattle.table.specs.Rows.{row-words, word}
 use Rattle.model.specs.declared.Range.{Range}
 use Rattle.model.specs.Bytes.{Bytes}
-use Rattle.model.specs.Lists.{select}
+use Rattle.model.specs.Lists.{filter}
 use Rattle.model.specs.Report.{Item}
 use Rattle.model.specs.Ranges.{holds}
 use Rattle.model.specs.Filter.{isHeld, hasStart, startLine, endBefore, heldFunctions}
-use Rattle.sorting.specs.Sorting.{itemsBy}
-use Rattle.emit.specs.Emit.{Printable}
-use Rattle.printing.specs.Printing.{Spared}
+use Rattle.print_sort.specs.Sorting.{itemsBy}
+use Rattle.print_rows.specs.Emit.{Printable}
+use Rattle.print_report.specs.Printing.{UnchangedBefore}
 use Rattle.filter.specs.declared.Rule.{Rule}
 use Rattle.filter.specs.declared.Rule.the-variants.{Started, Held, UntilNext}
 
 -- the items that stay by a rule
 abbrev pub chosen : Rule → List Range → List Item → List Item
-chosen Started ranges items = select hasStart items
-chosen Held ranges items = select (isHeld ranges) items
+chosen Started ranges items = filter hasStart items
+chosen Held ranges items = filter (isHeld ranges) items
 chosen UntilNext ranges items = heldFunctions ranges items
 
 -- whether an item stays, given those behind it
@@ -36,6 +36,6 @@ pub record Behind (text ws : List ℕ) (numbers n : ℕ) : Type 0 where
 -- of the n rows whose numbers stand from word `from` on, r are chosen: their numbers stand from word `to` on, and the words before stay
 pub record Chosen (choose : List Item → List Item) (ws ws′ : List ℕ) (from n to r : ℕ) : Type 0 where
   pub most : r ≤ n
-  pub spared : Spared ws ws′ to
+  pub spared : UnchangedBefore ws ws′ to
   pub rows : (text : Bytes) → Behind text ws from n → Behind text ws′ to r
   pub are : (text : Bytes) → Behind text ws from n → itemsBy text ws′ to r ≡ choose (itemsBy text ws from n)

@@ -1,35 +1,35 @@
 // A filtered report printed: `LineNum::apply` (document 01, "Filter"). Rows and index stay: of each section, the row numbers of what stays
 // are put into the spare words, and the section is printed from there.
 use model::WriteAnswer;
-use printing::Printed;
-use printing::Runs;
-use store::Row;
+use print_report::KindRanges;
+use print_report::Printed;
+use table::Row;
 ghost use mathlib.Core.Path.{_≡_};
 ghost use mathlib.Core.Bool.{true};
 ghost use mathlib.Core.List.{List, map};
 ghost use Prim.Native.Nat.{ℕ, _+_, _-_, _≤_, _<_};
 ghost use lib.ListN.{length, take};
-ghost use Rattle.store.specs.Rows.{word, rowAt};
-ghost use Rattle.store.specs.Store.{row};
+ghost use Rattle.table.specs.Rows.{word, rowAt};
+ghost use Rattle.table.specs.Store.{row};
 ghost use Rattle.model.specs.Calls.{writeAnswer};
 ghost use Rattle.model.specs.Filter.{lineOf, isHeld, startLine, hasStart, endBefore, filterSection};
-ghost use Rattle.model.specs.Limits.{most-entries};
-ghost use Rattle.model.specs.Lists.{select};
+ghost use Rattle.model.specs.Limits.{max-entries};
+ghost use Rattle.model.specs.Lists.{filter};
 ghost use Rattle.model.specs.Output.{written, outputAfter};
 ghost use Rattle.model.specs.Printing.{sections, printSections};
 ghost use Rattle.model.specs.Ranges.{wellFormedRanges};
 ghost use Rattle.model.specs.Tags.{defaultTag};
-ghost use Rattle.model.specs.Valid.{Fits};
-ghost use Rattle.items.specs.Items.{kindOf, itemOf};
-ghost use Rattle.items.specs.Open.{itemsAt};
-ghost use Rattle.closing.specs.Sections.{entriesAt};
+ghost use Rattle.model.specs.Valid.{ItemFits};
+ghost use Rattle.table_item.specs.Items.{kindOf, itemOf};
+ghost use Rattle.table_item.specs.SortedItems.{itemsAt};
+ghost use Rattle.table_section.specs.Sections.{entriesAt};
 ghost use Rattle.section.specs.Table.{Table};
-ghost use Rattle.sorting.specs.Sorting.{itemsBy};
-ghost use Rattle.emit.specs.Emit.{RoomFor, Emitted, Printable};
-ghost use Rattle.printing.specs.Printing.{Spacious, Spared, RunsOf, FunctionRows, SectionPrinted, Enough};
-ghost use Rattle.line_num.specs.Pairs.{rangesIn};
+ghost use Rattle.print_sort.specs.Sorting.{itemsBy};
+ghost use Rattle.print_rows.specs.Emit.{RoomFor, Emitted, Printable};
+ghost use Rattle.print_report.specs.Printing.{PrintableTable, UnchangedBefore, AreKindRanges, FunctionRows, SectionPrinted, RequiredLength};
+ghost use Rattle.line_num_pairs.specs.Pairs.{rangesIn};
 ghost use Rattle.filter.specs.Keeping.{chosen, keeps, Behind, Chosen};
-ghost use Rattle.filter.specs.Filtered.{filteredFrom, Holding, functionsLeft, KeptRows, Ready, keptLines};
+ghost use Rattle.filter.specs.Filtered.{filteredFrom, Holding, functionsLeft, KeptRows, SectionPrintable, keptLines};
 
 // What a row must meet to stay: a function that has a start; a branch or line whose line is held; a function whose range, up to the next
 // one's start, queries yes.
@@ -42,14 +42,14 @@ enum Rule {
 fn has_start(row: Row) -> bool
     ensures { λ r. ⌜ ((text : List ℕ) → r ≡ hasStart (itemOf text row)) ⌝ }
 {
-    row.tag == items::FUNCTION * 2 + 1
+    row.tag == table_item::FUNCTION * 2 + 1
 }
 
 fn start_line(row: Row) -> u32
-    requires { ⌜ ((text : List ℕ) × Fits (itemOf text row)) ⌝ }
+    requires { ⌜ ((text : List ℕ) × ItemFits (itemOf text row)) ⌝ }
     ensures { λ r. ⌜ ((text : List ℕ) → r ≡ startLine (itemOf text row)) ⌝ }
 {
-    if row.tag != items::FUNCTION * 2 + 1 {
+    if row.tag != table_item::FUNCTION * 2 + 1 {
         return 0;
     }
     row.k3 as u32
@@ -57,10 +57,10 @@ fn start_line(row: Row) -> u32
 
 // The line of a branch or line.
 fn line_of(row: Row) -> u32
-    requires { ⌜ ((text : List ℕ) × Fits (itemOf text row)) ⌝ }
+    requires { ⌜ ((text : List ℕ) × ItemFits (itemOf text row)) ⌝ }
     ensures { λ r. ⌜ ((text : List ℕ) → r ≡ lineOf (itemOf text row)) ⌝ }
 {
-    if row.tag < items::BRANCH * 2 {
+    if row.tag < table_item::BRANCH * 2 {
         return 0;
     }
     row.k1 as u32
@@ -76,7 +76,7 @@ fn end_before(words: &[u64], next: usize, n: usize) -> u32
         return u32::MAX;
     }
     let j = words[next] as usize;
-    let start = start_line(store::read_row(words, j));
+    let start = start_line(table::read_row(words, j));
     if start == 0 {
         return 0;
     }
@@ -90,16 +90,16 @@ fn stays(words: &[u64], pairs: &[[u32; 2]], count: usize, at: usize, n: usize, r
     ensures { λ r. ⌜ ((text : List ℕ) → r ≡ keeps rule (take count (rangesIn (now (pairs .entry)))) (itemOf text (rowAt (now (words .entry)) (word (now (words .entry)) at))) (itemsBy text (now (words .entry)) (at + 1) (n - 1))) ⌝ }
 {
     let j = words[at] as usize;
-    let row = store::read_row(words, j);
+    let row = table::read_row(words, j);
     match rule {
         Rule::Started => has_start(row),
         Rule::Held => {
             let line = line_of(row);
-            line_num::holds_at(pairs, count, line, line)
+            line_num_pairs::holds_at(pairs, count, line, line)
         }
         Rule::UntilNext => {
             let end = end_before(words, at + 1, n - 1);
-            line_num::holds_at(pairs, count, start_line(row), end)
+            line_num_pairs::holds_at(pairs, count, start_line(row), end)
         }
     }
 }
@@ -142,9 +142,9 @@ fn keep_held(
 ) -> usize
     requires { ⌜ ((text : List ℕ) × Behind text (now words) from n) ⌝ }
     requires { ⌜ (from + n ≤ to) × (to + n ≤ length (now words)) × (wellFormedRanges (rangesIn (now pairs)) count ≡ true) ⌝ }
-    ensures { λ r. ⌜ Chosen (select (isHeld (take count (rangesIn (now (pairs .entry)))))) (now (words .entry)) (now (words .exit)) from n to r ⌝ }
+    ensures { λ r. ⌜ Chosen (filter (isHeld (take count (rangesIn (now (pairs .entry)))))) (now (words .entry)) (now (words .exit)) from n to r ⌝ }
 {
-    store::move_down(words, from, to, n);
+    table::copy_forward(words, from, to, n);
     keep(words, pairs, count, to, n, Rule::Held)
 }
 
@@ -163,9 +163,9 @@ fn keep_functions(
     requires { ⌜ FunctionRows (now text) (now words) index used from n spare × (wellFormedRanges (rangesIn (now pairs)) count ≡ true) ⌝ }
     ensures most { λ r. ⌜ r ≤ n ⌝ }
     ensures rows { λ r. ⌜ Holding (now (text .entry)) (now (words .exit)) spare r (functionsLeft (take count (rangesIn (now (pairs .entry)))) (itemsAt (now (text .entry)) (now (words .entry)) index from n)) ⌝ }
-    ensures spared { λ _. ⌜ Spared (now (words .entry)) (now (words .exit)) spare ⌝ }
+    ensures spared { λ _. ⌜ UnchangedBefore (now (words .entry)) (now (words .exit)) spare ⌝ }
 {
-    sorting::sort_functions(text, words, index, used, from, n, spare);
+    print_sort::sort_functions(text, words, index, used, from, n, spare);
     let started = keep(words, pairs, count, spare, n, Rule::Started);
     keep(words, pairs, count, spare, started, Rule::UntilNext)
 }
@@ -188,10 +188,10 @@ fn keep_rows(
     used: usize,
     n: usize,
     from: usize,
-    runs: Runs,
+    runs: KindRanges,
     spare: usize,
 ) -> Kept
-    requires { ⌜ Spacious (now text) (now words) index used n spare × RunsOf (now words) index n from runs × (wellFormedRanges (rangesIn (now pairs)) count ≡ true) ⌝ }
+    requires { ⌜ PrintableTable (now text) (now words) index used n spare × AreKindRanges (now words) index n from runs × (wellFormedRanges (rangesIn (now pairs)) count ≡ true) ⌝ }
     ensures { λ r. ⌜ KeptRows (take count (rangesIn (now (pairs .entry)))) (now (text .entry)) (now (words .entry)) (now (words .exit)) index from spare runs r ⌝ }
 {
     let f = runs.functions;
@@ -230,7 +230,7 @@ fn print_kept(
     at: usize,
     write: bool,
 ) -> usize
-    requires { ⌜ Ready (now text) (now words) own numbers kept ⌝ }
+    requires { ⌜ SectionPrintable (now text) (now words) own numbers kept ⌝ }
     requires { ⌜ RoomFor write (now out) at (keptLines (now text) (now words) own numbers kept) ⌝ }
     ensures { λ r. ⌜ Emitted write (now (out .entry)) (now (out .exit)) at (keptLines (now (text .entry)) (now (words .entry)) own numbers kept) r ⌝ }
 {
@@ -239,11 +239,29 @@ fn print_kept(
     let l = kept.lines;
     let first = numbers + f;
     let then = first + b;
-    let start = emit::emit_head(text, own, out, at, write);
-    let functions = printing::print_numbered(text, words, numbers, f, out, start, write);
-    let branches = emit::emit_group(text, words, items::BRANCH, first, b, out, functions, write);
-    let lines = emit::emit_group(text, words, items::LINE, then, l, out, branches, write);
-    emit::emit_end(text, out, lines, write)
+    let start = print_rows::emit_head(text, own, out, at, write);
+    let functions = print_report::print_numbered(text, words, numbers, f, out, start, write);
+    let branches = print_rows::emit_group(
+        text,
+        words,
+        table_item::BRANCH,
+        first,
+        b,
+        out,
+        functions,
+        write,
+    );
+    let lines = print_rows::emit_group(
+        text,
+        words,
+        table_item::LINE,
+        then,
+        l,
+        out,
+        branches,
+        write,
+    );
+    print_rows::emit_end(text, out, lines, write)
 }
 
 // The section whose own row stands at place lo.
@@ -261,12 +279,12 @@ fn filter_section(
     at: usize,
     write: bool,
 ) -> Printed
-    requires { ⌜ Spacious (now text) (now words) index used n spare × (lo < n) × (kindOf (row (now words) index lo) ≡ 0) ⌝ }
+    requires { ⌜ PrintableTable (now text) (now words) index used n spare × (lo < n) × (kindOf (row (now words) index lo) ≡ 0) ⌝ }
     requires { ⌜ (wellFormedRanges (rangesIn (now pairs)) count ≡ true) × RoomFor write (now out) at (filteredFrom (take count (rangesIn (now pairs))) (now text) index n (now words) lo) ⌝ }
     ensures { λ r. ⌜ SectionPrinted (filteredFrom (take count (rangesIn (now (pairs .entry)))) (now (text .entry)) index n) write (now (words .entry)) (now (words .exit)) (now (out .entry)) (now (out .exit)) index n lo spare at r ⌝ }
 {
-    let own = store::get(words, index, used, lo);
-    let runs = printing::find_runs(words, index, used, n, lo + 1);
+    let own = table::get(words, index, used, lo);
+    let runs = print_report::find_kind_ranges(words, index, used, n, lo + 1);
     let next = runs.lines;
     let kept = keep_rows(
         text,
@@ -297,10 +315,10 @@ fn filter_sections(
     out: &mut [u8],
     write: bool,
 ) -> usize
-    requires { ⌜ Spacious (now text) (now words) index used n spare ⌝ }
+    requires { ⌜ PrintableTable (now text) (now words) index used n spare ⌝ }
     requires { ⌜ (wellFormedRanges (rangesIn (now pairs)) count ≡ true) × RoomFor write (now out) 0 (filteredFrom (take count (rangesIn (now pairs))) (now text) index n (now words) 0) ⌝ }
     ensures { λ r. ⌜ Emitted write (now (out .entry)) (now (out .exit)) 0 (filteredFrom (take count (rangesIn (now (pairs .entry)))) (now (text .entry)) index n (now (words .entry)) 0) r ⌝ }
-    ensures { λ _. ⌜ Spared (now (words .entry)) (now (words .exit)) spare ⌝ }
+    ensures { λ _. ⌜ UnchangedBefore (now (words .entry)) (now (words .exit)) spare ⌝ }
 {
     let mut lo = 0;
     let mut at = 0;
@@ -325,8 +343,8 @@ fn filter_sections(
     at
 }
 
-// A length that is enough for the filtered report, as `printing::enough`: where all of the report fits, so does what stays of it.
-fn enough(
+// A length that is enough for the filtered report, as `print_report::required_len`: where all of the report fits, so does what stays of it.
+fn required_len(
     text: &[u8],
     words: &mut [u64],
     pairs: &[[u32; 2]],
@@ -337,17 +355,17 @@ fn enough(
     spare: usize,
     out: &mut [u8],
 ) -> usize
-    requires { ⌜ Spacious (now text) (now words) index used n spare × (wellFormedRanges (rangesIn (now pairs)) count ≡ true) ⌝ }
-    ensures { λ r. ⌜ Enough (now (out .entry)) (now (out .exit)) (filteredFrom (take count (rangesIn (now (pairs .entry)))) (now (text .entry)) index n (now (words .entry)) 0) r ⌝ }
-    ensures { λ _. ⌜ Spared (now (words .entry)) (now (words .exit)) spare ⌝ }
+    requires { ⌜ PrintableTable (now text) (now words) index used n spare × (wellFormedRanges (rangesIn (now pairs)) count ≡ true) ⌝ }
+    ensures { λ r. ⌜ RequiredLength (now (out .entry)) (now (out .exit)) (filteredFrom (take count (rangesIn (now (pairs .entry)))) (now (text .entry)) index n (now (words .entry)) 0) r ⌝ }
+    ensures { λ _. ⌜ UnchangedBefore (now (words .entry)) (now (words .exit)) spare ⌝ }
 {
-    if bounding::is_roomy(words, index, used, n, out.len()) {
+    if print_bound::surely_fits(words, index, used, n, out.len()) {
         return 0;
     }
     filter_sections(text, words, pairs, count, index, used, n, spare, out, false)
 }
 
-// Prints the report of the first n rows, filtered by the first `count` pairs; the output and `spare` as for `printing::print_report`.
+// Prints the report of the first n rows, filtered by the first `count` pairs; the output and `spare` as for `print_report::print_report`.
 pub fn print_filtered(
     text: &[u8],
     words: &mut [u64],
@@ -359,14 +377,14 @@ pub fn print_filtered(
     spare: usize,
     out: &mut [u8],
 ) -> WriteAnswer
-    requires { ⌜ Table (now text) (now words) index used n × (n ≤ most-entries) × (wellFormedRanges (rangesIn (now pairs)) count ≡ true) ⌝ }
+    requires { ⌜ Table (now text) (now words) index used n × (n ≤ max-entries) × (wellFormedRanges (rangesIn (now pairs)) count ≡ true) ⌝ }
     requires { ⌜ (index + used ≤ spare) × (spare + n + n ≤ length (now words)) ⌝ }
     ensures { λ r. ⌜ r ≡ writeAnswer (written (length (now (out .entry))) (printSections defaultTag (map (filterSection (take count (rangesIn (now (pairs .entry))))) (sections (entriesAt (now (text .entry)) (now (words .entry)) index n))))) ⌝ }
     ensures { λ _. ⌜ now (out .exit) ≡ outputAfter (written (length (now (out .entry))) (printSections defaultTag (map (filterSection (take count (rangesIn (now (pairs .entry))))) (sections (entriesAt (now (text .entry)) (now (words .entry)) index n))))) (now (out .entry)) ⌝ }
 {
-    let needed = enough(text, words, pairs, count, index, used, n, spare, out);
+    let needed = required_len(text, words, pairs, count, index, used, n, spare, out);
     if out.len() < needed {
-        return printing::too_short(needed);
+        return print_report::too_short(needed);
     }
     let len = filter_sections(text, words, pairs, count, index, used, n, spare, out, true);
     WriteAnswer::Written(len)

@@ -17,10 +17,10 @@ use Rattle.model.specs.Limits.{program-input, program-words, program-output}
 use Rattle.model.specs.Output.{outputAfter}
 use Rattle.model.specs.Calls.{writeAnswer}
 use Rattle.model.specs.Tags.{defaultTag}
-use Rattle.model.specs.Gather.{gather, shown, gatherProgram}
-use Rattle.decimal.specs.Put.{over}
-use Rattle.map.proofs.Results.{impossible}
-use Rattle.program.specs.Refused.{refusedLine}
+use Rattle.model.specs.Gather.{gather, printedAnswer, gatherProgram}
+use Rattle.format.specs.Put.{over}
+use Rattle.ordmap.proofs.Results.{impossible}
+use Rattle.program_io.specs.Refused.{refusedLine}
 use Rattle.gather.specs.Front.{Fronts}
 
 -- bytes at the front are the first so many
@@ -35,12 +35,12 @@ fronts-as : {n : ℕ} {out : Bytes} (s t : Bytes) → s ≡ t → Fronts n out s
 fronts-as s t e φ = rw e at φ
 
 module _ (old out : Bytes) (n : ℕ) where
-  written-shown : (a : Answer Bytes) → Written n ≡ writeAnswer a → out ≡ outputAfter a old → Fronts n out (shown a)
-  unfolding writeAnswer shown
+  written-shown : (a : Answer Bytes) → Written n ≡ writeAnswer a → out ≡ outputAfter a old → Fronts n out (printedAnswer a)
+  unfolding writeAnswer printedAnswer
   written-shown (accepted bytes) w o = front bytes old out n (cc) o
   written-shown (refused r) w o = impossible cc
 
-  refused-shown : (a : Answer Bytes) (q : Refusal) → Refused q ≡ writeAnswer a → n ≡ length (refusedLine q) → out ≡ over (refusedLine q) old → Fronts n out (shown a)
+  refused-shown : (a : Answer Bytes) (q : Refusal) → Refused q ≡ writeAnswer a → n ≡ length (refusedLine q) → out ≡ over (refusedLine q) old → Fronts n out (printedAnswer a)
   unfolding writeAnswer
   refused-shown (accepted bytes) q w e o = impossible cc
   refused-shown (refused r) q w e o = let z : q ≡ r = cc in fronts-as _ _ (ap refusedLine z) (front (refusedLine q) old out n e o)
@@ -53,12 +53,12 @@ module _ (bundle old : Bytes) (words : ℕ) (scratch : words ≡ program-words) 
   as-lent = rw (scratch, lent)
 
   pub gathered : (out : Bytes) (n : ℕ) (a : WriteAnswer) → a ≡ writeAnswer (answered bundle words (length old)) → out ≡ outputAfter (answered bundle words (length old)) old → a ≡ Written n
-      → Fronts n out (shown (answered bundle program-words program-output))
-  gathered out n a e o w = fronts-as _ _ (ap shown as-lent) (written-shown old out n (answered bundle words (length old)) (sym w ∙ e) o)
+      → Fronts n out (printedAnswer (answered bundle program-words program-output))
+  gathered out n a e o w = fronts-as _ _ (ap printedAnswer as-lent) (written-shown old out n (answered bundle words (length old)) (sym w ∙ e) o)
 
   pub gather-refused : (mid out : Bytes) (n : ℕ) (a : WriteAnswer) (q : Refusal) → a ≡ writeAnswer (answered bundle words (length old)) → a ≡ Refused q
-      → n ≡ length (refusedLine q) → out ≡ over (refusedLine q) mid → Fronts n out (shown (answered bundle program-words program-output))
-  gather-refused mid out n a q e w l o = fronts-as _ _ (ap shown as-lent) (refused-shown mid out n (answered bundle words (length old)) q (sym w ∙ e) l o)
+      → n ≡ length (refusedLine q) → out ≡ over (refusedLine q) mid → Fronts n out (printedAnswer (answered bundle program-words program-output))
+  gather-refused mid out n a q e w l o = fronts-as _ _ (ap printedAnswer as-lent) (refused-shown mid out n (answered bundle words (length old)) q (sym w ∙ e) l o)
 
 -- any input
 module _ (input old out : Bytes) (n : ℕ) where
@@ -66,6 +66,6 @@ module _ (input old out : Bytes) (n : ℕ) where
   unfolding gatherProgram
   too-long q h e l o = fronts-as _ _ (ap refusedLine e ∙ rw (lt-leb (length input) program-input h)) (front (refusedLine q) old out n l o)
 
-  pub short-enough : length input ≤ program-input → Fronts n out (shown (answered input program-words program-output)) → Fronts n out (gatherProgram input)
+  pub short-enough : length input ≤ program-input → Fronts n out (printedAnswer (answered input program-words program-output)) → Fronts n out (gatherProgram input)
   unfolding gatherProgram
   short-enough h φ = fronts-as _ _ (rw (le-leb (length input) program-input h)) φ

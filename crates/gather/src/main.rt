@@ -5,27 +5,27 @@ ghost use lib.ListN.{length};
 ghost use Rattle.model.specs.declared.Mode.the-variants.{Checked};
 ghost use Rattle.model.specs.Limits.{program-words, program-output};
 ghost use Rattle.model.specs.Tags.{defaultTag};
-ghost use Rattle.model.specs.Gather.{shown, gatherProgram};
+ghost use Rattle.model.specs.Gather.{printedAnswer, gatherProgram};
 ghost use Rattle.model.specs.Gather.{gather as gatherOf};
 ghost use Rattle.gather.specs.Front.{Fronts};
 use model::Fault;
 use model::WriteAnswer;
 
 // `program-input` in model/specs/Limits.antt.
-const MOST_INPUT: usize = 65_536;
+const MAX_INPUT: usize = 65_536;
 
 const SCRATCH_WORDS: usize = lcov::PROGRAM_WORDS;
 
-const MOST_OUTPUT: usize = lcov::PROGRAM_OUTPUT;
+const MAX_OUTPUT: usize = lcov::PROGRAM_OUTPUT;
 
 // What is printed for a bundle comes to the front of out. Answers how many bytes it is.
 fn gather(bundle: &[u8], scratch: &mut [u64], out: &mut [u8]) -> usize
     requires { ⌜ (length (now scratch) ≡ program-words) × (length (now out) ≡ program-output) ⌝ }
-    ensures { λ r. ⌜ Fronts r (now (out .exit)) (shown (gatherOf defaultTag Checked (now (bundle .entry)) program-words program-output)) ⌝ }
+    ensures { λ r. ⌜ Fronts r (now (out .exit)) (printedAnswer (gatherOf defaultTag Checked (now (bundle .entry)) program-words program-output)) ⌝ }
 {
     match lcov::gather_checked(bundle, scratch, out) {
         WriteAnswer::Written(n) => n,
-        WriteAnswer::Refused(refusal) => program::put_refusal(refusal, out),
+        WriteAnswer::Refused(refusal) => program_io::put_refusal(refusal, out),
     }
 }
 
@@ -34,17 +34,17 @@ fn answer(input: &[u8], scratch: &mut [u64], out: &mut [u8]) -> usize
     requires { ⌜ (length (now scratch) ≡ program-words) × (length (now out) ≡ program-output) ⌝ }
     ensures { λ r. ⌜ Fronts r (now (out .exit)) (gatherProgram (now (input .entry))) ⌝ }
 {
-    if MOST_INPUT < input.len() {
-        return program::put_refusal(refusal::unplaced(Fault::MalformedBundle), out);
+    if MAX_INPUT < input.len() {
+        return program_io::put_refusal(refusal::unplaced(Fault::MalformedBundle), out);
     }
     gather(input, scratch, out)
 }
 
 fn main() {
     // one byte more than is allowed, so that a longer input is seen
-    let mut input = [0u8; MOST_INPUT + 1];
+    let mut input = [0u8; MAX_INPUT + 1];
     let mut scratch = [0u64; SCRATCH_WORDS];
-    let mut out = [0u8; MOST_OUTPUT];
+    let mut out = [0u8; MAX_OUTPUT];
     let n = io::read_full(0, &mut input);
     let len = answer(&input[..n], &mut scratch, &mut out);
     io::write_all(1, &out[..len]);

@@ -12,7 +12,7 @@ use Rattle.model.specs.declared.Refusal.{Refusal}
 use Rattle.model.specs.declared.WriteAnswer.{WriteAnswer}
 use Rattle.model.specs.declared.WriteAnswer.the-variants as W
 use Rattle.model.specs.Bytes.{Bytes}
-use Rattle.model.specs.Limits.{words-per-entry, most-entries}
+use Rattle.model.specs.Limits.{words-per-entry, max-entries}
 use Rattle.model.specs.Answer.{Answer, accepted, refused, unplaced, _>>=_}
 use Rattle.model.specs.Tags.{defaultTag}
 use Rattle.model.specs.Report.{Report}
@@ -24,36 +24,36 @@ use Rattle.model.specs.Output.{written, outputAfter}
 use Rattle.model.specs.Calls.{writeAnswer}
 use Rattle.model.specs.Bundle.{wellFormed, texts}
 use Rattle.model.specs.Gather.{entryLimit, readAndPrint, gatherTexts, gather}
-use Rattle.closing.specs.Sections.{entriesAt}
+use Rattle.table_section.specs.Sections.{entriesAt}
 use Rattle.section.specs.Table.{Table}
-use Rattle.section.specs.Reading.{capacity, Room}
-use Rattle.reader.specs.declared.TextAnswer.{TextAnswer}
-use Rattle.reader.specs.declared.TextAnswer.the-variants as T
-use Rattle.reader.specs.Reader.{TextRead}
+use Rattle.section.specs.Reading.{capacity, SectionRoom}
+use Rattle.report_parser.specs.declared.TextAnswer.{TextAnswer}
+use Rattle.report_parser.specs.declared.TextAnswer.the-variants as T
+use Rattle.report_parser.specs.Reader.{TextRead}
 use Rattle.lcov.specs.declared.Gathered.{Gathered}
 use Rattle.lcov.specs.declared.Gathered.the-variants as G
-use Rattle.lcov.specs.Layout.{index-at, spare-at, base-at, Space}
-use Rattle.lcov.specs.Gathering.{Joining, GatheredAs}
+use Rattle.lcov.specs.Layout.{index-at, spare-at, base-at, ScratchRoom}
+use Rattle.lcov.specs.Gathering.{JoinedTable, GatheredAs}
 use Rattle.lcov.proofs.TableLaws.{entries-wider, table-wider}
 use Rattle.lcov.proofs.OneLaws.{read-table}
 
 -- ---- the limit
 
-pub limit-least : (words limit : ℕ) → limit ≡ words / words-per-entry → limit < most-entries → limit ≡ entryLimit words
+pub limit-least : (words limit : ℕ) → limit ≡ words / words-per-entry → limit < max-entries → limit ≡ entryLimit words
 limit-least words limit e h = omega arith
 
-pub limit-most : (words limit : ℕ) → limit ≡ words / words-per-entry → most-entries ≤ limit → most-entries ≡ entryLimit words
+pub limit-most : (words limit : ℕ) → limit ≡ words / words-per-entry → max-entries ≤ limit → max-entries ≡ entryLimit words
 limit-most words limit e h = omega arith
 
-pub limit-few : (words limit : ℕ) → limit ≡ entryLimit words → limit ≤ most-entries
+pub limit-few : (words limit : ℕ) → limit ≡ entryLimit words → limit ≤ max-entries
 limit-few words limit is = omega arith
 
 module _ (ws : List ℕ) (limit : ℕ) (is : limit ≡ entryLimit (length ws)) where
-  pub limit-space : Space ws limit
+  pub limit-space : ScratchRoom ws limit
   limit-space = record { most = omega arith; words = omega arith }
 
   -- a reading has room
-  pub limit-room : (index : ℕ) → index ≡ index-at limit → Room ws index limit
+  pub limit-room : (index : ℕ) → index ≡ index-at limit → SectionRoom ws index limit
   limit-room index e = record { rows = omega arith; words = omega arith }
 
 -- ---- answers
@@ -72,7 +72,7 @@ told-as a b out out′ r e t = rw e at t
 -- a table can be printed: it is in place, and behind its index there is room to sort functions
 abbrev Ready : Bytes → List ℕ → ℕ → ℕ → ℕ → ℕ → Type 0
 Ready text ws index spare used n =
-    (Table text ws index used n × (n ≤ most-entries)) × ((index + used ≤ spare) × (spare + n + n ≤ length ws))
+    (Table text ws index used n × (n ≤ max-entries)) × ((index + used ≤ spare) × (spare + n + n ≤ length ws))
 
 module _ (text ws : List ℕ) (words index spare limit used n : ℕ) (is : limit ≡ entryLimit words) (long : length ws ≡ words) (at-index : index ≡ index-at limit)
     (at-spare : spare ≡ spare-at limit) where
@@ -105,7 +105,7 @@ module _ (bundle : Bytes) (mode : Mode) (words : ℕ) where
         told-refused (gathered out) r out (rw (well, ← is, ← all-texts))
 
     module _ (n : ℕ) (e : got ≡ G.Entries n) (index : ℕ) (at-index : index ≡ index-at limit) where
-      joining : Joining bundle ws limit n
+      joining : JoinedTable bundle ws limit n
       joining = rw e at (g .held)
 
       parts : take (base-at limit) ws ++ drop (base-at limit) ws ≡ ws

@@ -4,8 +4,8 @@ use mathlib.Core.Path.{_≡_, refl, sym, ap, subst, _∙_}
 use mathlib.Core.List.{List, _++_}
 use lib.ListN.{length, drop, take}
 use lib.Seq.{take-at}
-use Rattle.map.specs.Result.{value, IsAccepted}
-use Rattle.map.proofs.Results.{impossible, accepted-inj, value-accepted}
+use Rattle.ordmap.specs.Result.{value, IsAccepted}
+use Rattle.ordmap.proofs.Results.{impossible, accepted-inj, value-accepted}
 use Rattle.model.specs.declared.Mode.the-variants.{Checked}
 use Rattle.model.specs.declared.Refusal.{Refusal}
 use Rattle.model.specs.declared.WriteAnswer.{WriteAnswer}

@@ -7,7 +7,7 @@ use mathlib.Core.Bool.{true}
 use mathlib.Core.List.{List, [], _∷_, map}
 use lib.ListN.{length, take, drop}
 use lib.Seq.{length-take-le}
-use Rattle.store.specs.Places.{listed}
+use Rattle.table.specs.Places.{tabulate}
 use Rattle.model.specs.declared.Fault.{Fault}
 use Rattle.model.specs.declared.Mode.{Mode}
 use Rattle.model.specs.declared.Refusal.{Refusal}
@@ -17,33 +17,33 @@ use Rattle.model.specs.Answer.{Answer, accepted, refused, _>>=_, refuse, unplac
 use Rattle.model.specs.Tags.{defaultTag}
 use Rattle.model.specs.Report.{Report, merge, within}
 use Rattle.model.specs.Reading.{readText}
-use Rattle.model.specs.Limits.{most-texts}
+use Rattle.model.specs.Limits.{max-texts}
 use Rattle.model.specs.Bundle.{textCount, textAt, texts, wellFormed}
 use Rattle.model.specs.Gather.{gatherText, gatherTexts}
 use Rattle.model.proofs.OneText.{read-alone}
 use Rattle.bundle.proofs.BundleLaws.{well-few}
-use Rattle.closing.specs.Sections.{entriesAt}
+use Rattle.table_section.specs.Sections.{entriesAt}
 use Rattle.section.specs.Table.{Table}
 use Rattle.section.specs.Reading.{capacity}
-use Rattle.reader.specs.declared.TextAnswer.{TextAnswer}
-use Rattle.reader.specs.declared.TextAnswer.the-variants as T
-use Rattle.reader.specs.Reader.{seenText}
+use Rattle.report_parser.specs.declared.TextAnswer.{TextAnswer}
+use Rattle.report_parser.specs.declared.TextAnswer.the-variants as T
+use Rattle.report_parser.specs.Reader.{seenText}
 use Rattle.merge.specs.declared.Joined.{Joined}
 use Rattle.merge.specs.declared.Joined.the-variants as J
-use Rattle.merge.specs.Merging.{Tables, seenJoined, HeldJoined, Merged}
+use Rattle.merge.specs.Merging.{Tables, seenJoined, HeldJoined, MergedAsModel}
 use Rattle.lcov.specs.declared.Gathered.{Gathered}
 use Rattle.lcov.specs.declared.Gathered.the-variants as G
-use Rattle.lcov.specs.Layout.{index-at, base-at, Space}
-use Rattle.lcov.specs.Gathering.{inTextOf, joinedAt, Joining, ReadOne, ReadBehind, seenGathered, GatheredAs}
+use Rattle.lcov.specs.Layout.{index-at, base-at, ScratchRoom}
+use Rattle.lcov.specs.Gathering.{inTextOf, joinedAt, JoinedTable, ReadOne, ReadBehind, seenGathered, GatheredAs}
 use Rattle.lcov.proofs.TableLaws.{table-none}
 
 -- ---- as the code meets them
 
 -- a text's number is small
-pub text-few : (bundle : Bytes) (i : ℕ) → wellFormed bundle ≡ true → i < textCount bundle → i < most-texts
+pub text-few : (bundle : Bytes) (i : ℕ) → wellFormed bundle ≡ true → i < textCount bundle → i < max-texts
 text-few bundle i well h = omega (arith, well-few bundle well)
 
-pub space-same : (ws ws′ : List ℕ) (limit : ℕ) → Space ws limit → length ws′ ≡ length ws → Space ws′ limit
+pub space-same : (ws ws′ : List ℕ) (limit : ℕ) → ScratchRoom ws limit → length ws′ ≡ length ws → ScratchRoom ws′ limit
 space-same ws ws′ limit s e = record { most = s .most; words = rw e (s .words) }
 
 -- ---- one text, read behind the joined table
@@ -68,7 +68,7 @@ module _ (bundle ws ws′ : List ℕ) (mode : Mode) (limit n i : ℕ) (got : Tex
 
     -- both tables are there to be merged
     module _ (base index : ℕ) (at-base : base ≡ base-at limit) (at-index : index ≡ index-at limit) where
-      pub two-tables : Space ws limit → length ws′ ≡ length ws → Joining bundle ws limit n → Tables bundle ws′ base index limit n used kept
+      pub two-tables : ScratchRoom ws limit → length ws′ ≡ length ws → JoinedTable bundle ws limit n → Tables bundle ws′ base index limit n used kept
       two-tables space long j =
           record {
             into = rw (at-base, at-index, b .stays) (j .table);
@@ -79,7 +79,7 @@ module _ (bundle ws ws′ : List ℕ) (mode : Mode) (limit n i : ℕ) (got : Tex
             most = j .most;
           }
 
-      module _ (ws″ : List ℕ) (done : Joined) (m : Merged bundle ws′ ws″ base index limit n kept mode done) where
+      module _ (ws″ : List ℕ) (done : Joined) (m : MergedAsModel bundle ws′ ws″ base index limit n kept mode done) where
         merged : seenJoined bundle (take (base-at limit) ws″) (index-at limit) done ≡ answer
         unfolding gatherText
         merged =
@@ -107,7 +107,7 @@ module _ (bundle ws ys us : List ℕ) (mode : Mode) (limit n i : ℕ) (got : Tex
   alone = gatherText defaultTag mode limit (textAt bundle i .bytes) (joinedAt bundle ws limit n)
 
   alone-is : alone ≡ seenText bundle ys (index-at limit) got
-  unfolding listed
+  unfolding tabulate
   alone-is = rw none-yet (read-alone defaultTag limit mode (textAt bundle i .bytes)) ∙ sym (o .is)
 
   -- it is not readable
@@ -124,7 +124,7 @@ module _ (bundle ws ys us : List ℕ) (mode : Mode) (limit n i : ℕ) (got : Tex
 
 -- ---- nothing is joined yet
 
-pub joining-none : (bundle ws : List ℕ) (limit : ℕ) → Space ws limit → Joining bundle ws limit 0
+pub joining-none : (bundle ws : List ℕ) (limit : ℕ) → ScratchRoom ws limit → JoinedTable bundle ws limit 0
 joining-none bundle ws limit space =
     let front : length (take (base-at limit) ws) ≡ base-at limit = length-take-le (base-at limit) ws (omega (arith, space .words)) in
     record { table = table-none bundle (take (base-at limit) ws) (index-at limit) (omega arith); most = omega arith }
@@ -133,14 +133,14 @@ joining-none bundle ws limit space =
 pub text-again : (bundle ws us ws′ : List ℕ) (mode : Mode) (limit n i : ℕ) (got : Gathered) → n ≡ 0
     → GatheredAs (inText i (gatherText defaultTag mode limit (textAt bundle i .bytes) (joinedAt bundle us limit 0))) bundle ws′ limit got
     → GatheredAs (inText i (gatherText defaultTag mode limit (textAt bundle i .bytes) (joinedAt bundle ws limit n))) bundle ws′ limit got
-unfolding listed
+unfolding tabulate
 text-again bundle ws us ws′ mode limit n i got z g = rw z g
 
 -- ---- all texts
 
 -- n entries are joined of the texts before the i-th, and what is left gives the whole bundle's answer
 pub record Left (bundle ws : List ℕ) (mode : Mode) (limit count n i : ℕ) : Type 0 where
-  pub joining : Joining bundle ws limit n
+  pub joining : JoinedTable bundle ws limit n
   pub left : gatherTexts defaultTag mode limit (map (textAt bundle) (from i (count - i))) (joinedAt bundle ws limit n)
       ≡ gatherTexts defaultTag mode limit (texts bundle) []
 
@@ -148,8 +148,8 @@ module _ (bundle ws : List ℕ) (mode : Mode) (limit count : ℕ) where
   pub left-count : (i : ℕ) → count ≡ textCount bundle → i < count → i < textCount bundle
   left-count i e h = omega arith
 
-  pub left-start : Space ws limit → count ≡ textCount bundle → Left bundle ws mode limit count 0 0
-  unfolding listed texts
+  pub left-start : ScratchRoom ws limit → count ≡ textCount bundle → Left bundle ws mode limit count 0 0
+  unfolding tabulate texts
   left-start space e =
       let all-of : count - 0 ≡ textCount bundle = omega arith in
       record { joining = joining-none bundle ws limit space; left = rw all-of }

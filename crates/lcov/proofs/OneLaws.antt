@@ -14,14 +14,14 @@ use Rattle.model.specs.Report.{Report}
 use Rattle.model.specs.Reading.{readText}
 use Rattle.model.specs.Bundle.{textAt}
 use Rattle.model.proofs.Read.{readText-valid}
-use Rattle.closing.specs.Sections.{entriesAt}
+use Rattle.table_section.specs.Sections.{entriesAt}
 use Rattle.section.specs.Table.{Table}
-use Rattle.section.specs.Reading.{Room}
-use Rattle.reader.specs.declared.TextAnswer.{TextAnswer}
-use Rattle.reader.specs.declared.TextAnswer.the-variants as T
-use Rattle.reader.specs.Reader.{TextRead}
+use Rattle.section.specs.Reading.{SectionRoom}
+use Rattle.report_parser.specs.declared.TextAnswer.{TextAnswer}
+use Rattle.report_parser.specs.declared.TextAnswer.the-variants as T
+use Rattle.report_parser.specs.Reader.{TextRead}
 use Rattle.bundle.specs.Places.{partAt}
-use Rattle.lcov.specs.Layout.{index-at, base-at, Space}
+use Rattle.lcov.specs.Layout.{index-at, base-at, ScratchRoom}
 use Rattle.lcov.specs.Gathering.{ReadOne, ReadBehind}
 use Rattle.lcov.proofs.TableLaws.{entries-longer, table-longer}
 
@@ -58,23 +58,23 @@ module _ (ws ys : List ℕ) (base : ℕ) (inside : base ≤ length ws) where
   pub lent-before : take base (lent ws ys base) ≡ take base ws
   lent-before = take-at (take base ws) (ys ++ drop (length ws - base) (drop base ws)) base (length-take-le base ws inside)
 
-module _ (ws : List ℕ) (limit : ℕ) (space : Space ws limit) (base : ℕ) (at-base : base ≡ base-at limit) where
+module _ (ws : List ℕ) (limit : ℕ) (space : ScratchRoom ws limit) (base : ℕ) (at-base : base ≡ base-at limit) where
   pub base-inside : base ≤ length ws
   base-inside = omega (arith, space .words)
 
   -- the words behind have room for a reading
-  pub behind-room : Room (take (length ws - base) (drop base ws)) (index-at limit) limit
+  pub behind-room : SectionRoom (take (length ws - base) (drop base ws)) (index-at limit) limit
   behind-room = record { rows = omega arith; words = omega (arith, space .words, long) }
     where
       long : length (take (length ws - base) (drop base ws)) ≡ length ws - base
       long = length-take-le (length ws - base) (drop base ws) (rw (length-drop base ws) (omega arith))
 
   -- and so have those in front
-  pub front-room : Room (take base ws) (index-at limit) limit
+  pub front-room : SectionRoom (take base ws) (index-at limit) limit
   front-room = record { rows = omega arith; words = omega (arith, length-take-le base ws base-inside) }
 
 -- as the code has the index's place in a local
-pub room-as : (ws : List ℕ) (limit index : ℕ) → index ≡ index-at limit → Room ws (index-at limit) limit → Room ws index limit
+pub room-as : (ws : List ℕ) (limit index : ℕ) → index ≡ index-at limit → SectionRoom ws (index-at limit) limit → SectionRoom ws index limit
 room-as ws limit index e room = rw e room
 
 -- a text starts within the front that ends with it
@@ -117,7 +117,7 @@ module _ (bundle ws : List ℕ) (limit i : ℕ) (p : Part) (place : p ≡ partAt
   read-one index e r t = one-as r (rw e at t)
 
 -- and behind the joined table
-pub read-behind : (bundle ws ys : List ℕ) (limit i base : ℕ) (r : TextAnswer) → Space ws limit → base ≡ base-at limit → ReadOne bundle ys limit i r
+pub read-behind : (bundle ws ys : List ℕ) (limit i base : ℕ) (r : TextAnswer) → ScratchRoom ws limit → base ≡ base-at limit → ReadOne bundle ys limit i r
     → ReadBehind bundle ws (lent ws ys base) limit i r
 read-behind bundle ws ys limit i base r space e o =
     let inside = base-inside ws limit space base e in

@@ -7,19 +7,19 @@ use mathlib.Core.List.{List, [], _∷_, _++_}
 use mathlib.Core.Option.{some}
 use lib.ListN.{length, getD, take, drop, length-append, length-drop, List·getD-append}
 use lib.Seq.{take-append-le, drop-append-le}
-use Rattle.store.specs.declared.Row.{Row}
-use Rattle.store.specs.Places.{listed}
-use Rattle.store.specs.Rows.{row-words, word, rowAt, rowFrom}
-use Rattle.store.specs.Store.{number, row, Index, Store}
-use Rattle.store.proofs.ListedLaws.{listed-cong}
+use Rattle.table.specs.declared.Row.{Row}
+use Rattle.table.specs.Places.{tabulate}
+use Rattle.table.specs.Rows.{row-words, word, rowAt, rowFrom}
+use Rattle.table.specs.Store.{number, row, Index, Store}
+use Rattle.table.proofs.TabulateLaws.{tabulate-cong}
 use Rattle.model.specs.Bytes.{Bytes}
 use Rattle.model.specs.Report.{Report, Item, sectionItem, functionItem, branchItem, lineItem}
 use Rattle.model.specs.Valid.{Valid}
-use Rattle.items.specs.Items.{part, kindOf, byKind, ifGiven, function-kind, line-kind, itemOf, Good}
-use Rattle.closing.specs.Sections.{entryOf, entryAt, entriesAt, Named, Whole}
+use Rattle.table_item.specs.Items.{part, kindOf, byKind, ifGiven, function-kind, line-kind, itemOf, ItemInBounds}
+use Rattle.table_section.specs.Sections.{entryOf, entryAt, entriesAt, NamesInBounds, RowInBounds}
 use Rattle.section.specs.Table.{Table}
 use Rattle.model.proofs.Read.{empty-valid}
-use Rattle.store.proofs.WordLaws.{row-cong}
+use Rattle.table.proofs.WordLaws.{row-cong}
 
 -- ---- the text goes on
 
@@ -43,8 +43,8 @@ module _ (text more : Bytes) where
   inside-more : (n : ℕ) → n ≤ length text → n ≤ length (text ++ more)
   inside-more n h = omega (arith, length-append text more)
 
-  module _ (r : Row) (w : Whole text r) where
-    pub whole-more : Whole (text ++ more) r
+  module _ (r : Row) (w : RowInBounds text r) where
+    pub whole-more : RowInBounds (text ++ more) r
     whole-more =
         record {
           named = record { test = inside-more _ (w .named .test); path = inside-more _ (w .named .path) };
@@ -69,7 +69,7 @@ module _ (text more : Bytes) where
 
   module _ (ws : List ℕ) (index used n : ℕ) (t : Table text ws index used n) where
     pub entries-longer : entriesAt (text ++ more) ws index n ≡ entriesAt text ws index n
-    entries-longer = listed-cong (entryAt (text ++ more) ws index) (entryAt text ws index) n (λ k h. entry-more (row ws index k) (t .whole k h))
+    entries-longer = tabulate-cong (entryAt (text ++ more) ws index) (entryAt text ws index) n (λ k h. entry-more (row ws index k) (t .whole k h))
 
     pub table-longer : Table (text ++ more) ws index used n
     table-longer =
@@ -93,7 +93,7 @@ module _ (text ws more : List ℕ) (index used n : ℕ) (t : Table text ws index
 
   pub entries-wider : entriesAt text (ws ++ more) index n ≡ entriesAt text ws index n
   entries-wider =
-      listed-cong (entryAt text (ws ++ more) index) (entryAt text ws index) n (λ k h. ap (entryOf text) (row-more k (omega (arith, t .room))))
+      tabulate-cong (entryAt text (ws ++ more) index) (entryAt text ws index) n (λ k h. ap (entryOf text) (row-more k (omega (arith, t .room))))
 
   pub table-wider : Table text (ws ++ more) index used n
   table-wider =
@@ -114,7 +114,7 @@ module _ (text ws more : List ℕ) (index used n : ℕ) (t : Table text ws index
 -- ---- none
 
 pub table-none : (text ws : List ℕ) (index : ℕ) → index ≤ length ws → Table text ws index 0 0
-unfolding listed
+unfolding tabulate
 table-none text ws index h =
     record {
       store = record {

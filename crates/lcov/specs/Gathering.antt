@@ -11,12 +11,12 @@ use Rattle.model.specs.Tags.{defaultTag}
 use Rattle.model.specs.Report.{Report}
 use Rattle.model.specs.Reading.{readText}
 use Rattle.model.specs.Bundle.{textAt}
-use Rattle.closing.specs.Sections.{entriesAt}
+use Rattle.table_section.specs.Sections.{entriesAt}
 use Rattle.section.specs.Table.{Table}
 use Rattle.section.specs.Reading.{capacity}
-use Rattle.reader.specs.declared.TextAnswer.{TextAnswer}
-use Rattle.reader.specs.declared.TextAnswer.the-variants as T
-use Rattle.reader.specs.Reader.{seenText}
+use Rattle.report_parser.specs.declared.TextAnswer.{TextAnswer}
+use Rattle.report_parser.specs.declared.TextAnswer.the-variants as T
+use Rattle.report_parser.specs.Reader.{seenText}
 use Rattle.lcov.specs.declared.Gathered.{Gathered}
 use Rattle.lcov.specs.declared.Gathered.the-variants as G
 use Rattle.lcov.specs.Layout.{index-at, base-at}
@@ -32,7 +32,7 @@ inTextOf text r = record { fault = r .fault; text = text; line = r .line; field 
 abbrev pub joinedAt : Bytes → List ℕ → ℕ → ℕ → Report
 joinedAt text ws limit n = entriesAt text (take (base-at limit) ws) (index-at limit) n
 
-pub record Joining (text ws : List ℕ) (limit n : ℕ) : Type 0 where
+pub record JoinedTable (text ws : List ℕ) (limit n : ℕ) : Type 0 where
   pub table : Table text (take (base-at limit) ws) (index-at limit) n n
   pub most : n ≤ limit
 
@@ -59,7 +59,7 @@ seenGathered text ws limit (G.Entries n) = accepted (joinedAt text ws limit n)
 seenGathered text ws limit (G.Refused r) = refused r
 
 abbrev pub HeldGathered : Bytes → List ℕ → ℕ → Gathered → Type 0
-HeldGathered text ws limit (G.Entries n) = Joining text ws limit n
+HeldGathered text ws limit (G.Entries n) = JoinedTable text ws limit n
 HeldGathered text ws limit (G.Refused r) = Unit {0}
 
 -- the words hold what the answer says

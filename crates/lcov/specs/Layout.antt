@@ -3,8 +3,8 @@
 use Prim.Native.Nat.{ℕ, _+_, _*_, _≤_}
 use mathlib.Core.List.{List}
 use lib.ListN.{length}
-use Rattle.store.specs.Rows.{row-words}
-use Rattle.model.specs.Limits.{words-per-entry, most-entries}
+use Rattle.table.specs.Rows.{row-words}
+use Rattle.model.specs.Limits.{words-per-entry, max-entries}
 use Rattle.section.specs.Reading.{capacity}
 
 -- where an index starts, behind its rows
@@ -20,6 +20,6 @@ abbrev pub base-at : ℕ → ℕ
 base-at limit = spare-at limit + capacity limit + capacity limit
 
 -- the words are enough for the limit
-pub record Space (ws : List ℕ) (limit : ℕ) : Type 0 where
-  pub most : limit ≤ most-entries
+pub record ScratchRoom (ws : List ℕ) (limit : ℕ) : Type 0 where
+  pub most : limit ≤ max-entries
   pub words : limit * words-per-entry ≤ length ws

@@ -1,21 +1,21 @@
 // The calls that read texts (document 01): a bundle gathered, checked or lossy, one text read, and one filtered, each printed to the output;
 // beside them the calls for one line.
 // The scratch is lent; "After a call the scratch is free to hold anything, and no call reads what it held."
-pub use display::print_line;
 use merge::Joined;
 use model::Fault;
 use model::Mode;
 use model::Refusal;
 use model::WriteAnswer;
-use reader::TextAnswer;
-pub use record::read_line;
+pub use record_display::print_line;
+pub use record_parse::read_line;
+use report_parser::TextAnswer;
 ghost use mathlib.Core.Path.{_≡_};
 ghost use mathlib.Core.List.{[]};
 ghost use mathlib.Core.Bool.{true};
 ghost use Prim.Native.Nat.{_+_, _*_, _≤_, _<_};
 ghost use lib.ListN.{length};
 ghost use Rattle.model.specs.declared.Mode.the-variants.{Checked, Lossy};
-ghost use Rattle.model.specs.Limits.{most-texts, most-entries};
+ghost use Rattle.model.specs.Limits.{max-texts, max-entries};
 ghost use Rattle.model.specs.Answer.{inText};
 ghost use Rattle.model.specs.Tags.{defaultTag};
 ghost use Rattle.model.specs.Bundle.{wellFormed, textCount, textAt, texts};
@@ -24,11 +24,11 @@ ghost use Rattle.model.specs.Output.{outputAfter};
 ghost use Rattle.model.specs.Gather.{entryLimit, readAndPrint, gatherText, gatherTexts};
 ghost use Rattle.model.specs.Gather.{gather as gatherOf};
 ghost use Rattle.model.specs.Filter.{filterText};
-ghost use Rattle.line_num.specs.Pairs.{rangesIn};
-ghost use Rattle.section.specs.Reading.{Room};
-ghost use Rattle.lcov.specs.Layout.{index-at, spare-at, base-at, Space};
+ghost use Rattle.line_num_pairs.specs.Pairs.{rangesIn};
+ghost use Rattle.section.specs.Reading.{SectionRoom};
+ghost use Rattle.lcov.specs.Layout.{index-at, spare-at, base-at, ScratchRoom};
 ghost use Rattle.lcov.specs.Demand.{AcceptsAndWrites};
-ghost use Rattle.lcov.specs.Gathering.{inTextOf, joinedAt, Joining, ReadOne, ReadBehind, GatheredAs};
+ghost use Rattle.lcov.specs.Gathering.{inTextOf, joinedAt, JoinedTable, ReadOne, ReadBehind, GatheredAs};
 
 // The fixed numbers of model/specs/Limits.antt that code outside needs too: `words-per-entry`, and the scratch and the output of the program
 // `gather`, which `program-words` and `program-output` are.
@@ -38,31 +38,31 @@ pub const PROGRAM_WORDS: usize = 8192;
 
 pub const PROGRAM_OUTPUT: usize = 65_536;
 
-// `most-entries`.
-const MOST_ENTRIES: usize = 65_535;
+// `max-entries`.
+const MAX_ENTRIES: usize = 65_535;
 
 // "The entry limit E is the smaller of W/32 rounded down and 65,535."
 fn entry_limit(words: usize) -> usize
     ensures { λ r. ⌜ r ≡ entryLimit words ⌝ }
 {
     let limit = words / WORDS_PER_ENTRY;
-    if limit < MOST_ENTRIES {
+    if limit < MAX_ENTRIES {
         return limit;
     }
-    MOST_ENTRIES
+    MAX_ENTRIES
 }
 
 // Where an index starts: `index-at` in specs/Layout.antt.
 fn index_at(limit: usize) -> usize
-    requires { ⌜ limit ≤ most-entries ⌝ }
+    requires { ⌜ limit ≤ max-entries ⌝ }
     ensures { λ r. ⌜ r ≡ index-at limit ⌝ }
 {
-    section::capacity(limit) * store::ROW_WORDS
+    section::capacity(limit) * table::ROW_WORDS
 }
 
 // Where spare words start, behind the index: `spare-at`.
 fn spare_at(limit: usize) -> usize
-    requires { ⌜ limit ≤ most-entries ⌝ }
+    requires { ⌜ limit ≤ max-entries ⌝ }
     ensures { λ r. ⌜ r ≡ spare-at limit ⌝ }
 {
     index_at(limit) + section::capacity(limit)
@@ -70,7 +70,7 @@ fn spare_at(limit: usize) -> usize
 
 // Where the words for the text that is read start: `base-at`.
 fn base_at(limit: usize) -> usize
-    requires { ⌜ limit ≤ most-entries ⌝ }
+    requires { ⌜ limit ≤ max-entries ⌝ }
     ensures { λ r. ⌜ r ≡ base-at limit ⌝ }
 {
     let rows = section::capacity(limit);
@@ -79,7 +79,7 @@ fn base_at(limit: usize) -> usize
 
 // A refusal, in the i-th text.
 fn in_text(i: usize, refusal: Refusal) -> Refusal
-    requires { ⌜ i < most-texts ⌝ }
+    requires { ⌜ i < max-texts ⌝ }
     ensures { λ r. ⌜ r ≡ inTextOf i refusal ⌝ }
 {
     let fault = refusal.fault;
@@ -100,19 +100,19 @@ enum Gathered {
 
 // The i-th text, read where it lies in the bundle.
 fn read_one(bundle: &[u8], words: &mut [u64], limit: usize, i: usize) -> TextAnswer
-    requires { ⌜ (wellFormed (now bundle) ≡ true) × (i < textCount (now bundle)) × (limit ≤ most-entries) × Room (now words) (index-at limit) limit ⌝ }
+    requires { ⌜ (wellFormed (now bundle) ≡ true) × (i < textCount (now bundle)) × (limit ≤ max-entries) × SectionRoom (now words) (index-at limit) limit ⌝ }
     ensures { λ r. ⌜ ReadOne (now (bundle .entry)) (now (words .exit)) limit i r ⌝ }
 {
     let part = bundle::text_part(bundle, i);
     let start = part.start;
     let end = start + part.len;
     let index = index_at(limit);
-    reader::read_lines(&bundle[..end], start, words, index, limit)
+    report_parser::read_lines(&bundle[..end], start, words, index, limit)
 }
 
 // The same, into the words behind the joined table.
 fn read_behind(bundle: &[u8], scratch: &mut [u64], limit: usize, i: usize) -> TextAnswer
-    requires { ⌜ (wellFormed (now bundle) ≡ true) × (i < textCount (now bundle)) × Space (now scratch) limit ⌝ }
+    requires { ⌜ (wellFormed (now bundle) ≡ true) × (i < textCount (now bundle)) × ScratchRoom (now scratch) limit ⌝ }
     ensures { λ r. ⌜ ReadBehind (now (bundle .entry)) (now (scratch .entry)) (now (scratch .exit)) limit i r ⌝ }
 {
     let base = base_at(limit);
@@ -128,7 +128,7 @@ fn gather_behind(
     i: usize,
     mode: Mode,
 ) -> Gathered
-    requires { ⌜ (wellFormed (now bundle) ≡ true) × (i < textCount (now bundle)) × Space (now scratch) limit × Joining (now bundle) (now scratch) limit n ⌝ }
+    requires { ⌜ (wellFormed (now bundle) ≡ true) × (i < textCount (now bundle)) × ScratchRoom (now scratch) limit × JoinedTable (now bundle) (now scratch) limit n ⌝ }
     ensures { λ r. ⌜ GatheredAs (inText i (gatherText defaultTag mode limit (textAt (now (bundle .entry)) i .bytes) (joinedAt (now (bundle .entry)) (now (scratch .entry)) limit n))) (now (bundle .entry)) (now (scratch .exit)) limit r ⌝ }
 {
     match read_behind(bundle, scratch, limit, i) {
@@ -154,7 +154,7 @@ fn gather_text(
     i: usize,
     mode: Mode,
 ) -> Gathered
-    requires { ⌜ (wellFormed (now bundle) ≡ true) × (i < textCount (now bundle)) × Space (now scratch) limit × Joining (now bundle) (now scratch) limit n ⌝ }
+    requires { ⌜ (wellFormed (now bundle) ≡ true) × (i < textCount (now bundle)) × ScratchRoom (now scratch) limit × JoinedTable (now bundle) (now scratch) limit n ⌝ }
     ensures { λ r. ⌜ GatheredAs (inText i (gatherText defaultTag mode limit (textAt (now (bundle .entry)) i .bytes) (joinedAt (now (bundle .entry)) (now (scratch .entry)) limit n))) (now (bundle .entry)) (now (scratch .exit)) limit r ⌝ }
 {
     if n == 0 {
@@ -176,7 +176,7 @@ fn gather_text(
 
 // "Gather begins with an empty report"
 fn gather_texts(bundle: &[u8], scratch: &mut [u64], limit: usize, mode: Mode) -> Gathered
-    requires { ⌜ (wellFormed (now bundle) ≡ true) × Space (now scratch) limit ⌝ }
+    requires { ⌜ (wellFormed (now bundle) ≡ true) × ScratchRoom (now scratch) limit ⌝ }
     ensures { λ r. ⌜ GatheredAs (gatherTexts defaultTag mode limit (texts (now (bundle .entry))) []) (now (bundle .entry)) (now (scratch .exit)) limit r ⌝ }
 {
     let count = bundle::text_count(bundle);
@@ -210,7 +210,7 @@ fn gather(bundle: &[u8], scratch: &mut [u64], out: &mut [u8], mode: Mode) -> Wri
             Gathered::Entries(n) => {
                 let index = index_at(limit);
                 let spare = spare_at(limit);
-                return printing::print_report(bundle, scratch, index, n, n, spare, out);
+                return print_report::print_report(bundle, scratch, index, n, n, spare, out);
             }
         }
     }
@@ -242,11 +242,11 @@ pub fn read_text(text: &[u8], scratch: &mut [u64], out: &mut [u8]) -> WriteAnswe
 {
     let limit = entry_limit(scratch.len());
     let index = index_at(limit);
-    match reader::read_lines(text, 0, scratch, index, limit) {
+    match report_parser::read_lines(text, 0, scratch, index, limit) {
         TextAnswer::Refused(refusal) => WriteAnswer::Refused(refusal),
         TextAnswer::Read { kept, used } => {
             let spare = spare_at(limit);
-            printing::print_report(text, scratch, index, used, kept, spare, out)
+            print_report::print_report(text, scratch, index, used, kept, spare, out)
         }
     }
 }
@@ -262,10 +262,10 @@ pub fn filter_text(
     ensures { λ r. ⌜ r ≡ writeAnswer (filterText defaultTag (now (text .entry)) (rangesIn (now (pairs .entry))) used (length (now (scratch .entry))) (length (now (out .entry)))) ⌝ }
     ensures { λ _. ⌜ now (out .exit) ≡ outputAfter (filterText defaultTag (now (text .entry)) (rangesIn (now (pairs .entry))) used (length (now (scratch .entry))) (length (now (out .entry)))) (now (out .entry)) ⌝ }
 {
-    if line_num::is_well_formed(pairs, used) {
+    if line_num_pairs::is_well_formed(pairs, used) {
         let limit = entry_limit(scratch.len());
         let index = index_at(limit);
-        match reader::read_lines(text, 0, scratch, index, limit) {
+        match report_parser::read_lines(text, 0, scratch, index, limit) {
             TextAnswer::Refused(refusal) => {
                 return WriteAnswer::Refused(refusal);
             }

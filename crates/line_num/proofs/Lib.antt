@@ -1,6 +1,5 @@
-pub mod SpanLaws
-pub mod WellLaws
-pub mod QueryLaws
-pub mod JoinLaws
-pub mod MoveLaws
-pub mod CallLaws
+pub mod Shapes
+pub mod Calls
+pub mod ScanLaws
+pub mod TurnLaws
+pub mod InsertLaws

@@ -1,243 +1,340 @@
-// Ranges of lines (document 01, "After the gather"): "a lent slice of start and end pairs (u32) and a number of pairs used". A pair is
-// an array of two, start and end.
+// Ranges of lines (document 01, "After the gather"): "a lent slice of start and end pairs (u32) and a number of pairs used", a pair as
+// the struct `model::Range`. The borrow checker covers no function over a slice of structs: those that take one are thin and proved by
+// hand, and what they decide is decided by functions on numbers.
 use model::Fault;
 use model::InsertAnswer;
 use model::QueryAnswer;
 use model::Range;
 ghost use mathlib.Core.Path.{_≡_};
-ghost use mathlib.Core.Bool.{true};
-ghost use mathlib.Core.List.{_∷_};
-ghost use Prim.Native.Nat.{_+_, _-_, _≤_, _<_, min, max};
-ghost use lib.ListN.{length, take};
-ghost use Rattle.store.specs.Places.{Cut};
-ghost use Rattle.model.specs.Ranges.{wellFormedRanges, halfOpen, joinInto, insertCall, sliceAfter, holds, queryCall};
-ghost use Rattle.model.specs.Calls.{insertAnswer, queryAnswer};
-ghost use Rattle.line_num.specs.Pairs.{pair, rangeAt, span, rangesIn, EndsBefore, Placed, Carried, Cleared, replacedBy, filledUp};
+ghost use mathlib.Core.Bool.{_&&_, _||_};
+ghost use Prim.Native.Nat.{_+_, _-_, _<_, _^_, min};
+ghost use lib.Dec.{leb};
+ghost use lib.ListN.{length, getD, set};
+ghost use Rattle.model.specs.Ranges.{queryCall, insertCall, sliceAfter};
+ghost use Rattle.model.specs.Calls.{queryAnswer, insertAnswer};
+ghost use Rattle.line_num_pairs.specs.Pairs.{pair};
+ghost use Rattle.line_num.specs.Scans.{scanStart, passesBy, staysBy, scannedBy, scanOf, scanAnswer};
+ghost use Rattle.line_num.specs.Turns.{planBy, planOf, answerOf, PlanFits, readAt, putAt, rewritten};
 
-// "Half-open a..b becomes a to b − 1, with b = 0 read as b = 1."
-pub fn half_open(a: u32, b: u32) -> Range
-    ensures { λ r. ⌜ r ≡ halfOpen a b ⌝ }
+pub fn range_at(list: &[Range], i: usize) -> Range
+    requires { ⌜ i < length (now list) ⌝ }
+    ensures { λ r. ⌜ r ≡ getD (now (list .entry)) i (pair 0 0) ⌝ }
 {
-    if b == 0 {
-        return Range { start: a, end: 0 };
-    }
-    Range {
-        start: a,
-        end: b - 1,
+    list[i]
+}
+
+pub fn put_range(list: &mut [Range], i: usize, range: Range)
+    requires { ⌜ i < length (now list) ⌝ }
+    ensures { λ _. ⌜ now (list .exit) ≡ set (now (list .entry)) i range ⌝ }
+{
+    list[i] = range;
+}
+
+// A pass over the ranges used: it asks for the lines from start to end, and tells what becomes of them as a range that is put in.
+struct Scan {
+    start: u32,
+    end: u32,
+    // the ranges so far are in order, and the next has to start at `least` or later
+    well: bool,
+    least: u64,
+    // one of them holds a line asked for
+    held: bool,
+    // the range that is put down next, behind `at` others: the one to put in, or, once that is past, the one read last
+    past: bool,
+    low: u32,
+    high: u32,
+    at: usize,
+}
+
+fn scan_start(start: u32, end: u32) -> Scan
+    ensures { λ r. ⌜ r ≡ scanStart start end ⌝ }
+{
+    Scan {
+        start,
+        end,
+        well: true,
+        least: 0,
+        held: false,
+        past: false,
+        low: start,
+        high: end,
+        at: 0,
     }
 }
 
-pub fn lesser(a: u32, b: u32) -> u32
-    ensures { λ r. ⌜ r ≡ min a b ⌝ }
+fn in_order(well: bool, least: u64, x: Range) -> bool
+    ensures { λ r. ⌜ r ≡ (well && leb least (x .start) && leb (x .start) (x .end)) ⌝ }
 {
-    if a < b {
-        return a;
-    }
-    b
-}
-
-pub fn greater(a: u32, b: u32) -> u32
-    ensures { λ r. ⌜ r ≡ max a b ⌝ }
-{
-    if a < b {
-        return b;
-    }
-    a
-}
-
-fn range_at(pairs: &[[u32; 2]], k: usize) -> Range
-    requires { ⌜ k < length (now pairs) ⌝ }
-    ensures { λ r. ⌜ r ≡ rangeAt (now (pairs .entry)) k ⌝ }
-{
-    Range {
-        start: pairs[k][0],
-        end: pairs[k][1],
-    }
-}
-
-fn put_range(pairs: &mut [[u32; 2]], k: usize, range: Range)
-    requires { ⌜ k < length (now pairs) ⌝ }
-    ensures { λ _. ⌜ Placed (rangeAt (now (pairs .entry))) (rangeAt (now (pairs .exit))) k range ⌝ }
-{
-    pairs[k] = [range.start, range.end];
-}
-
-// "Well formed: used at most the slice, start ≤ end, ascending, a gap of at least one line between." The next start is at least `least`.
-pub fn is_well_formed(pairs: &[[u32; 2]], used: usize) -> bool
-    ensures { λ r. ⌜ r ≡ wellFormedRanges (rangesIn (now (pairs .entry))) used ⌝ }
-{
-    if pairs.len() < used {
+    if !well {
         return false;
     }
-    let mut least: u64 = 0;
-    let mut k = 0;
-    while k < used {
-        let range = range_at(pairs, k);
-        if (range.start as u64) < least {
-            return false;
-        }
-        if range.end < range.start {
-            return false;
-        }
-        least = range.end as u64 + 2;
-        k += 1;
-    }
-    true
-}
-
-// How many pairs end more than one line before a line, by halving.
-fn ends_before(pairs: &[[u32; 2]], used: usize, line: u64) -> usize
-    requires { ⌜ wellFormedRanges (rangesIn (now pairs)) used ≡ true ⌝ }
-    ensures places { λ r. ⌜ (r ≤ used) × (used ≤ length (now (pairs .entry))) ⌝ }
-    ensures cut { λ r. ⌜ Cut (EndsBefore (now (pairs .entry)) line) used r ⌝ }
-{
-    let mut lo = 0;
-    let mut hi = used;
-    while lo < hi {
-        let mid = lo + (hi - lo) / 2;
-        let range = range_at(pairs, mid);
-        if range.end as u64 + 1 < line {
-            lo = mid + 1;
-        } else {
-            hi = mid;
-        }
-    }
-    lo
-}
-
-// "A query (s, e) says yes if some pair has start ≤ e and end ≥ s": the first that ends at s or later is the only one to ask.
-pub fn holds_at(pairs: &[[u32; 2]], used: usize, s: u32, e: u32) -> bool
-    requires { ⌜ wellFormedRanges (rangesIn (now pairs)) used ≡ true ⌝ }
-    ensures { λ r. ⌜ r ≡ holds (take used (rangesIn (now (pairs .entry)))) s e ⌝ }
-{
-    let first = ends_before(pairs, used, s as u64 + 1);
-    if first == used {
+    if (x.start as u64) < least {
         return false;
     }
-    range_at(pairs, first).start <= e
+    x.start <= x.end
 }
 
-pub fn query(pairs: &[[u32; 2]], used: usize, s: u32, e: u32) -> QueryAnswer
-    ensures { λ r. ⌜ r ≡ queryAnswer (queryCall (rangesIn (now (pairs .entry))) used s e) ⌝ }
+fn holds_one(held: bool, x: Range, start: u32, end: u32) -> bool
+    ensures { λ r. ⌜ r ≡ (held || (leb (x .start) end && leb start (x .end))) ⌝ }
 {
-    if !is_well_formed(pairs, used) {
-        return QueryAnswer::Refused(refusal::unplaced(Fault::MalformedRanges));
+    if held {
+        return true;
     }
-    QueryAnswer::Holds(holds_at(pairs, used, s, e))
+    if end < x.start {
+        return false;
+    }
+    start <= x.end
 }
 
-// A range that took in others, and the place of the first pair behind it.
-struct Joined {
-    range: Range,
-    past: usize,
-}
-
-// "joins overlaps and neighbours": the pairs from `first` on that the range meets.
-fn join_from(pairs: &[[u32; 2]], used: usize, first: usize, range: Range) -> Joined
-    requires { ⌜ (used ≤ length (now pairs)) × (range .start ≤ range .end) × Cut (EndsBefore (now pairs) (range .start)) used first ⌝ }
-    ensures places { λ r. ⌜ (first ≤ r .past) × (r .past ≤ used) ⌝ }
-    ensures joined { λ r. ⌜ joinInto range (span (rangeAt (now (pairs .entry))) first (used - first)) ≡ r .range ∷ span (rangeAt (now (pairs .entry))) (r .past) (used - r .past) ⌝ }
+// What is put down next stands before x, with a line between: it goes down now.
+fn passes(found: Scan, x: Range) -> bool
+    ensures { λ r. ⌜ r ≡ passesBy found x ⌝ }
 {
-    let mut start = range.start;
-    let mut end = range.end;
-    let mut past = first;
-    while past < used {
-        let next = range_at(pairs, past);
-        if end as u64 + 1 < next.start as u64 {
-            return Joined {
-                range: Range { start, end },
-                past,
-            };
-        }
-        start = lesser(start, next.start);
-        end = greater(end, next.end);
-        past += 1;
+    if found.past {
+        return true;
     }
-    Joined {
-        range: Range { start, end },
-        past,
+    if x.end as u64 + 1 < found.low as u64 {
+        return false;
     }
+    (found.high as u64) + 1 < x.start as u64
 }
 
-// Copies n pairs in ascending order: the target starts no later than the source.
-fn move_down(pairs: &mut [[u32; 2]], from: usize, to: usize, n: usize)
-    requires { ⌜ (to ≤ from) × (from + n ≤ length (now pairs)) ⌝ }
-    ensures { λ _. ⌜ Carried (rangeAt (now (pairs .entry))) (rangeAt (now (pairs .exit))) from to n ⌝ }
+// x stands before the range to put in, with a line between: it goes down first.
+fn stays(found: Scan, x: Range) -> bool
+    ensures { λ r. ⌜ r ≡ staysBy found x ⌝ }
 {
+    if found.past {
+        return false;
+    }
+    x.end as u64 + 1 < found.low as u64
+}
+
+// One more than `at`, at most `next`: a sum that always fits.
+fn counted(at: usize, next: usize) -> usize
+    ensures { λ r. ⌜ r ≡ min (at + 1) next ⌝ }
+{
+    if at < next {
+        return at + 1;
+    }
+    next
+}
+
+// The pass with one more range: x, at the place before `next`.
+fn scanned(found: Scan, next: usize, x: Range) -> Scan
+    ensures { λ r. ⌜ r ≡ scannedBy found next x ⌝ }
+{
+    let mut after = found;
+    after.well = in_order(found.well, found.least, x);
+    after.least = x.end as u64 + 2;
+    after.held = holds_one(found.held, x, found.start, found.end);
+    after.past = passes(found, x);
+    if after.past {
+        after.low = x.start;
+        after.high = x.end;
+        after.at = counted(found.at, next);
+        return after;
+    }
+    if stays(found, x) {
+        after.at = counted(found.at, next);
+        return after;
+    }
+    after.low = line_num_pairs::min_u32(found.low, x.start);
+    after.high = line_num_pairs::max_u32(found.high, x.end);
+    after
+}
+
+// The lesser of two places, or of a number and a length.
+fn min_usize(used: usize, len: usize) -> usize
+    ensures { λ r. ⌜ r ≡ min used len ⌝ }
+{
+    if used < len {
+        return used;
+    }
+    len
+}
+
+// The pass over the ranges used, or over the whole slice where it is shorter.
+fn scan_all(list: &[Range], used: usize, start: u32, end: u32) -> Scan
+    ensures { λ r. ⌜ r ≡ scanOf (now (list .entry)) used start end ⌝ }
+{
+    let n = min_usize(used, list.len());
+    let mut found = scan_start(start, end);
     let mut i = 0;
     while i < n {
-        let range = range_at(pairs, from + i);
-        put_range(pairs, to + i, range);
+        let x = list[i];
         i += 1;
+        found = scanned(found, i, x);
+    }
+    found
+}
+
+fn query_answer(found: Scan, used: usize, len: usize) -> QueryAnswer
+    ensures { λ r. ⌜ r ≡ queryAnswer (scanAnswer found used len) ⌝ }
+{
+    if len < used {
+        return QueryAnswer::Refused(refusal::unplaced(Fault::MalformedRanges));
+    }
+    if !found.well {
+        return QueryAnswer::Refused(refusal::unplaced(Fault::MalformedRanges));
+    }
+    QueryAnswer::Holds(found.held)
+}
+
+// "A query (s, e) says yes if some pair has start ≤ e and end ≥ s."
+pub fn query(list: &[Range], used: usize, s: u32, e: u32) -> QueryAnswer
+    ensures { λ r. ⌜ r ≡ queryAnswer (queryCall (now (list .entry)) used s e) ⌝ }
+{
+    let found = scan_all(list, used, s, e);
+    query_answer(found, used, list.len())
+}
+
+// What an insert does to the slice, in so many turns: the first `woven` read the ranges used, one each, and put them down again with
+// the range among them; the others fill the places from `from` on, with one range below place n and zeros behind.
+struct Plan {
+    woven: usize,
+    from: usize,
+    n: usize,
+    turns: usize,
+    start: u32,
+    end: u32,
+    low: u32,
+    high: u32,
+}
+
+// A range and its place.
+struct Put {
+    at: usize,
+    range: Range,
+}
+
+fn planned(found: Scan, woven: usize, from: usize, n: usize, turns: usize) -> Plan
+    ensures { λ r. ⌜ r ≡ planBy found woven from n turns ⌝ }
+{
+    Plan {
+        woven,
+        from,
+        n,
+        turns,
+        start: found.start,
+        end: found.end,
+        low: found.low,
+        high: found.high,
     }
 }
 
-// Copies n pairs in descending order: the target starts no earlier than the source.
-fn move_up(pairs: &mut [[u32; 2]], from: usize, to: usize, n: usize)
-    requires { ⌜ (from ≤ to) × (to + n ≤ length (now pairs)) ⌝ }
-    ensures { λ _. ⌜ Carried (rangeAt (now (pairs .entry))) (rangeAt (now (pairs .exit))) from to n ⌝ }
+// What is to be done after the pass. On a refusal nothing is, so that the slice stays as it is.
+fn plan_of(found: Scan, used: usize, len: usize) -> Plan
+    requires { ⌜ len < 2 ^ 63 ⌝ }
+    ensures { λ r. ⌜ r ≡ planOf found used len ⌝ }
 {
-    let mut i = n;
-    while 0 < i {
-        i -= 1;
-        let range = range_at(pairs, from + i);
-        put_range(pairs, to + i, range);
+    if len < used {
+        return planned(found, 0, 0, 0, 0);
+    }
+    if !found.well {
+        return planned(found, 0, 0, 0, 0);
+    }
+    if found.end < found.start {
+        return planned(found, 0, used, used, len - used);
+    }
+    if found.at < len {
+        return planned(found, used, found.at, found.at + 1, used + (len - found.at));
+    }
+    planned(found, 0, 0, 0, 0)
+}
+
+fn insert_answer(found: Scan, used: usize, len: usize) -> InsertAnswer
+    ensures { λ r. ⌜ r ≡ answerOf found used len ⌝ }
+{
+    if len < used {
+        return InsertAnswer::Refused(refusal::unplaced(Fault::MalformedRanges));
+    }
+    if !found.well {
+        return InsertAnswer::Refused(refusal::unplaced(Fault::MalformedRanges));
+    }
+    if found.end < found.start {
+        return InsertAnswer::Used(used);
+    }
+    if found.at < len {
+        return InsertAnswer::Used(found.at + 1);
+    }
+    InsertAnswer::Refused(refusal::unplaced(Fault::RangesFull))
+}
+
+// The place that a turn reads.
+fn read_at(plan: Plan, t: usize) -> usize
+    requires { ⌜ plan .from + (t - plan .woven) < 2 ^ 64 ⌝ }
+    ensures { λ r. ⌜ r ≡ readAt plan t ⌝ }
+{
+    if t < plan.woven {
+        return t;
+    }
+    plan.from + (t - plan.woven)
+}
+
+// What a turn that read x at place k puts where: at k or before it, so that no range is lost that is still to be read.
+fn put_at(plan: Plan, found: Scan, t: usize, k: usize, x: Range) -> Put
+    ensures { λ r. ⌜ r ≡ putAt plan found t k x ⌝ }
+{
+    if t < plan.woven {
+        if passes(found, x) {
+            return Put {
+                at: min_usize(found.at, k),
+                range: Range {
+                    start: found.low,
+                    end: found.high,
+                },
+            };
+        }
+        if stays(found, x) {
+            return Put {
+                at: min_usize(found.at, k),
+                range: x,
+            };
+        }
+        return Put { at: k, range: x };
+    }
+    if k < plan.n {
+        return Put {
+            at: k,
+            range: Range {
+                start: plan.low,
+                end: plan.high,
+            },
+        };
+    }
+    Put {
+        at: k,
+        range: Range { start: 0, end: 0 },
     }
 }
 
-// The pairs from `past` on come to stand behind place `first`.
-fn bring_behind(pairs: &mut [[u32; 2]], used: usize, first: usize, past: usize)
-    requires { ⌜ (first ≤ past) × (past ≤ used) × (used ≤ length (now pairs)) × (first + 1 + (used - past) ≤ length (now pairs)) ⌝ }
-    ensures { λ _. ⌜ Carried (rangeAt (now (pairs .entry))) (rangeAt (now (pairs .exit))) past (first + 1) (used - past) ⌝ }
+// The turns, one after the other: reading never falls behind writing.
+fn rewrite(list: &mut [Range], plan: Plan)
+    requires { ⌜ PlanFits plan (length (now list)) ⌝ }
+    ensures { λ _. ⌜ now (list .exit) ≡ rewritten plan (now (list .entry)) ⌝ }
 {
-    if past == first {
-        move_up(pairs, past, first + 1, used - past);
-    } else {
-        move_down(pairs, past, first + 1, used - past);
+    let turns = plan.turns;
+    let mut found = scan_start(plan.start, plan.end);
+    let mut t = 0;
+    while t < turns {
+        let k = read_at(plan, t);
+        let x = list[k];
+        let put = put_at(plan, found, t, k, x);
+        let at = put.at;
+        list[at] = put.range;
+        t += 1;
+        found = scanned(found, t, x);
     }
-}
-
-// Zeros from place `from` to the end of the slice.
-fn clear_from(pairs: &mut [[u32; 2]], from: usize)
-    ensures { λ _. ⌜ Cleared (rangeAt (now (pairs .entry))) (rangeAt (now (pairs .exit))) from (length (now (pairs .entry))) ⌝ }
-{
-    let end = pairs.len();
-    let mut k = from;
-    while k < end {
-        put_range(pairs, k, Range { start: 0, end: 0 });
-        k += 1;
-    }
-}
-
-// A range in place of the pairs from `first` up to `past`, and zeros behind those used.
-fn put_joined(pairs: &mut [[u32; 2]], used: usize, first: usize, joined: Joined)
-    requires { ⌜ (first ≤ joined .past) × (joined .past ≤ used) × (used ≤ length (now pairs)) × (first + 1 + (used - joined .past) ≤ length (now pairs)) ⌝ }
-    ensures { λ _. ⌜ rangesIn (now (pairs .exit)) ≡ filledUp (now (pairs .entry)) (replacedBy (rangeAt (now (pairs .entry))) used first (joined .range) (joined .past)) ⌝ }
-{
-    bring_behind(pairs, used, first, joined.past);
-    put_range(pairs, first, joined.range);
-    clear_from(pairs, first + 1 + (used - joined.past));
 }
 
 // "Insert drops start > end, joins overlaps and neighbours, answers the new number of pairs, zeroes those past it, and gives 15 exactly
 // if the slice can't hold the result."
-pub fn insert(pairs: &mut [[u32; 2]], used: usize, start: u32, end: u32) -> InsertAnswer
-    ensures answer { λ r. ⌜ r ≡ insertAnswer (insertCall (rangesIn (now (pairs .entry))) used (pair start end)) ⌝ }
-    ensures slice { λ _. ⌜ rangesIn (now (pairs .exit)) ≡ sliceAfter (insertCall (rangesIn (now (pairs .entry))) used (pair start end)) (rangesIn (now (pairs .entry))) ⌝ }
+pub fn insert(list: &mut [Range], used: usize, start: u32, end: u32) -> InsertAnswer
+    ensures { λ r. ⌜ (r ≡ insertAnswer (insertCall (now (list .entry)) used (pair start end))) × (now (list .exit) ≡ sliceAfter (insertCall (now (list .entry)) used (pair start end)) (now (list .entry))) ⌝ }
 {
-    if !is_well_formed(pairs, used) {
-        return InsertAnswer::Refused(refusal::unplaced(Fault::MalformedRanges));
-    }
-    if end < start {
-        clear_from(pairs, used);
-        return InsertAnswer::Used(used);
-    }
-    let first = ends_before(pairs, used, start as u64);
-    let joined = join_from(pairs, used, first, Range { start, end });
-    let n = first + 1 + (used - joined.past);
-    if pairs.len() < n {
-        return InsertAnswer::Refused(refusal::unplaced(Fault::RangesFull));
-    }
-    put_joined(pairs, used, first, joined);
-    InsertAnswer::Used(n)
+    let len = list.len();
+    let found = scan_all(list, used, start, end);
+    let plan = plan_of(found, used, len);
+    rewrite(list, plan);
+    insert_answer(found, used, len)
 }

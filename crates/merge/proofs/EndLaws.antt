@@ -7,14 +7,14 @@ use mathlib.Core.Bool.{Bool, true, false}
 use mathlib.Core.List.{List, []}
 use lib.ListN.{length, take, drop, length-take}
 use lib.Seq.{getD-take}
-use Rattle.store.specs.Rows.{word}
-use Rattle.store.specs.Store.{row, Store}
-use Rattle.store.proofs.PlaceLaws.{by-lt}
-use Rattle.store.proofs.ListedLaws.{length-listed}
-use Rattle.weaving.specs.Woven.{Rising}
-use Rattle.weaving.proofs.WovenLaws.{woven-each}
-use Rattle.weaving.proofs.SeatLaws.{sorted-listed, seats-rising, woven-adds}
-use Rattle.map.proofs.Results.{not-accepted, bind-accepted}
+use Rattle.table.specs.Rows.{word}
+use Rattle.table.specs.Store.{row, Store}
+use Rattle.table.proofs.PlaceLaws.{by-lt}
+use Rattle.table.proofs.TabulateLaws.{length-tabulate}
+use Rattle.table_interleave.specs.Interleaved.{Ascending}
+use Rattle.table_interleave.proofs.InterleavedLaws.{interleaved-each}
+use Rattle.table_interleave.proofs.PositionLaws.{sorted-tabulate, positions-rising, woven-adds}
+use Rattle.ordmap.proofs.Results.{not-accepted, bind-accepted}
 use Rattle.model.specs.declared.Fault.{Fault}
 use Rattle.model.specs.declared.Fault.the-variants.{TooManyEntries}
 use Rattle.model.specs.declared.Mode.{Mode}
@@ -23,14 +23,14 @@ use Rattle.model.specs.Report.{Report, entryKey, compareKeys, combineEntries, m
 use Rattle.model.proofs.KeyOrder.{keys-order}
 use Rattle.model.proofs.Entries.{entries-keyed}
 use Rattle.model.proofs.MergeValid.{merge-valid}
-use Rattle.closing.specs.Sections.{entryOf, entryAt, entriesAt, Whole}
+use Rattle.table_section.specs.Sections.{entryOf, entryAt, entriesAt, RowInBounds}
 use Rattle.section.specs.Table.{Table}
-use Rattle.entering.proofs.EnterLaws.{within-fits, within-past}
+use Rattle.section_upsert.proofs.UpsertLaws.{within-fits, within-past}
 use Rattle.merge.specs.declared.Joined.{Joined}
 use Rattle.merge.specs.declared.Joined.the-variants.{Entries, Refused}
 use Rattle.merge.specs.declared.Walk.{Walk}
-use Rattle.merge.specs.Walking.{newAt, newsAt, fresh, spareWord, Settled, endedOf}
-use Rattle.merge.specs.Merging.{Tables, Merged}
+use Rattle.merge.specs.Walking.{newAt, newsAt, fresh, spareWord, DeltaMerged, endedOf}
+use Rattle.merge.specs.Merging.{Tables, MergedAsModel}
 use Rattle.merge.proofs.StandLaws.{all, Standing, standing-fits, standing-full}
 use Rattle.merge.proofs.PartLaws.{part-row, part-store}
 use Rattle.merge.proofs.RestLaws.{rest-end}
@@ -48,7 +48,7 @@ ended-fits full n e = rw e
 
 pub merged-refused : {text words₀ words : List ℕ} {base index limit n m : ℕ} {mode : Mode} {fault : Fault}
     → refuse fault ≡ answer text words₀ base index limit n m mode
-    → Merged text words₀ words base index limit n m mode (Refused fault)
+    → MergedAsModel text words₀ words base index limit n m mode (Refused fault)
 merged-refused e = record { is = e; held = tt }
 
 -- the whole text is merged
@@ -64,42 +64,42 @@ module _ {text words₀ : List ℕ} (words : List ℕ) {base index limit n used 
   ws = rowsPart base index limit words
 
   abbrev both : ℕ
-  both = walk .n + walk .new
+  both = walk .main + walk .delta
 
   same-words : (j : ℕ) → j < index + limit → word earlier j ≡ word ws j
   same-words j l = sym (getD-take (index + limit) earlier j 0 l)
 
   same-row : (j : ℕ) → j < both → row earlier index j ≡ row ws index j
-  same-row = part-row ws earlier same-words (ω .joined .ranked .store) (omega (arith, ω .joined .most))
+  same-row = part-row ws earlier same-words (ω .joined .ascending .store) (omega (arith, ω .joined .most))
 
-  -- what `settle` needs
+  -- what `merge_delta` needs
   pub settle-store : Store earlier index both
   settle-store =
-      part-store ws earlier same-words (ω .joined .ranked .store) (omega (arith, ω .joined .most)) (simp length-take (omega (arith, τ .words)))
+      part-store ws earlier same-words (ω .joined .ascending .store) (omega (arith, ω .joined .most)) (simp length-take (omega (arith, τ .words)))
 
-  pub settle-rising : Rising (spareWord earlier (index + limit)) (walk .n) (walk .new)
-  settle-rising = seats-rising entryKey compareKeys keys-order (ω .joined .ascend) (ω .seats)
+  pub settle-rising : Ascending (spareWord earlier (index + limit)) (walk .main) (walk .delta)
+  settle-rising = positions-rising entryKey compareKeys keys-order (ω .joined .ascend) (ω .seats)
 
-  last : Standing mode limit (answer text words₀ base index limit n m mode) [] (entriesAt text ws index (walk .n))
-      (newsAt text ws index (walk .n) (walk .new)) (walk .full)
+  last : Standing mode limit (answer text words₀ base index limit n m mode) [] (entriesAt text ws index (walk .main))
+      (newsAt text ws index (walk .main) (walk .delta)) (walk .full)
   last = standing-as (rest-end (entryAt text (drop base words₀) index) m k h) refl refl (ω .standing)
 
-  module _ (front : List ℕ) (σ : Settled earlier front index (index + limit) (walk .n) (walk .new)) where
+  module _ (front : List ℕ) (σ : DeltaMerged earlier front index (index + limit) (walk .main) (walk .delta)) where
     abbrev joined : Report
     joined = entriesAt text front index both
 
-    settled-joins : all mode (newsAt text ws index (walk .n) (walk .new)) (entriesAt text ws index (walk .n)) ≡ accepted joined
+    settled-joins : all mode (newsAt text ws index (walk .main) (walk .delta)) (entriesAt text ws index (walk .main)) ≡ accepted joined
     settled-joins =
         woven-adds (entryOf text) (σ .rows)
         (λ i l. ap (entryOf text) (sym (same-row i (omega arith)) ∙ ap (row earlier index) (sym (zero-add i))))
         (λ j l. ap (entryOf text)
-        (sym (same-row (walk .n + j) (omega arith)) ∙ ap (row earlier index) (let z : walk .n + j ≡ 0 + walk .n + j = omega arith in z)))
+        (sym (same-row (walk .main + j) (omega arith)) ∙ ap (row earlier index) (let z : walk .main + j ≡ 0 + walk .main + j = omega arith in z)))
         (λ i l. ap (entryOf text) (ap (row front index) (sym (zero-add i))))
-        entryKey compareKeys (combineEntries mode) keys-order (entries-keyed mode) (ω .seats) settle-rising (ω .joined .ranked .sorted)
-        (sorted-listed entryKey compareKeys (newAt text ws index (walk .n)) (walk .new) (ω .joined .ascend))
+        entryKey compareKeys (combineEntries mode) keys-order (entries-keyed mode) (ω .seats) settle-rising (ω .joined .ascending .sorted)
+        (sorted-tabulate entryKey compareKeys (newAt text ws index (walk .main)) (walk .delta) (ω .joined .ascend))
 
     fitting : walk .full ≡ false → accepted joined ≡ answer text words₀ base index limit n m mode
-    fitting e = standing-fits last joined e settled-joins (rw (length-listed (entryAt text front index) both) (ω .joined .most))
+    fitting e = standing-fits last joined e settled-joins (rw (length-tabulate (entryAt text front index) both) (ω .joined .most))
 
     -- what is joined is the model's report, which is valid
     report : walk .full ≡ false → merge mode (entriesAt text (take base words₀) index n) (entriesAt text (drop base words₀) index m) ≡ accepted joined
@@ -110,17 +110,17 @@ module _ {text words₀ : List ℕ} (words : List ℕ) {base index limit n used 
         (λ z. absurd (not-accepted (sym (within-past limit (length l) l z) ∙ q)))
         (λ z. sym (within-fits limit (length l) l z) ∙ q)
 
-    whole-row : (j : ℕ) → j < both → Whole text (row earlier index j)
+    whole-row : (j : ℕ) → j < both → RowInBounds text (row earlier index j)
     whole-row j l = rw (same-row j l)
-        (by-lt j (walk .n)
-        (λ z. ω .joined .ranked .whole j z)
-        (λ z. rw (let y : j ≡ walk .n + (j - walk .n) = omega arith in y) (ω .joined .fresh (j - walk .n) (omega arith))))
+        (by-lt j (walk .main)
+        (λ z. ω .joined .ascending .whole j z)
+        (λ z. rw (let y : j ≡ walk .main + (j - walk .main) = omega arith in y) (ω .joined .fresh (j - walk .main) (omega arith))))
 
-    whole-joined : (j : ℕ) → j < both → Whole text (row front index j)
-    whole-joined j l = woven-each settle-rising (σ .rows) (Whole text) (λ i a b. whole-row i (omega arith)) j (omega arith) (omega arith)
+    whole-joined : (j : ℕ) → j < both → RowInBounds text (row front index j)
+    whole-joined j l = interleaved-each settle-rising (σ .rows) (RowInBounds text) (λ i a b. whole-row i (omega arith)) j (omega arith) (omega arith)
 
     module _ (words′ : List ℕ) (put : take base words′ ≡ front) where
-      done : (full : Bool) → walk .full ≡ full → Merged text words₀ words′ base index limit n m mode (endedOf full both)
+      done : (full : Bool) → walk .full ≡ full → MergedAsModel text words₀ words′ base index limit n m mode (endedOf full both)
       done true e = record { is = standing-full last e; held = tt }
       done false e = record {
         is = ap (λ (ws : List ℕ). accepted (entriesAt text ws index both)) put ∙ fitting e;
@@ -136,5 +136,5 @@ module _ {text words₀ : List ℕ} (words : List ℕ) {base index limit n used 
                 (τ .into .valid) (τ .other .valid) (report e);
           }
 
-      pub merged-done : (r : Joined) → r ≡ endedOf (walk .full) both → Merged text words₀ words′ base index limit n m mode r
+      pub merged-done : (r : Joined) → r ≡ endedOf (walk .full) both → MergedAsModel text words₀ words′ base index limit n m mode r
       merged-done r e = rw e (done (walk .full) refl)

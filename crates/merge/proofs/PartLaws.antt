@@ -5,15 +5,15 @@ use mathlib.Core.Path.{_≡_, refl, sym, ap, _∙_}
 use mathlib.Core.List.{List, _++_}
 use lib.ListN.{length, set, take, drop, length-append, length-take, length-drop}
 use lib.Seq.{take-at, drop-at, take-all, take-take, take-set-le, getD-drop, getD-set-same, getD-set-other}
-use Rattle.store.specs.declared.Row.{Row}
-use Rattle.store.specs.Rows.{row-words, word, rowAt}
-use Rattle.store.specs.Store.{number, row, Store}
-use Rattle.store.proofs.WordLaws.{row-cong}
+use Rattle.table.specs.declared.Row.{Row}
+use Rattle.table.specs.Rows.{row-words, word, rowAt}
+use Rattle.table.specs.Store.{number, row, Store}
+use Rattle.table.proofs.WordLaws.{row-cong}
 use Rattle.model.specs.declared.Mode.{Mode}
-use Rattle.placing.specs.Placing.{Ranked}
+use Rattle.merge_search.specs.Search.{EntriesAscending}
 use Rattle.merge.specs.declared.Walk.{Walk}
 use Rattle.merge.specs.declared.Added.{Added}
-use Rattle.merge.specs.Walking.{Adding, Noted, spareWord}
+use Rattle.merge.specs.Walking.{RowAdded, PositionNoted, spareWord}
 
 -- ---- the front part of the words
 
@@ -41,9 +41,9 @@ module _ (ws ws′ : List ℕ) {index used spare : ℕ} (same : (j : ℕ) → j 
   }
 
 -- a part of the front is a part of the words
-pub ranked-front : {text : List ℕ} (ws : List ℕ) (base spare : ℕ) {index used n : ℕ} → spare ≤ base
-    → Ranked text (take spare (take base ws)) index used n → Ranked text (take spare ws) index used n
-ranked-front ws base spare h ρ = rw (take-take spare base ws h) at ρ
+pub ascending-front : {text : List ℕ} (ws : List ℕ) (base spare : ℕ) {index used n : ℕ} → spare ≤ base
+    → EntriesAscending text (take spare (take base ws)) index used n → EntriesAscending text (take spare ws) index used n
+ascending-front ws base spare h ρ = rw (take-take spare base ws h) at ρ
 
 -- ---- the words
 
@@ -92,17 +92,17 @@ module _ (words ys : List ℕ) (spare : ℕ) (inside : spare ≤ length words) (
       ∙ getD-drop spare words j 0
 
   module _ {walk next : Walk} where
-    pub noted-none : next .new ≤ walk .new → Noted (spareWord words spare) (spareWord back-again spare) walk next
+    pub noted-none : next .delta ≤ walk .delta → PositionNoted (spareWord words spare) (spareWord back-again spare) walk next
     noted-none h = record { older = λ j l. spare-stays j; newest = λ l. absurd (omega arith) }
 
-    pub noted-place : spare + walk .new < length words
-        → Noted (spareWord words spare) (spareWord (set back-again (spare + walk .new) (next .from)) spare) walk next
+    pub noted-place : spare + walk .delta < length words
+        → PositionNoted (spareWord words spare) (spareWord (set back-again (spare + walk .delta) (next .from)) spare) walk next
     noted-place h = record {
-      older = λ j l. getD-set-other back-again (spare + walk .new) (spare + j) (next .from) 0 (omega arith) ∙ spare-stays j;
-      newest = λ l. getD-set-same back-again (spare + walk .new) (next .from) 0 (omega (arith, lent-size));
+      older = λ j l. getD-set-other back-again (spare + walk .delta) (spare + j) (next .from) 0 (omega arith) ∙ spare-stays j;
+      newest = λ l. getD-set-same back-again (spare + walk .delta) (next .from) 0 (omega (arith, lent-size));
     }
 
 -- an answer by a match, of words that came back
 pub adding-as : (text ws : List ℕ) (index limit : ℕ) (walk : Walk) (r : Row) (mode : Mode) {ws′ ws″ : List ℕ} {a b : Added} → ws″ ≡ ws′ → a ≡ b
-    → Adding text ws ws′ index limit walk r mode a → Adding text ws ws″ index limit walk r mode b
+    → RowAdded text ws ws′ index limit walk r mode a → RowAdded text ws ws″ index limit walk r mode b
 adding-as text ws index limit walk r mode e q s = rw (e, ← q) s

@@ -10,14 +10,14 @@ use mathlib.Core.Option.{Option, none, some}
 use mathlib.Core.List.{[], _∷_, _++_, List·Memᴰ as Member, List·Memᴰ·head as here, List·Memᴰ·tail as there}
 use lib.Dec.{isEq}
 use lib.ListN.{length, length-append}
-use Rattle.map.specs.Result.{accepted, refused, bind, mapAccepted}
-use Rattle.map.specs.Keyed.{byOrder, Sorted, find, step, addAll}
-use Rattle.map.proofs.Results.{impossible, accepted-inj, mapAccepted-accepted, mapAccepted-refused}
-use Rattle.map.proofs.Maps.{find-above, above-trans}
-use Rattle.map.proofs.Members.{above-member}
-use Rattle.map.proofs.Adding.{add-sorted, add-found, add-other}
-use Rattle.map.proofs.Sizes.{add-length, addAll-append}
-use Rattle.weaving.proofs.OrderLaws.{add-before}
+use Rattle.ordmap.specs.Result.{accepted, refused, bind, mapAccepted}
+use Rattle.ordmap.specs.Keyed.{byOrder, Sorted, find, step, addAll}
+use Rattle.ordmap.proofs.Results.{impossible, accepted-inj, mapAccepted-accepted, mapAccepted-refused}
+use Rattle.ordmap.proofs.Maps.{find-above, above-trans}
+use Rattle.ordmap.proofs.Members.{above-member}
+use Rattle.ordmap.proofs.Adding.{add-sorted, add-found, add-other}
+use Rattle.ordmap.proofs.Sizes.{add-length, addAll-append}
+use Rattle.table_interleave.proofs.OrderLaws.{add-before}
 use Rattle.model.specs.declared.Fault.the-variants.{TooManyEntries}
 use Rattle.model.specs.declared.Mode.{Mode}
 use Rattle.model.specs.declared.Refusal.{Refusal}
@@ -25,7 +25,7 @@ use Rattle.model.specs.Answer.{Answer, refuse}
 use Rattle.model.specs.Report.{Entry, Report, entryKey, compareKeys, combineEntries, merge, within}
 use Rattle.model.proofs.KeyOrder.{keys-order}
 use Rattle.model.proofs.Entries.{entries-keyed}
-use Rattle.entering.proofs.EnterLaws.{within-fits, within-past}
+use Rattle.section_upsert.proofs.UpsertLaws.{within-fits, within-past}
 use Rattle.merge.specs.Walking.{added}
 
 abbrev pub counted : ℕ → Answer Report → Answer Report

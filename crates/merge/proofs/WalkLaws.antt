@@ -7,33 +7,33 @@ use mathlib.Core.List.{List, _∷_, List·Memᴰ·head as here}
 use lib.Dec.{isEq}
 use lib.ListN.{length, take, drop, length-take}
 use lib.Seq.{getD-take}
-use Rattle.store.specs.declared.Row.{Row}
-use Rattle.store.specs.Places.{listed, Same}
-use Rattle.store.specs.Rows.{word}
-use Rattle.store.specs.Store.{row}
-use Rattle.store.proofs.ListedLaws.{listed-cong, length-listed}
-use Rattle.weaving.specs.Woven.{Seats}
-use Rattle.weaving.proofs.SeatLaws.{seats-as, seats-more}
-use Rattle.map.specs.Keyed.{Sorted}
+use Rattle.table.specs.declared.Row.{Row}
+use Rattle.table.specs.Places.{tabulate, Unchanged}
+use Rattle.table.specs.Rows.{word}
+use Rattle.table.specs.Store.{row}
+use Rattle.table.proofs.TabulateLaws.{tabulate-cong, length-tabulate}
+use Rattle.table_interleave.specs.Interleaved.{InsertPositions}
+use Rattle.table_interleave.proofs.PositionLaws.{positions-as, positions-more}
+use Rattle.ordmap.specs.Keyed.{Sorted}
 use Rattle.model.specs.declared.Fault.{Fault}
 use Rattle.model.specs.declared.Mode.{Mode}
 use Rattle.model.specs.Answer.{Answer, refuse, unplaced}
 use Rattle.model.specs.Report.{Entry, Report, entryKey, compareKeys, merge}
 use Rattle.model.proofs.KeyOrder.{keys-order}
-use Rattle.closing.specs.Sections.{entryOf, entryAt, entriesAt, Whole}
+use Rattle.table_section.specs.Sections.{entryOf, entryAt, entriesAt, RowInBounds}
 use Rattle.section.specs.Table.{Table}
-use Rattle.items.proofs.SearchLaws.{sorted-at}
-use Rattle.placing.specs.Naming.{Means}
-use Rattle.placing.specs.Placing.{compareEntries}
+use Rattle.table_item.proofs.SearchLaws.{sorted-at}
+use Rattle.merge_search.specs.Names.{SameEntry}
+use Rattle.merge_search.specs.Search.{compareEntries}
 use Rattle.merge.specs.declared.Joined.the-variants.{Refused}
 use Rattle.merge.specs.declared.Walk.{Walk}
 use Rattle.merge.specs.declared.Added.{Added}
 use Rattle.merge.specs.declared.Added.the-variants as A
-use Rattle.merge.specs.Walking.{newAt, newsAt, Within, Ahead, Ready, Taken, known, fresh, left, Stepped, Adding, Noted, Noting, spareWord}
+use Rattle.merge.specs.Walking.{newAt, newsAt, TableWithin, Ahead, RowComesNext, RowOutcome, known, fresh, left, Stepped, RowAdded, PositionNoted, PositionsKept, spareWord}
 use Rattle.merge.specs.Merging.{Tables}
 use Rattle.merge.proofs.StandLaws.{counted, Standing, standing-start, standing-refused, standing-known, standing-fresh, standing-left}
 use Rattle.merge.proofs.PartLaws.{part-row, part-store}
-use Rattle.merge.proofs.RestLaws.{restFrom, rest-next, rest-sorted, rest-start, each-listed, listed-last, seated-rest, seated-none}
+use Rattle.merge.proofs.RestLaws.{restFrom, rest-next, rest-sorted, rest-start, each-tabulate, tabulate-last, result-rest, result-none}
 
 -- ---- the loop
 
@@ -41,11 +41,11 @@ use Rattle.merge.proofs.RestLaws.{restFrom, rest-next, rest-sorted, res
 pub record Walked (text ws back : List ℕ) (place : ℕ → ℕ) (index limit m : ℕ) (mode : Mode) (whole : Answer Report) (walk : Walk) (k : ℕ)
     : Type 0 where
   pub most : k ≤ m
-  pub joined : Within text ws index limit walk
-  pub seats : Seats entryKey compareKeys (entryAt text ws index) (newAt text ws index (walk .n)) place (walk .n) (walk .new)
+  pub joined : TableWithin text ws index limit walk
+  pub seats : InsertPositions entryKey compareKeys (entryAt text ws index) (newAt text ws index (walk .main)) place (walk .main) (walk .delta)
   pub ahead : (j : ℕ) → k ≤ j → j < m → Ahead text ws index walk (row back index j)
-  pub standing : Standing mode limit whole (restFrom (entryAt text back index) m k) (entriesAt text ws index (walk .n))
-      (newsAt text ws index (walk .n) (walk .new)) (walk .full)
+  pub standing : Standing mode limit whole (restFrom (entryAt text back index) m k) (entriesAt text ws index (walk .main))
+      (newsAt text ws index (walk .main) (walk .delta)) (walk .full)
 
 pub standing-as : {mode : Mode} {limit : ℕ} {whole : Answer Report} {rest rest′ joined joined′ news news′ : Report} {full : Bool} → rest ≡ rest′
     → joined ≡ joined′ → news ≡ news′
@@ -74,17 +74,17 @@ module _ {text words : List ℕ} {base index limit n used m : ℕ} (mode : Mode)
 
   part-entries : entriesAt text part index n ≡ entriesAt text front index n
   part-entries =
-      listed-cong (entryAt text part index) (entryAt text front index) n
+      tabulate-cong (entryAt text part index) (entryAt text front index) n
       (λ k l. ap (entryOf text) (part-row front part part-same (τ .into .store) (omega (arith, τ .most)) k l))
 
   pub walked-start : Walked text part (drop base words) (spareWord front (index + limit)) index limit m mode
       (answer text words base index limit n m mode)
-      (record { n = n; new = 0; from = 0; full = false }) 0
-  unfolding listed
+      (record { main = n; delta = 0; from = 0; full = false }) 0
+  unfolding tabulate
   walked-start = record {
     most = omega arith;
     joined = record {
-      ranked = record {
+      ascending = record {
         store = rw (let z : n + 0 ≡ n = omega arith in z) (part-store front part part-same (τ .into .store) (omega (arith, τ .most)) long);
         room = omega arith;
         whole = λ k l. rw (part-row front part part-same (τ .into .store) (omega (arith, τ .most)) k l) (τ .into .whole k l);
@@ -108,15 +108,15 @@ module _ {text words : List ℕ} {base index limit n used m : ℕ} (mode : Mode)
 
 module _ {text ws back : List ℕ} {place : ℕ → ℕ} {index limit used m : ℕ} {mode : Mode} {whole : Answer Report} {walk : Walk} {k : ℕ}
     (ω : Walked text ws back place index limit m mode whole walk k) (τ : Table text back index used m) (h : k < m) (r : Row)
-    (μ : Means text (row back index k) r) where
+    (μ : SameEntry text (row back index k) r) where
   abbrev f : ℕ → Entry
   f = entryAt text back index
 
   abbrev n : ℕ
-  n = walk .n
+  n = walk .main
 
   abbrev p : ℕ
-  p = walk .new
+  p = walk .delta
 
   -- the entry at hand, and those after it
   rest-is : restFrom f m k ≡ entryOf text r ∷ restFrom f m (k + 1)
@@ -138,67 +138,67 @@ module _ {text ws back : List ℕ} {place : ℕ → ℕ} {index limit used m : �
     newer = λ j l. ap (λ (x : Entry). compareEntries (newAt text ws index n j) x) (μ .entry) ∙ ω .ahead k (omega arith) h .newer j l;
   }
 
-  pub walked-ready : Ready text ws index limit walk r × Whole text r
+  pub walked-ready : RowComesNext text ws index limit walk r × RowInBounds text r
   walked-ready = (record { joined = ω .joined; ahead = ahead-hand }, μ .whole)
 
-  pub walked-refused : (ws′ : List ℕ) (a : Added) (fault : Fault) → a ≡ A.Refused fault → Adding text ws ws′ index limit walk r mode a
+  pub walked-refused : (ws′ : List ℕ) (a : Added) (fault : Fault) → a ≡ A.Refused fault → RowAdded text ws ws′ index limit walk r mode a
       → refuse fault ≡ whole
-  walked-refused ws′ a fault q s = standing-refused at-hand (ω .joined .ranked .sorted) sorted-hand (unplaced fault) (go a q s)
+  walked-refused ws′ a fault q s = standing-refused at-hand (ω .joined .ascending .sorted) sorted-hand (unplaced fault) (go a q s)
     where
-      go : (a : Added) → a ≡ A.Refused fault → Adding text ws ws′ index limit walk r mode a
-          → Adding text ws ws′ index limit walk r mode (A.Refused fault)
+      go : (a : Added) → a ≡ A.Refused fault → RowAdded text ws ws′ index limit walk r mode a
+          → RowAdded text ws ws′ index limit walk r mode (A.Refused fault)
       go a q s = rw q at s
 
   -- ---- the row is taken
 
-  module _ (ws′ : List ℕ) (place′ : ℕ → ℕ) (next : Walk) (ν : Noted place place′ walk next) where
+  module _ (ws′ : List ℕ) (place′ : ℕ → ℕ) (next : Walk) (ν : PositionNoted place place′ walk next) where
     abbrev Sits : Type 0
-    Sits = Seats entryKey compareKeys (entryAt text ws′ index) (newAt text ws′ index (next .n)) place′ (next .n) (next .new)
+    Sits = InsertPositions entryKey compareKeys (entryAt text ws′ index) (newAt text ws′ index (next .main)) place′ (next .main) (next .delta)
 
     abbrev Stands : Type 0
-    Stands = Standing mode limit whole (restFrom f m (k + 1)) (entriesAt text ws′ index (next .n))
-        (newsAt text ws′ index (next .n) (next .new)) (next .full)
+    Stands = Standing mode limit whole (restFrom f m (k + 1)) (entriesAt text ws′ index (next .main))
+        (newsAt text ws′ index (next .main) (next .delta)) (next .full)
 
-    new-key : Same (row ws index) (row ws′ index) n (n + p) → (j : ℕ) → j < p → newAt text ws′ index n j ≡ newAt text ws index n j
+    new-key : Unchanged (row ws index) (row ws′ index) n (n + p) → (j : ℕ) → j < p → newAt text ws′ index n j ≡ newAt text ws index n j
     new-key same j l = ap (entryOf text) (same (n + j) (omega arith) (omega arith))
 
-    old-key : Same (row ws index) (row ws′ index) 0 (n + p) → (j : ℕ) → j < n → entryAt text ws′ index j ≡ entryAt text ws index j
+    old-key : Unchanged (row ws index) (row ws′ index) 0 (n + p) → (j : ℕ) → j < n → entryAt text ws′ index j ≡ entryAt text ws index j
     old-key same j l = ap (entryOf text) (same j (omega arith) (omega arith))
 
-    sits : next .n ≡ n → Taken text ws ws′ index limit walk r mode next → Sits
+    sits : next .main ≡ n → RowOutcome text ws ws′ index limit walk r mode next → Sits
     sits q (known a b is keys news) =
-        rw (q, a) (seats-as entryKey compareKeys keys (λ j l. ap entryKey (new-key news j l)) (ν .older) (ω .seats))
+        rw (q, a) (positions-as entryKey compareKeys keys (λ j l. ap entryKey (new-key news j l)) (ν .older) (ω .seats))
     sits q (left a b full s same) =
-        rw (q, a, same) (seats-as entryKey compareKeys (λ j l. refl) (λ j l. refl) (ν .older) (ω .seats))
+        rw (q, a, same) (positions-as entryKey compareKeys (λ j l. refl) (λ j l. refl) (ν .older) (ω .seats))
     sits q (fresh a b s same stands-there) =
         let here : place′ p ≡ next .from = ν .newest (omega arith) in
         let new : newAt text ws′ index n p ≡ entryOf text r = ap (entryOf text) stands-there in
         rw (q, a)
-        (seats-more entryKey compareKeys
-        (seats-as entryKey compareKeys (λ j l. ap entryKey (old-key same j l)) (λ j l. ap entryKey (new-key (λ i o u. same i (omega arith) u) j l))
+        (positions-more entryKey compareKeys
+        (positions-as entryKey compareKeys (λ j l. ap entryKey (old-key same j l)) (λ j l. ap entryKey (new-key (λ i o u. same i (omega arith) u) j l))
         (ν .older) (ω .seats))
         (rw here (s .0))
         (λ i l. rw (new, old-key same i (omega (arith, here, s .0))) (s .1 i (omega arith)))
-        (λ i l o. rw (new, old-key same i o) (seated-rest r (ω .joined .ranked) s i (omega arith) o)))
+        (λ i l o. rw (new, old-key same i o) (result-rest r (ω .joined .ascending) s i (omega arith) o)))
 
-    stands : next .n ≡ n → Taken text ws ws′ index limit walk r mode next → Stands
+    stands : next .main ≡ n → RowOutcome text ws ws′ index limit walk r mode next → Stands
     stands q (known a b is keys news) =
         rw (q, a, b)
-        (standing-as refl refl (sym (listed-cong (newAt text ws′ index n) (newAt text ws index n) p (new-key news)))
-        (standing-known at-hand (ω .joined .ranked .sorted) sorted-hand (entriesAt text ws′ index n) is
-        (each-listed (λ x. isEq (compareEntries (entryOf text r) x) ≡ false) (newAt text ws index n) p
+        (standing-as refl refl (sym (tabulate-cong (newAt text ws′ index n) (newAt text ws index n) p (new-key news)))
+        (standing-known at-hand (ω .joined .ascending .sorted) sorted-hand (entriesAt text ws′ index n) is
+        (each-tabulate (λ x. isEq (compareEntries (entryOf text r) x) ≡ false) (newAt text ws index n) p
         (λ j l. ap isEq (keys-order .greater (ahead-hand .newer j l))))))
     stands q (left a b full s same) =
         rw (q, a, b, same)
-        (standing-left at-hand (ω .joined .ranked .sorted) sorted-hand (seated-none r (ω .joined .ranked) s)
-        (rw (length-listed (entryAt text ws index) n, length-listed (newAt text ws index n) p) full))
+        (standing-left at-hand (ω .joined .ascending .sorted) sorted-hand (result-none r (ω .joined .ascending) s)
+        (rw (length-tabulate (entryAt text ws index) n, length-tabulate (newAt text ws index n) p) full))
     stands q (fresh a b s same stands-there) =
         rw (q, a, b)
         (standing-as refl
-        (sym (listed-cong (entryAt text ws′ index) (entryAt text ws index) n (old-key same)))
-        (sym (listed-last (newAt text ws′ index n) (newAt text ws index n) p (entryOf text r) (new-key (λ i o u. same i (omega arith) u))
+        (sym (tabulate-cong (entryAt text ws′ index) (entryAt text ws index) n (old-key same)))
+        (sym (tabulate-last (newAt text ws′ index n) (newAt text ws index n) p (entryOf text r) (new-key (λ i o u. same i (omega arith) u))
         (ap (entryOf text) stands-there)))
-        (standing-fresh at-hand (ω .joined .ranked .sorted) sorted-hand (seated-none r (ω .joined .ranked) s)))
+        (standing-fresh at-hand (ω .joined .ascending .sorted) sorted-hand (result-none r (ω .joined .ascending) s)))
 
     step : Stepped text ws ws′ index limit walk r mode next → Walked text ws′ back place′ index limit m mode whole next (k + 1)
     step σ = record {
@@ -210,12 +210,12 @@ module _ {text ws back : List ℕ} {place : ℕ → ℕ} {index limit used m : �
       standing = stands (σ .same) (σ .taken);
     }
 
-  pub walked-next : (ws′ : List ℕ) (place′ : ℕ → ℕ) (a : Added) (next : Walk) → a ≡ A.Next next → Adding text ws ws′ index limit walk r mode a
-      → Noting place place′ walk a → Walked text ws′ back place′ index limit m mode whole next (k + 1)
+  pub walked-next : (ws′ : List ℕ) (place′ : ℕ → ℕ) (a : Added) (next : Walk) → a ≡ A.Next next → RowAdded text ws ws′ index limit walk r mode a
+      → PositionsKept place place′ walk a → Walked text ws′ back place′ index limit m mode whole next (k + 1)
   walked-next ws′ place′ a next q s ν = step ws′ place′ next (noted a q ν) (go a q s)
     where
-      go : (a : Added) → a ≡ A.Next next → Adding text ws ws′ index limit walk r mode a → Stepped text ws ws′ index limit walk r mode next
+      go : (a : Added) → a ≡ A.Next next → RowAdded text ws ws′ index limit walk r mode a → Stepped text ws ws′ index limit walk r mode next
       go a q s = rw q at s
 
-      noted : (a : Added) → a ≡ A.Next next → Noting place place′ walk a → Noted place place′ walk next
+      noted : (a : Added) → a ≡ A.Next next → PositionsKept place place′ walk a → PositionNoted place place′ walk next
       noted a q ν = rw q at ν

@@ -4,12 +4,12 @@ use Prim.Native.Nat.{ℕ, _+_, _*_, _≤_}
 use mathlib.Core.Path.{_≡_}
 use mathlib.Core.List.{List}
 use lib.ListN.{length, take, drop}
-use Rattle.store.specs.Rows.{row-words}
+use Rattle.table.specs.Rows.{row-words}
 use Rattle.model.specs.declared.Mode.{Mode}
 use Rattle.model.specs.Bytes.{Bytes}
 use Rattle.model.specs.Answer.{Answer, accepted, _>>=_, refuse}
 use Rattle.model.specs.Report.{Report, merge, within}
-use Rattle.closing.specs.Sections.{entriesAt}
+use Rattle.table_section.specs.Sections.{entriesAt}
 use Rattle.section.specs.Table.{Table}
 use Rattle.merge.specs.declared.Joined.{Joined}
 use Rattle.merge.specs.declared.Joined.the-variants.{Entries, Refused}
@@ -33,7 +33,7 @@ HeldJoined text ws index limit (Entries n) = Table text ws index n n × (n ≤ l
 HeldJoined text ws index limit (Refused fault) = Unit {0}
 
 -- the answer is the model's merge, whose entries are counted when the whole text is merged
-pub record Merged (text ws ws′ : List ℕ) (base index limit n m : ℕ) (mode : Mode) (r : Joined) : Type 0 where
+pub record MergedAsModel (text ws ws′ : List ℕ) (base index limit n m : ℕ) (mode : Mode) (r : Joined) : Type 0 where
   pub is : seenJoined text (take base ws′) index r
       ≡ (merge mode (entriesAt text (take base ws) index n) (entriesAt text (drop base ws) index m) >>= λ joined. within limit (length joined) joined)
   pub held : HeldJoined text (take base ws′) index limit r

@@ -4,20 +4,20 @@
 //
 // The walk leaves the joined entries where they stand: new ones are put behind them, and the place of each among them is noted in the spare
 // words behind the index. At the end the new ones are woven among the others in one pass.
-use items::Found;
-use joining::Joining;
+use merge_combine::CombinedRow;
+use merge_search::names;
 use model::Fault;
 use model::Mode;
-use placing::names;
-use store::Row;
+use table::Row;
+use table_item::Found;
 ghost use mathlib.Core.Path.{_≡_};
 ghost use Prim.Native.Nat.{_+_, _≤_};
 ghost use lib.ListN.{length, take};
-ghost use Rattle.store.specs.Store.{Store};
-ghost use Rattle.weaving.specs.Woven.{Rising};
-ghost use Rattle.closing.specs.Sections.{Whole};
-ghost use Rattle.merge.specs.Walking.{Room, Grown, Ready, Adding, Noting, spareWord, Settled, endedOf};
-ghost use Rattle.merge.specs.Merging.{Tables, Merged};
+ghost use Rattle.table.specs.Store.{Store};
+ghost use Rattle.table_interleave.specs.Interleaved.{Ascending};
+ghost use Rattle.table_section.specs.Sections.{RowInBounds};
+ghost use Rattle.merge.specs.Walking.{RowsWithin, RowPushed, RowComesNext, RowAdded, PositionsKept, spareWord, DeltaMerged, endedOf};
+ghost use Rattle.merge.specs.Merging.{Tables, MergedAsModel};
 
 // The number of entries that are now joined, or why there are none.
 pub enum Joined {
@@ -28,8 +28,8 @@ pub enum Joined {
 // How many entries were joined, how many are new, and before which place of the joined ones all come before what is still to be merged;
 // `full` when there was no row for a new one.
 struct Walk {
-    n: usize,
-    new: usize,
+    main: usize,
+    delta: usize,
     from: usize,
     full: bool,
 }
@@ -41,26 +41,26 @@ enum Added {
 
 // The row's key is new, and goes to place i. It takes a new row, behind all others; where there is no row for it, it is left out.
 fn add_new(words: &mut [u64], index: usize, limit: usize, walk: Walk, row: Row, i: usize) -> Walk
-    requires { ⌜ Room (now words) index limit walk ⌝ }
-    ensures { λ next. ⌜ Grown (now (words .entry)) (now (words .exit)) index limit walk row i next ⌝ }
+    requires { ⌜ RowsWithin (now words) index limit walk ⌝ }
+    ensures { λ next. ⌜ RowPushed (now (words .entry)) (now (words .exit)) index limit walk row i next ⌝ }
 {
-    let n = walk.n;
-    let new = walk.new;
+    let n = walk.main;
+    let new = walk.delta;
     let used = n + new;
     if limit <= used {
         return Walk {
-            n,
-            new,
+            main: n,
+            delta: new,
             from: i,
             full: true,
         };
     }
     let full = walk.full;
-    store::grow(words, index, used);
-    store::put(words, index, used + 1, used, row);
+    table::push_row(words, index, used);
+    table::put(words, index, used + 1, used, row);
     Walk {
-        n,
-        new: new + 1,
+        main: n,
+        delta: new + 1,
         from: i,
         full,
     }
@@ -73,32 +73,32 @@ fn add_row(
     index: usize,
     limit: usize,
     walk: Walk,
-    gap: usize,
+    stride: usize,
     row: Row,
     mode: Mode,
 ) -> Added
-    requires { ⌜ Ready (now text) (now words) index limit walk row × Whole (now text) row ⌝ }
-    ensures { λ r. ⌜ Adding (now (text .entry)) (now (words .entry)) (now (words .exit)) index limit walk row mode r ⌝ }
+    requires { ⌜ RowComesNext (now text) (now words) index limit walk row × RowInBounds (now text) row ⌝ }
+    ensures { λ r. ⌜ RowAdded (now (text .entry)) (now (words .entry)) (now (words .exit)) index limit walk row mode r ⌝ }
 {
-    let n = walk.n;
-    let new = walk.new;
+    let n = walk.main;
+    let new = walk.delta;
     let used = n + new;
     let full = walk.full;
-    let found = placing::find_entry(text, words, index, used, n, walk.from, gap, row);
+    let found = merge_search::search_with_hint(text, words, index, used, n, walk.from, stride, row);
     match found {
         Found::At(i) => {
-            let old = store::get(words, index, used, i);
-            match joining::join_rows(text, old, row, mode) {
-                Joining::One(both) => {
-                    store::put(words, index, used, i, both);
+            let old = table::get(words, index, used, i);
+            match merge_combine::combine_rows(text, old, row, mode) {
+                CombinedRow::One(both) => {
+                    table::put(words, index, used, i, both);
                     return Added::Next(Walk {
-                        n,
-                        new,
+                        main: n,
+                        delta: new,
                         from: i + 1,
                         full,
                     });
                 }
-                Joining::Refused(fault) => {
+                CombinedRow::Refused(fault) => {
                     return Added::Refused(fault);
                 }
             }
@@ -116,24 +116,24 @@ fn step(
     index: usize,
     limit: usize,
     walk: Walk,
-    gap: usize,
+    stride: usize,
     row: Row,
     mode: Mode,
 ) -> Added
-    requires { ⌜ Ready (now text) (take (index + limit) (now words)) index limit walk row × Whole (now text) row ⌝ }
+    requires { ⌜ RowComesNext (now text) (take (index + limit) (now words)) index limit walk row × RowInBounds (now text) row ⌝ }
     requires { ⌜ index + limit + limit ≤ length (now words) ⌝ }
-    ensures { λ r. ⌜ Adding (now (text .entry)) (take (index + limit) (now (words .entry))) (take (index + limit) (now (words .exit))) index limit walk row mode r ⌝ }
-    ensures { λ r. ⌜ Noting (spareWord (now (words .entry)) (index + limit)) (spareWord (now (words .exit)) (index + limit)) walk r ⌝ }
+    ensures { λ r. ⌜ RowAdded (now (text .entry)) (take (index + limit) (now (words .entry))) (take (index + limit) (now (words .exit))) index limit walk row mode r ⌝ }
+    ensures { λ r. ⌜ PositionsKept (spareWord (now (words .entry)) (index + limit)) (spareWord (now (words .exit)) (index + limit)) walk r ⌝ }
 {
     let spare = index + limit;
-    let new = walk.new;
+    let new = walk.delta;
     match add_row(
         text,
         &mut words[..spare],
         index,
         limit,
         walk,
-        gap,
+        stride,
         row,
         mode,
     ) {
@@ -141,7 +141,7 @@ fn step(
             return Added::Refused(fault);
         }
         Added::Next(next) => {
-            if new < next.new {
+            if new < next.delta {
                 words[spare + new] = next.from as u64;
             }
             return Added::Next(next);
@@ -150,15 +150,15 @@ fn step(
 }
 
 // The new rows are brought to their places. Nothing moves where all of them go behind the n.
-fn settle(words: &mut [u64], index: usize, spare: usize, n: usize, new: usize)
-    requires { ⌜ Store (now words) index (n + new) × Rising (spareWord (now words) spare) n new ⌝ }
+fn merge_delta(words: &mut [u64], index: usize, spare: usize, n: usize, new: usize)
+    requires { ⌜ Store (now words) index (n + new) × Ascending (spareWord (now words) spare) n new ⌝ }
     requires { ⌜ (index + (n + new) ≤ spare) × (spare + new + new ≤ length (now words)) ⌝ }
-    ensures { λ _. ⌜ Settled (now (words .entry)) (now (words .exit)) index spare n new ⌝ }
+    ensures { λ _. ⌜ DeltaMerged (now (words .entry)) (now (words .exit)) index spare n new ⌝ }
 {
     if 0 < new {
         let first = words[spare] as usize;
         if first < n {
-            weaving::weave(words, index, n + new, 0, n, new, spare);
+            table_interleave::interleave(words, index, n + new, 0, n, new, spare);
         }
     }
 }
@@ -174,12 +174,12 @@ fn ended(full: bool, n: usize) -> Joined
 }
 
 // How far a row's key lay from where it was looked for, as a guess for the next row: of this number nothing is promised.
-fn gap_of(walk: Walk, next: Walk) -> usize {
+fn stride_hint(walk: Walk, next: Walk) -> usize {
     if next.from <= walk.from {
         return 0;
     }
     let far = next.from - walk.from;
-    if walk.new < next.new {
+    if walk.delta < next.delta {
         return far;
     }
     far - 1
@@ -198,11 +198,11 @@ pub fn merge(
     mode: Mode,
 ) -> Joined
     requires { ⌜ Tables (now text) (now words) base index limit n used m ⌝ }
-    ensures { λ r. ⌜ Merged (now (text .entry)) (now (words .entry)) (now (words .exit)) base index limit n m mode r ⌝ }
+    ensures { λ r. ⌜ MergedAsModel (now (text .entry)) (now (words .entry)) (now (words .exit)) base index limit n m mode r ⌝ }
 {
     let mut walk = Walk {
-        n,
-        new: 0,
+        main: n,
+        delta: 0,
         from: 0,
         full: false,
     };
@@ -211,29 +211,29 @@ pub fn merge(
     let mut gap = 0;
     let mut k = 0;
     while k < m {
-        let read = store::get(&words[base..], index, used, k);
-        let row = names::respelled(read, section);
+        let read = table::get(&words[base..], index, used, k);
+        let row = names::with_known_names(read, section);
         match step(text, &mut words[..base], index, limit, walk, gap, row, mode) {
             Added::Refused(fault) => {
                 return Joined::Refused(fault);
             }
             Added::Next(next) => {
-                section = names::section_met(
+                section = names::section_of(
                     text,
                     &words[..spare],
                     index,
-                    next.n + next.new,
-                    next.n,
+                    next.main + next.delta,
+                    next.main,
                     next.from,
                     read,
                     section,
                 );
-                gap = gap_of(walk, next);
+                gap = stride_hint(walk, next);
                 walk = next;
                 k += 1;
             }
         }
     }
-    settle(&mut words[..base], index, spare, walk.n, walk.new);
-    ended(walk.full, walk.n + walk.new)
+    merge_delta(&mut words[..base], index, spare, walk.main, walk.delta);
+    ended(walk.full, walk.main + walk.delta)
 }

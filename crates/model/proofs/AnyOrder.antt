@@ -10,11 +10,11 @@ use mathlib.Core.List.{List·Permᴰ·nil as p-nil, List·Permᴰ·cons as p-con
 use mathlib.Core.Option.{Option, none, some}
 use lib.Dec.{leb, eqb}
 use borrow.Author.Tests.{eqb-true, eq-eqb}
-use Rattle.map.proofs.Results.{impossible}
-use Rattle.map.specs.Gathering.{Same}
-use Rattle.map.proofs.Maps.{ext}
-use Rattle.map.proofs.Members.{only-member}
-use Rattle.map.proofs.Perms.{perm-member, perm-only, perm-flat}
+use Rattle.ordmap.proofs.Results.{impossible}
+use Rattle.ordmap.specs.Gathering.{Same}
+use Rattle.ordmap.proofs.Maps.{ext}
+use Rattle.ordmap.proofs.Members.{only-member}
+use Rattle.ordmap.proofs.Perms.{perm-member, perm-only, perm-flat}
 use Rattle.model.specs.Bytes.{Bytes, sameBytes}
 use Rattle.model.specs.Limits.{u64-max}
 use Rattle.model.specs.Report.{Item, sectionItem, functionItem, branchItem, lineItem, itemKey, Entry, Report, Key, compareKeys, entryKey, startOf, takenOf, checksumOf, countOf, sectionKey, inSection}

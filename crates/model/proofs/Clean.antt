@@ -7,7 +7,7 @@ use mathlib.Core.List.{List, [], _∷_}
 use mathlib.Core.Option.{Option, none, some}
 use lib.Dec.{eqb, leb}
 use borrow.Author.Tests.{leb-true}
-use Rattle.map.proofs.Results.{impossible, accepted-inj, not-accepted, bind-accepted}
+use Rattle.ordmap.proofs.Results.{impossible, accepted-inj, not-accepted, bind-accepted}
 use Rattle.model.specs.declared.Fault.the-variants.{UnknownRecord, FieldNotFound, TooManyFields, InvalidDigit, NumberOverflow}
 use Rattle.model.specs.declared.Kind.{Kind}
 use Rattle.model.specs.declared.Kind.the-variants as K

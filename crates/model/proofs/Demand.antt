@@ -10,13 +10,13 @@ use mathlib.Core.Option.{none, some}
 use lib.Dec.{leb}
 use lib.ListN.{length}
 use borrow.Author.Tests.{le-leb, leb-true}
-use Rattle.map.specs.Result.{bind, value, IsAccepted}
-use Rattle.map.specs.Keyed.{addAll}
-use Rattle.map.specs.Gathering.{flat, gatherAll, times, readAll as readEach}
-use Rattle.map.proofs.Results.{accepted-inj, not-accepted, isAccepted, accepted-is, bind-next, bind-accepted, value-both, value-bind}
-use Rattle.map.proofs.Members.{flat-member}
-use Rattle.map.proofs.Perms.{perm-of-times}
-use Rattle.map.proofs.Gathered.{gather-accepted, readAll-cons, readAll-perm, within-accepted, mapRefused-accepted}
+use Rattle.ordmap.specs.Result.{bind, value, IsAccepted}
+use Rattle.ordmap.specs.Keyed.{addAll}
+use Rattle.ordmap.specs.Gathering.{flat, gatherAll, times, readAll as readEach}
+use Rattle.ordmap.proofs.Results.{accepted-inj, not-accepted, isAccepted, accepted-is, bind-next, bind-accepted, value-both, value-bind}
+use Rattle.ordmap.proofs.Members.{flat-member}
+use Rattle.ordmap.proofs.Perms.{perm-of-times}
+use Rattle.ordmap.proofs.Gathered.{gather-accepted, readAll-cons, readAll-perm, within-accepted, mapRefused-accepted}
 use Rattle.model.specs.declared.Fault.the-variants.{TooManyEntries, MalformedBundle}
 use Rattle.model.specs.declared.Kind.{Kind}
 use Rattle.model.specs.declared.Mode.{Mode}
@@ -48,7 +48,7 @@ use Rattle.model.specs.Printing.{printReport}
 use Rattle.model.specs.Bundle.{Text, contents, wellFormed, texts}
 use Rattle.model.specs.Gather.{entryLimit, readAndPrint, gatherText, gatherTexts, gather}
 use Rattle.model.specs.Joined.{allEntries, joinedReport, readAll, startsAgree, checksumsAgree, sumsFit, SameTexts, oneSpelling}
-use Rattle.model.specs.Valid.{Fits, Valid}
+use Rattle.model.specs.Valid.{ItemFits, Valid}
 use Rattle.model.specs.Demand.{Gatherable, Acceptable, Demand3}
 use Rattle.model.proofs.KeyOrder.{bytes-same}
 use Rattle.model.proofs.TagLaws.{defaultTag-lawful}
@@ -62,7 +62,7 @@ use Rattle.model.proofs.ReadBack.{readText-print}
 
 -- ---- counts
 
-counted : (i : Item) → Fits i → Counted i
+counted : (i : Item) → ItemFits i → Counted i
 unfolding countOf
 counted (sectionItem spelling) f = omega arith
 counted (functionItem name start count) f = f .2

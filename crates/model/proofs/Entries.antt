@@ -6,9 +6,9 @@ use mathlib.Core.Bool.{Bool, true, false, cond, true≢false}
 use mathlib.Core.List.{List, [], _∷_, map, List·Memᴰ as Member, List·Memᴰ·head as here, List·Memᴰ·tail as there, Memᴰ·of-map}
 use mathlib.Core.Option.{Option, none, some, Option·map as mapSome}
 use lib.Dec.{eqb}
-use Rattle.map.specs.Result.{accepted, refused, bind, mapAccepted, value}
-use Rattle.map.specs.Keyed.{Keyed, joinAll}
-use Rattle.map.proofs.Results.{impossible, bind-accepted, accepted-inj, value-accepted, value-map}
+use Rattle.ordmap.specs.Result.{accepted, refused, bind, mapAccepted, value}
+use Rattle.ordmap.specs.Keyed.{Keyed, joinAll}
+use Rattle.ordmap.proofs.Results.{impossible, bind-accepted, accepted-inj, value-accepted, value-map}
 use Rattle.model.specs.declared.Fault.the-variants.{UnmatchedFunctionLine, UnmatchedChecksum, CountOverflow}
 use Rattle.model.specs.declared.Mode.{Mode}
 use Rattle.model.specs.declared.Mode.the-variants.{Checked}

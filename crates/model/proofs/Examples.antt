@@ -7,7 +7,7 @@ use lib.ListN.{length}
 use Rattle.model.specs.declared.Kind.{Kind}
 use Rattle.model.specs.declared.Mode.the-variants.{Checked}
 use Rattle.model.specs.Bytes.{Bytes, ascii}
-use Rattle.model.specs.Answer.{Answer, accepted, refused, asTold}
+use Rattle.model.specs.Answer.{Answer, accepted, refused, withValues}
 use Rattle.model.specs.Tags.{defaultTag, Lawful}
 use Rattle.model.specs.Gather.{readAndPrint, gather}
 use Rattle.model.specs.Demand.{Demand3}
@@ -74,7 +74,7 @@ unfolding open-all
 spelled-single = refl
 
 -- start lines that differ: 11, in the second text
-pub starts-differ : asTold (gathered 8_192 (ascii "FN:3,f\nend_of_record\n") (ascii "FN:4,f\nend_of_record\n"))
+pub starts-differ : withValues (gathered 8_192 (ascii "FN:3,f\nend_of_record\n") (ascii "FN:4,f\nend_of_record\n"))
     ≡ refused (11 ∷ 1 ∷ 0 ∷ 0 ∷ 0 ∷ [])
 unfolding open-all
 starts-differ = refl
@@ -86,13 +86,13 @@ unfolding open-all
 count-held = refl
 
 -- a line's is not: 13
-pub count-past : asTold (gathered 8_192 (ascii "DA:1,18446744073709551615\nend_of_record\n") (ascii "DA:1,1\nend_of_record\n"))
+pub count-past : withValues (gathered 8_192 (ascii "DA:1,18446744073709551615\nend_of_record\n") (ascii "DA:1,1\nend_of_record\n"))
     ≡ refused (13 ∷ 1 ∷ 0 ∷ 0 ∷ 0 ∷ [])
 unfolding open-all
 count-past = refl
 
 -- E = 2: each text's report has two entries, the joined report three
-pub joined-past : asTold (gathered 64 (ascii "DA:1,1\nend_of_record\n") (ascii "DA:2,1\nend_of_record\n"))
+pub joined-past : withValues (gathered 64 (ascii "DA:1,1\nend_of_record\n") (ascii "DA:2,1\nend_of_record\n"))
     ≡ refused (10 ∷ 1 ∷ 0 ∷ 0 ∷ 0 ∷ [])
 unfolding open-all
 joined-past = refl

@@ -4,13 +4,13 @@ use native.Mathlib.Omega.{arith}
 use mathlib.Core.Path.{_≡_, refl, sym, ap, _∙_}
 use mathlib.Core.Bool.{true}
 use mathlib.Core.List.{List, [], _∷_, map}
-use Rattle.map.specs.Result.{bind, value}
-use Rattle.map.specs.Keyed.{addAll}
-use Rattle.map.specs.Gathering.{flat, times, readAll as readEach}
-use Rattle.map.proofs.Results.{value-bind}
-use Rattle.map.proofs.Members.{flat-flat}
-use Rattle.map.proofs.Gathered.{fitting, readAll-append, gather-value, gather-accepted}
-use Rattle.map.proofs.Grouping.{Made, groups-value}
+use Rattle.ordmap.specs.Result.{bind, value}
+use Rattle.ordmap.specs.Keyed.{addAll}
+use Rattle.ordmap.specs.Gathering.{flat, times, readAll as readEach}
+use Rattle.ordmap.proofs.Results.{value-bind}
+use Rattle.ordmap.proofs.Members.{flat-flat}
+use Rattle.ordmap.proofs.Gathered.{fitting, readAll-append, gather-value, gather-accepted}
+use Rattle.ordmap.proofs.Grouping.{Made, groups-value}
 use Rattle.model.specs.declared.Kind.{Kind}
 use Rattle.model.specs.declared.Mode.the-variants.{Checked}
 use Rattle.model.specs.Bytes.{Bytes, sameBytes}

@@ -8,8 +8,8 @@ use mathlib.Core.List.{List, [], _∷_, map}
 use mathlib.Core.Option.{Option, none, some}
 use lib.Dec.{leb, eqb}
 use borrow.Author.Tests.{le-leb, lt-leb, leb-false, leb-true}
-use Rattle.map.specs.Result.{accepted, refused, bind, value}
-use Rattle.map.proofs.Results.{bind-assoc}
+use Rattle.ordmap.specs.Result.{accepted, refused, bind, value}
+use Rattle.ordmap.proofs.Results.{bind-assoc}
 use Rattle.model.specs.declared.Fault.{Fault}
 use Rattle.model.specs.declared.Fault.the-variants.{UnmatchedFunctionLine, UnmatchedChecksum, CountOverflow}
 use Rattle.model.specs.declared.Mode.the-variants.{Checked}

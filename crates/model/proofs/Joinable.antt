@@ -9,8 +9,8 @@ use mathlib.Core.List.{Memᴰ·of-map}
 use mathlib.Core.Option.{Option, none}
 use lib.Dec.{leb, eqb}
 use borrow.Author.Tests.{le-leb}
-use Rattle.map.specs.Keyed.{only}
-use Rattle.map.proofs.Members.{only-member}
+use Rattle.ordmap.specs.Keyed.{withKey}
+use Rattle.ordmap.proofs.Members.{only-member}
 use Rattle.model.specs.Bytes.{sameBytes}
 use Rattle.model.specs.Limits.{u64-max}
 use Rattle.model.specs.Report.{
@@ -109,7 +109,7 @@ module _ (reports : List Report) where
   at-one-key : (k : Key) (i : Item) → Member i (itemsAt k reports) → itemKey i ≡ k .1
   unfolding itemsAt entryKey
   at-one-key k i m =
-      let (e, n, q) = Memᴰ·of-map (λ e. e .item) (only entryKey compareKeys k (allEntries reports)) m in
+      let (e, n, q) = Memᴰ·of-map (λ e. e .item) (withKey entryKey compareKeys k (allEntries reports)) m in
       ap itemKey (sym q) ∙ ap (λ (x : Key). x .1) (only-member entryKey compareKeys keys-order k (allEntries reports) n .1)
 
   tests : (k : Key) → joinable (itemsAt k reports) ≡ (starts (itemsAt k reports) && (checksums (itemsAt k reports) && sums (itemsAt k reports)))

@@ -6,13 +6,13 @@ use mathlib.Core.Logic.{_↔_}
 use mathlib.Core.Bool.{Bool, true}
 use mathlib.Core.List.{List, [], _∷_, List·Memᴰ as Member, List·Memᴰ·head as here, List·Memᴰ·tail as there, List·Memᴰ·not-nil, Memᴰ·map, Memᴰ·of-map}
 use mathlib.Core.Option.{Option, none, some, Option·map as mapSome}
-use Rattle.map.specs.Result.{accepted, mapAccepted}
-use Rattle.map.specs.Keyed.{byOrder, Sorted, Keyed, find, only, joinAll, add, addAll}
-use Rattle.map.proofs.Results.{accepted-inj}
-use Rattle.map.proofs.Maps.{ext}
-use Rattle.map.proofs.Members.{only-member, member-only, find-some, find-none, map-sorted, find-map}
-use Rattle.map.proofs.Adding.{add-sorted}
-use Rattle.map.proofs.Exact.{addAll-exactly}
+use Rattle.ordmap.specs.Result.{accepted, mapAccepted}
+use Rattle.ordmap.specs.Keyed.{byOrder, Sorted, Keyed, find, withKey, joinAll, add, addAll}
+use Rattle.ordmap.proofs.Results.{accepted-inj}
+use Rattle.ordmap.proofs.Maps.{ext}
+use Rattle.ordmap.proofs.Members.{only-member, member-only, find-some, find-none, map-sorted, find-map}
+use Rattle.ordmap.proofs.Adding.{add-sorted}
+use Rattle.ordmap.proofs.Exact.{addAll-exactly}
 use Rattle.model.specs.declared.Mode.the-variants.{Checked}
 use Rattle.model.specs.Lists.{all}
 use Rattle.model.specs.Answer.{Answer}
@@ -124,7 +124,7 @@ joinable-none = refl
 
 module _ (reports : List Report) where
   abbrev pub at : Key → List Entry
-  at k = only entryKey compareKeys k (allEntries reports)
+  at k = withKey entryKey compareKeys k (allEntries reports)
 
   pub joined-key : (a : Entry) → Member a (distinctKeys (allEntries reports)) → entryKey (joinedEntry reports a) ≡ entryKey a
   unfolding joinedEntry itemsAt entryKey

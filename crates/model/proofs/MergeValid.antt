@@ -7,12 +7,12 @@ use mathlib.Core.List.{List, [], _∷_, List·Memᴰ as Member}
 use mathlib.Core.Option.{Option, none, some}
 use lib.Dec.{eqb}
 use lib.ListN.{length}
-use Rattle.map.specs.Keyed.{addAll}
-use Rattle.map.specs.OnePass.{onePass}
-use Rattle.map.proofs.Results.{accepted-inj, not-accepted, bind-accepted}
-use Rattle.map.proofs.Adding.{addAll-sorted}
-use Rattle.map.proofs.OnePassLaws.{onePass-adds}
-use Rattle.map.proofs.Origins.{Origin, before, added, combined, origin, key-before, key-added}
+use Rattle.ordmap.specs.Keyed.{addAll}
+use Rattle.ordmap.specs.OnePass.{onePass}
+use Rattle.ordmap.proofs.Results.{accepted-inj, not-accepted, bind-accepted}
+use Rattle.ordmap.proofs.Adding.{addAll-sorted}
+use Rattle.ordmap.proofs.OnePassLaws.{onePass-adds}
+use Rattle.ordmap.proofs.Origins.{Origin, before, added, combined, origin, key-before, key-added}
 use Rattle.model.specs.declared.Fault.{Fault}
 use Rattle.model.specs.declared.Fault.the-variants.{UnmatchedFunctionLine, UnmatchedChecksum, CountOverflow}
 use Rattle.model.specs.declared.Mode.{Mode}
@@ -48,7 +48,7 @@ use Rattle.model.specs.Report.{
   merge,
 }
 use Rattle.model.specs.Printing.{isSection}
-use Rattle.model.specs.Valid.{LineText, Given, Fits, Valid}
+use Rattle.model.specs.Valid.{LineText, Given, ItemFits, Valid}
 use Rattle.model.proofs.KeyOrder.{keys-order}
 use Rattle.model.proofs.Clean.{TakenFits, ChecksumFits}
 use Rattle.model.proofs.Entries.{entries-keyed}
@@ -56,21 +56,21 @@ use Rattle.model.proofs.Read.{sum-fits}
 
 -- ---- items
 
-start-fits : (i : Item) → Fits i → Given (λ n. n ≤ u32-max) (startOf i)
+start-fits : (i : Item) → ItemFits i → Given (λ n. n ≤ u32-max) (startOf i)
 unfolding startOf
 start-fits (sectionItem spelling) f = tt
 start-fits (functionItem name start count) f = f .1
 start-fits (branchItem line block branch taken) f = tt
 start-fits (lineItem line count checksum) f = tt
 
-taken-fits : (i : Item) → Fits i → TakenFits (takenOf i)
+taken-fits : (i : Item) → ItemFits i → TakenFits (takenOf i)
 unfolding takenOf
 taken-fits (sectionItem spelling) f = tt
 taken-fits (functionItem name start count) f = tt
 taken-fits (branchItem line block branch taken) f = f .3
 taken-fits (lineItem line count checksum) f = tt
 
-checksum-fits : (i : Item) → Fits i → ChecksumFits (checksumOf i)
+checksum-fits : (i : Item) → ItemFits i → ChecksumFits (checksumOf i)
 unfolding checksumOf
 checksum-fits (sectionItem spelling) f = tt
 checksum-fits (functionItem name start count) f = tt
@@ -98,7 +98,7 @@ sumTaken-fits (some a) (some b) f g p =
     let (n, q, e) = bind-accepted (sum CountOverflow a b) _ p in
     rw (← (accepted-inj e)) (sum-fits CountOverflow a b q)
 
-combine-fits : (mode : Mode) (i j : Item) {k : Item} → Fits i → Fits j → combineItems mode i j ≡ accepted k → Fits k
+combine-fits : (mode : Mode) (i j : Item) {k : Item} → ItemFits i → ItemFits j → combineItems mode i j ≡ accepted k → ItemFits k
 unfolding combineItems
 combine-fits mode (sectionItem spelling) j f g p = rw (← (accepted-inj p)) f
 combine-fits mode (functionItem name start count) j f g p =
@@ -201,12 +201,12 @@ module _ (mode : Mode) (into other n : Report) (A : Valid into) (B : Valid other
       let (k, q, f) = combine-entry mode x y c in
       subst (λ (z : Entry). LineText (z .test)) f (A .tests x i)
 
-  fits-of : (e : Entry) → From e → Fits (e .item)
+  fits-of : (e : Entry) → From e → ItemFits (e .item)
   fits-of e (before i) = A .fits e i
   fits-of e (added i) = B .fits e i
   fits-of e (combined x y i j h c) =
       let (k, q, f) = combine-entry mode x y c in
-      subst (λ (z : Entry). Fits (z .item)) f (combine-fits mode (x .item) (y .item) (A .fits x i) (B .fits y j) q)
+      subst (λ (z : Entry). ItemFits (z .item)) f (combine-fits mode (x .item) (y .item) (A .fits x i) (B .fits y j) q)
 
   spelled-of : (e : Entry) (s : Bytes) → From e → e .item ≡ sectionItem s → components s ≡ e .path
   spelled-of e s (before i) g = A .spelled e s i g

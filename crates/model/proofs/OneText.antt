@@ -6,11 +6,11 @@ use mathlib.Core.List.{List, [], _∷_, map}
 use mathlib.Core.Option.{Option, none, some}
 use lib.Dec.{leb}
 use lib.ListN.{length}
-use Rattle.map.specs.Result.{bind, mapAccepted}
-use Rattle.map.specs.Keyed.{byOrder, add}
-use Rattle.map.proofs.Results.{impossible}
-use Rattle.map.proofs.Adding.{addAll-empty}
-use Rattle.map.proofs.Gathered.{within-fits}
+use Rattle.ordmap.specs.Result.{bind, mapAccepted}
+use Rattle.ordmap.specs.Keyed.{byOrder, add}
+use Rattle.ordmap.proofs.Results.{impossible}
+use Rattle.ordmap.proofs.Adding.{addAll-empty}
+use Rattle.ordmap.proofs.Gathered.{within-fits}
 use Rattle.model.specs.declared.Fault.the-variants.{UnknownRecord, FieldNotFound, TooManyFields, UnexpectedRecord, UnexpectedEof, CallOverflow, TooManyEntries}
 use Rattle.model.specs.declared.Kind.{Kind}
 use Rattle.model.specs.declared.Kind.the-variants as K

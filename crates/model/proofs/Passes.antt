@@ -9,11 +9,11 @@ use mathlib.Core.Option.{Option, none, some, IsSome}
 use lib.Dec.{isEq, leb}
 use lib.ListN.{length}
 use borrow.Author.Tests.{le-leb}
-use Rattle.map.specs.Keyed.{Sorted, Keyed, find, add, step as meet}
-use Rattle.map.proofs.Maps.{some≢none, ext, find-head, keys-equal}
-use Rattle.map.proofs.Adding.{add-accepted}
-use Rattle.map.proofs.Sizes.{length-of-keys}
-use Rattle.model.specs.Lists.{each}
+use Rattle.ordmap.specs.Keyed.{Sorted, Keyed, find, add, step as meet}
+use Rattle.ordmap.proofs.Maps.{some≢none, ext, find-head, keys-equal}
+use Rattle.ordmap.proofs.Adding.{add-accepted}
+use Rattle.ordmap.proofs.Sizes.{length-of-keys}
+use Rattle.model.specs.Lists.{concatMap}
 use Rattle.model.specs.Bytes.{Bytes, compareBytes}
 use Rattle.model.specs.Answer.{Answer, accepted}
 use Rattle.model.specs.Limits.{u64-max}
@@ -21,7 +21,7 @@ use Rattle.model.specs.Record.{Record}
 use Rattle.model.specs.Report.{Item, sectionItem, functionItem, branchItem, lineItem, Report, itemKey, countOf, sum, within}
 use Rattle.model.specs.Reading.{State, open-section, entries, replace, addCalls, enterItem, ignored, effect}
 use Rattle.model.specs.Printing.{isSection, startRecord, dataRecord, hits, group}
-use Rattle.model.specs.Valid.{Fits}
+use Rattle.model.specs.Valid.{ItemFits}
 use Rattle.model.proofs.KeyOrder.{bytes-order}
 use Rattle.model.proofs.SortLaws.{Distinct}
 use Rattle.model.proofs.Read.{replace-keyed, addCalls-keyed}
@@ -169,13 +169,13 @@ module _ (limit : ℕ) (kept : Report) (test path : Bytes) (items : List Item) w
     start-one m (lineItem line count checksum) rest p = (m, refl, start-skip m (lineItem line count checksum) rest refl p)
 
     pub start-pass : (m es : List Item) → Pass items started m es
-        → (n : List Item) × (run limit (each startRecord es) (holding m) ≡ accepted (holding n)) × Pass items started n []
-    unfolding each run
+        → (n : List Item) × (run limit (concatMap startRecord es) (holding m) ≡ accepted (holding n)) × Pass items started n []
+    unfolding concatMap run
     start-pass m [] p = (m, refl, p)
     start-pass m (e ∷ es) p =
         let (n, q, next) = start-one m e es p in
         let (l, q′, last) = start-pass n es next in
-        (l, run-append limit (startRecord e) (each startRecord es) (holding m) (holding n) q ∙ q′, last)
+        (l, run-append limit (startRecord e) (concatMap startRecord es) (holding m) (holding n) q ∙ q′, last)
 
     -- ---- FNDA, BRDA and DA lines
 
@@ -208,7 +208,7 @@ module _ (limit : ℕ) (kept : Report) (test path : Bytes) (items : List Item) w
     add-to-start name none count h = refl
     add-to-start name (some start) count h = rw (zero-add count) (rw (le-leb count u64-max h))
 
-    data-one : (m : List Item) (e : Item) (rest : List Item) → InSection e → Fits e → Pass items some m (e ∷ rest) → Ready m (e ∷ rest)
+    data-one : (m : List Item) (e : Item) (rest : List Item) → InSection e → ItemFits e → Pass items some m (e ∷ rest) → Ready m (e ∷ rest)
         → (n : List Item) × (run limit (dataRecord e) (holding m) ≡ accepted (holding n)) × Pass items some n rest × Ready n rest
     unfolding dataRecord effect itemKey isSection
     data-one m (sectionItem spelling) rest i f p ready = absurd (true≢false i)
@@ -222,14 +222,14 @@ module _ (limit : ℕ) (kept : Report) (test path : Bytes) (items : List Item) w
         let e : Item = lineItem line count checksum in
         data-entry replace (Record.lineData line count checksum) m e e rest (λ s. refl) replace-keyed refl refl p ready
 
-    data-pass : (m es rest : List Item) → All InSection es → All Fits es → Pass items some m (es ++ rest) → Ready m (es ++ rest)
-        → (n : List Item) × (run limit (each dataRecord es) (holding m) ≡ accepted (holding n)) × Pass items some n rest × Ready n rest
-    unfolding each run
+    data-pass : (m es rest : List Item) → All InSection es → All ItemFits es → Pass items some m (es ++ rest) → Ready m (es ++ rest)
+        → (n : List Item) × (run limit (concatMap dataRecord es) (holding m) ≡ accepted (holding n)) × Pass items some n rest × Ready n rest
+    unfolding concatMap run
     data-pass m [] rest i f p ready = (m, refl, p, ready)
     data-pass m (e ∷ es) rest i f p ready =
         let (n, q, next, ready′) = data-one m e (es ++ rest) (i .0) (f .0) p ready in
         let (l, q′, last, ready″) = data-pass n es rest (i .1) (f .1) next ready′ in
-        (l, run-append limit (dataRecord e) (each dataRecord es) (holding m) (holding n) q ∙ q′, last, ready″)
+        (l, run-append limit (dataRecord e) (concatMap dataRecord es) (holding m) (holding n) q ∙ q′, last, ready″)
 
     -- ---- a group
 
@@ -239,7 +239,7 @@ module _ (limit : ℕ) (kept : Report) (test path : Bytes) (items : List Item) w
     ignored-one r m rest eff p = rw (eff (holding m)) (counted t room m (p .sorted) (among items some m rest p))
 
     pub group-pass : (found hit : ℕ → Record) → ((n : ℕ) (s : State) → effect (found n) s ≡ ignored s) → ((n : ℕ) (s : State) → effect (hit n) s ≡ ignored s)
-        → (m es rest : List Item) → All InSection es → All Fits es → Pass items some m (es ++ rest) → Ready m (es ++ rest)
+        → (m es rest : List Item) → All InSection es → All ItemFits es → Pass items some m (es ++ rest) → Ready m (es ++ rest)
         → (n : List Item) × (run limit (group found hit es) (holding m) ≡ accepted (holding n)) × Pass items some n rest × Ready n rest
     unfolding group run
     group-pass found hit ef eh m [] rest i f p ready = (m, refl, p, ready)
@@ -247,7 +247,7 @@ module _ (limit : ℕ) (kept : Report) (test path : Bytes) (items : List Item) w
         let (n, q, next, ready′) = data-pass m (e ∷ es) rest i f p ready in
         let tail : List Record = found (length (e ∷ es)) ∷ hit (hits (e ∷ es)) ∷ [] in (
           n,
-          run-append limit (each dataRecord (e ∷ es)) tail (holding m) (holding n) q
+          run-append limit (concatMap dataRecord (e ∷ es)) tail (holding m) (holding n) q
               ∙ rw (ignored-one (found (length (e ∷ es))) n rest (ef (length (e ∷ es))) next, ignored-one (hit (hits (e ∷ es))) n rest (eh (hits (e ∷ es))) next),
           next,
           ready′,

@@ -8,7 +8,7 @@ use lib.Dec.{ltb, lit<}
 use lib.ListN.{length}
 use Rattle.model.specs.declared.Kind.{Kind}
 use Rattle.model.specs.declared.Kind.the-variants as K
-use Rattle.model.specs.Lists.{select, sort, each}
+use Rattle.model.specs.Lists.{filter, sort, concatMap}
 use Rattle.model.specs.Bytes.{Bytes, newline, comma, colon, joined, Free}
 use Rattle.model.specs.Limits.{u32-max}
 use Rattle.model.specs.Number.{decimal}
@@ -32,7 +32,7 @@ use Rattle.model.specs.Tags.{Lawful}
 use Rattle.model.specs.Line.{printFields, printTaken, printChecksum, printRecord}
 use Rattle.model.specs.Report.{Item, sectionItem, functionItem, branchItem, lineItem, countOf}
 use Rattle.model.specs.Printing.{isFunction, isBranch, isLine, comparePrinted, functionsOf, startRecord, dataRecord, hits, group, sectionRecords}
-use Rattle.model.specs.Valid.{LineText, Fits}
+use Rattle.model.specs.Valid.{LineText, ItemFits}
 use Rattle.model.proofs.ListLaws.{All, all-append, all-select, all-sort, all-results, select-length, sort-length}
 use Rattle.model.proofs.ByteLaws.{free-append}
 use Rattle.model.proofs.TagLaws.{tag-newline}
@@ -83,7 +83,7 @@ module _ (tag : Kind → Bytes) (L : Lawful tag) where
 
 -- ---- the records of a section
 
-starts-fit : (i : Item) → Fits i → All RecordFits (startRecord i)
+starts-fit : (i : Item) → ItemFits i → All RecordFits (startRecord i)
 unfolding startRecord
 starts-fit (sectionItem spelling) f = tt
 starts-fit (functionItem name none count) f = tt
@@ -91,7 +91,7 @@ starts-fit (functionItem name (some start) count) f = ((f .1, f .0), tt)
 starts-fit (branchItem line block branch taken) f = tt
 starts-fit (lineItem line count checksum) f = tt
 
-data-fit : (i : Item) → Fits i → All RecordFits (dataRecord i)
+data-fit : (i : Item) → ItemFits i → All RecordFits (dataRecord i)
 unfolding dataRecord
 data-fit (sectionItem spelling) f = tt
 data-fit (functionItem name start count) f = ((f .2, f .0), tt)
@@ -99,49 +99,49 @@ data-fit (branchItem line block branch taken) f = (f, tt)
 data-fit (lineItem line count checksum) f = (f, tt)
 
 group-fits : (found hit : ℕ → Record) → ((n : ℕ) → n ≤ u32-max → RecordFits (found n)) → ((n : ℕ) → n ≤ u32-max → RecordFits (hit n))
-    → (l : List Item) → All Fits l → length l ≤ u32-max → All RecordFits (group found hit l)
+    → (l : List Item) → All ItemFits l → length l ≤ u32-max → All RecordFits (group found hit l)
 unfolding group hits
 group-fits found hit wf wh [] f h = tt
 group-fits found hit wf wh (i ∷ is) f h =
-    all-append RecordFits (each dataRecord (i ∷ is)) (found (length (i ∷ is)) ∷ hit (hits (i ∷ is)) ∷ [])
-    (all-results Fits RecordFits dataRecord data-fit (i ∷ is) f)
+    all-append RecordFits (concatMap dataRecord (i ∷ is)) (found (length (i ∷ is)) ∷ hit (hits (i ∷ is)) ∷ [])
+    (all-results ItemFits RecordFits dataRecord data-fit (i ∷ is) f)
     (wf (length (i ∷ is)) h, (wh (hits (i ∷ is)) (le-trans (select-length (λ x. ltb 0 (countOf x)) (i ∷ is)) h), tt))
 
-pub section-fits : (test spelling : Bytes) (items : List Item) → LineText test → LineText spelling → All Fits items → length items ≤ u32-max
+pub section-fits : (test spelling : Bytes) (items : List Item) → LineText test → LineText spelling → All ItemFits items → length items ≤ u32-max
     → All RecordFits (sectionRecords (record { test = test; spelling = spelling; items = items }))
 unfolding sectionRecords functionsOf
 section-fits test spelling items t s f h =
     all-append RecordFits
-    (testName test ∷ sourceFile spelling ∷ [] ++ each startRecord fs ++ group functionsFound functionsHit fs ++ group branchesFound branchesHit bs ++ group linesFound linesHit ls)
+    (testName test ∷ sourceFile spelling ∷ [] ++ concatMap startRecord fs ++ group functionsFound functionsHit fs ++ group branchesFound branchesHit bs ++ group linesFound linesHit ls)
     (endOfRecord ∷ [])
     (all-append RecordFits
-    (testName test ∷ sourceFile spelling ∷ [] ++ each startRecord fs ++ group functionsFound functionsHit fs ++ group branchesFound branchesHit bs)
+    (testName test ∷ sourceFile spelling ∷ [] ++ concatMap startRecord fs ++ group functionsFound functionsHit fs ++ group branchesFound branchesHit bs)
     (group linesFound linesHit ls)
     (all-append RecordFits
-    (testName test ∷ sourceFile spelling ∷ [] ++ each startRecord fs ++ group functionsFound functionsHit fs)
+    (testName test ∷ sourceFile spelling ∷ [] ++ concatMap startRecord fs ++ group functionsFound functionsHit fs)
     (group branchesFound branchesHit bs)
     (all-append RecordFits
-    (testName test ∷ sourceFile spelling ∷ [] ++ each startRecord fs)
+    (testName test ∷ sourceFile spelling ∷ [] ++ concatMap startRecord fs)
     (group functionsFound functionsHit fs) (
       t,
-      (s, all-results Fits RecordFits startRecord starts-fit fs fits),
+      (s, all-results ItemFits RecordFits startRecord starts-fit fs fits),
     )
     (group-fits functionsFound functionsHit (λ n g. g) (λ n g. g) fs fits
-    (rw (sort-length comparePrinted (select isFunction items)) (le-trans (select-length isFunction items) h))))
+    (rw (sort-length comparePrinted (filter isFunction items)) (le-trans (select-length isFunction items) h))))
     (group-fits branchesFound branchesHit (λ n g. g) (λ n g. g) bs
-    (all-select Fits isBranch items f) (le-trans (select-length isBranch items) h)))
+    (all-select ItemFits isBranch items f) (le-trans (select-length isBranch items) h)))
     (group-fits linesFound linesHit (λ n g. g) (λ n g. g) ls
-    (all-select Fits isLine items f) (le-trans (select-length isLine items) h)))
+    (all-select ItemFits isLine items f) (le-trans (select-length isLine items) h)))
     (tt, tt)
   where
     fs : List Item
-    fs = sort comparePrinted (select isFunction items)
+    fs = sort comparePrinted (filter isFunction items)
 
     bs : List Item
-    bs = select isBranch items
+    bs = filter isBranch items
 
     ls : List Item
-    ls = select isLine items
+    ls = filter isLine items
 
-    fits : All Fits fs
-    fits = all-sort Fits comparePrinted (select isFunction items) (all-select Fits isFunction items f)
+    fits : All ItemFits fs
+    fits = all-sort ItemFits comparePrinted (filter isFunction items) (all-select ItemFits isFunction items f)

@@ -10,17 +10,17 @@ use mathlib.Core.Option.{none, some}
 use lib.Dec.{isEq, leb}
 use lib.ListN.{length}
 use borrow.Author.Tests.{leb-true}
-use Rattle.map.specs.Keyed.{Above, Sorted, Keyed, add}
-use Rattle.map.proofs.Results.{accepted-inj, not-accepted, bind-accepted}
-use Rattle.map.proofs.Members.{above-each, sorted-append, add-each}
-use Rattle.map.proofs.Orderings.{is-eq}
-use Rattle.map.proofs.Adding.{add-sorted}
-use Rattle.map.proofs.Gathered.{within-accepted, mapRefused-accepted}
+use Rattle.ordmap.specs.Keyed.{Above, Sorted, Keyed, add}
+use Rattle.ordmap.proofs.Results.{accepted-inj, not-accepted, bind-accepted}
+use Rattle.ordmap.proofs.Members.{above-each, sorted-append, add-each}
+use Rattle.ordmap.proofs.Orderings.{is-eq}
+use Rattle.ordmap.proofs.Adding.{add-sorted}
+use Rattle.ordmap.proofs.Gathered.{within-accepted, mapRefused-accepted}
 use Rattle.model.specs.declared.Fault.{Fault}
 use Rattle.model.specs.declared.Fault.the-variants.{UnexpectedRecord, UnexpectedEof, CallOverflow, TooManyEntries}
 use Rattle.model.specs.declared.Kind.{Kind}
 use Rattle.model.specs.Order.{if_then_else_, isLess, isGreater}
-use Rattle.model.specs.Lists.{select}
+use Rattle.model.specs.Lists.{filter}
 use Rattle.model.specs.Bytes.{Bytes, compareBytes}
 use Rattle.model.specs.Path.{components}
 use Rattle.model.specs.Answer.{Answer, accepted, refused, refuse, onLine}
@@ -62,7 +62,7 @@ use Rattle.model.specs.Reading.{
   readText,
 }
 use Rattle.model.specs.Printing.{isSection}
-use Rattle.model.specs.Valid.{LineText, Fits, Valid}
+use Rattle.model.specs.Valid.{LineText, ItemFits, Valid}
 use Rattle.model.proofs.ListLaws.{select-member, member-select, select-sorted}
 use Rattle.model.proofs.KeyOrder.{bytes-order, sections-order}
 use Rattle.model.proofs.Clean.{clean-none, Lines, lines-free, RecordFits, readRecord-fits}
@@ -75,7 +75,7 @@ pub record Reading (s : State) : Type 0 where
   pub test : LineText (s .test)
   pub path : LineText (s .path)
   pub sorted : Sorted itemKey compareBytes (s .items)
-  pub fits : (i : Item) → Member i (s .items) → Fits i × (isSection i ≡ false)
+  pub fits : (i : Item) → Member i (s .items) → ItemFits i × (isSection i ≡ false)
 
 -- ---- comparisons
 
@@ -119,12 +119,12 @@ module _ (s : SectionKey) where
 -- ---- the end of a section
 
 module _ (test path : Bytes) (items : List Item) (first : Item) (m : Member first items) (kept : Report) (R : Valid kept) (ct : LineText test)
-    (cp : LineText path) (si : Sorted itemKey compareBytes items) (fi : (i : Item) → Member i items → Fits i × (isSection i ≡ false)) where
+    (cp : LineText path) (si : Sorted itemKey compareBytes items) (fi : (i : Item) → Member i items → ItemFits i × (isSection i ≡ false)) where
   abbrev key : SectionKey
   key = (test, components path)
 
   abbrev side : (Ordering → Bool) → Report
-  side holds = select (λ e. holds (compareSections key (sectionKey e))) kept
+  side holds = filter (λ e. holds (compareSections key (sectionKey e))) kept
 
   abbrev own : Bytes
   own = spellingOf path (side isEq)
@@ -214,7 +214,7 @@ module _ (test path : Bytes) (items : List Item) (first : Item) (m : Member firs
             (λ i j q. (inSection key first, in-mid (there m), ap sectionKey q, fi first m .1));
       }
     where
-      item-fits : {i : Item} → Member i (sectionItem own ∷ items) → Fits i
+      item-fits : {i : Item} → Member i (sectionItem own ∷ items) → ItemFits i
       item-fits (here h) = rw h (own-good .0)
       item-fits (there j) = fi _ j .0
 
@@ -223,7 +223,7 @@ module _ (test path : Bytes) (items : List Item) (first : Item) (m : Member firs
       own-spelled i p (there j) q = absurd (true≢false (sym (ap isSection q) ∙ fi i j .1))
 
 keep-valid : (test path : Bytes) (items : List Item) (kept : Report) → Valid kept → LineText test → LineText path → Sorted itemKey compareBytes items
-    → ((i : Item) → Member i items → Fits i × (isSection i ≡ false)) → Valid (keepSection test path items kept)
+    → ((i : Item) → Member i items → ItemFits i × (isSection i ≡ false)) → Valid (keepSection test path items kept)
 unfolding keepSection replaceSection
 keep-valid test path [] kept R ct cp si fi = R
 keep-valid test path (i ∷ items) kept R ct cp si fi = replace-valid test path (i ∷ items) i (here refl) kept R ct cp si fi
@@ -255,7 +255,7 @@ addCalls-keyed = record { keeps = λ {x} {e} {y} h p. kept x e y h p }
 
 -- an item of the open section
 abbrev OpenItem : Item → Type 0
-OpenItem i = Fits i × (isSection i ≡ false)
+OpenItem i = ItemFits i × (isSection i ≡ false)
 
 addCalls-fits : (e : Item) → OpenItem e → (x y : Item) → OpenItem x → addCalls x e ≡ accepted y → OpenItem y
 unfolding addCalls isSection

@@ -5,9 +5,9 @@ use native.Mathlib.Omega.{arith}
 use mathlib.Core.Path.{_≡_, refl, sym, ap, _∙_, subst}
 use mathlib.Core.List.{List, [], _∷_, _++_, map, append-assoc, append-nil, List·Memᴰ as Member}
 use lib.ListN.{length, length-append, length-map}
-use Rattle.map.proofs.Members.{sorted-right}
+use Rattle.ordmap.proofs.Members.{sorted-right}
 use Rattle.model.specs.declared.Kind.{Kind}
-use Rattle.model.specs.Lists.{each}
+use Rattle.model.specs.Lists.{concatMap}
 use Rattle.model.specs.Bytes.{Bytes}
 use Rattle.model.specs.Answer.{accepted}
 use Rattle.model.specs.Limits.{u32-max}
@@ -41,12 +41,12 @@ use Rattle.model.proofs.Blocks.{
 -- ---- the records of blocks
 
 abbrev records : List Block → List Record
-records blocks = each sectionRecords (map blockSection blocks)
+records blocks = concatMap sectionRecords (map blockSection blocks)
 
 blocks-run : (limit : ℕ) (kept : Report) (blocks : List Block) → SortedEntries (kept ++ blocksEntries blocks) → All Good blocks
     → length (kept ++ blocksEntries blocks) ≤ limit
     → run limit (records blocks) (outside kept []) ≡ accepted (outside (kept ++ blocksEntries blocks) [])
-unfolding each run isSection
+unfolding concatMap run isSection
 blocks-run limit kept [] s g n = ap (λ (r : Report). accepted (outside r [])) (sym (append-nil kept))
 blocks-run limit kept (b ∷ bs) s g n =
     run-append limit (sectionRecords (blockSection b)) (records bs) (outside kept []) (outside (kept ++ blockEntries b) []) one
@@ -81,7 +81,7 @@ blocks-run limit kept (b ∷ bs) s g n =
         ∙ rw (g .0 .spelled)
 
 blocks-fit : (blocks : List Block) → All Good blocks → length (blocksEntries blocks) ≤ u32-max → All RecordFits (records blocks)
-unfolding each
+unfolding concatMap
 blocks-fit [] g n = tt
 blocks-fit (b ∷ bs) g n =
     all-append RecordFits (sectionRecords (blockSection b)) (records bs)
@@ -105,7 +105,7 @@ module _ (tag : Kind → Bytes) (L : Lawful tag) where
     where
       go : (blocks : List Block) × (r ≡ blocksEntries blocks) × All Shaped blocks → readText tag limit (printReport tag r) ≡ accepted r
       go (blocks, e, h) =
-          ap (λ (s : List Section). readLines tag limit 1 (lines (printRecords tag (each sectionRecords s))) (outside [] [])) (ap sections e ∙ sections-of-blocks blocks h)
+          ap (λ (s : List Section). readLines tag limit 1 (lines (printRecords tag (concatMap sectionRecords s))) (outside [] [])) (ap sections e ∙ sections-of-blocks blocks h)
           ∙ ap (λ (ls : List Bytes). readLines tag limit 1 ls (outside [] [])) (lines-print tag (records blocks) (one-lines tag L (records blocks) fit))
           ∙ readLines-run tag L limit 1 (records blocks) (outside [] []) (outside (blocksEntries blocks) []) fit
           (blocks-run limit [] blocks (subst SortedEntries e (R .sorted)) good (subst (λ (l : Report). length l ≤ limit) e n)) refl

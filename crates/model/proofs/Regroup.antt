@@ -7,10 +7,10 @@ use mathlib.Core.Bool.{Bool, true, false}
 use mathlib.Core.Option.{Option, none, some}
 use lib.Dec.{leb, eqb}
 use borrow.Author.Tests.{lt-leb, leb-false}
-use Rattle.map.specs.Result.{accepted, refused, bind, value}
-use Rattle.map.specs.Keyed.{Grouped}
-use Rattle.map.specs.Gathering.{Same}
-use Rattle.map.proofs.Results.{accepted-inj, not-accepted, bind-accepted, value-bind, value-bind-next, bind-assoc, value-swap}
+use Rattle.ordmap.specs.Result.{accepted, refused, bind, value}
+use Rattle.ordmap.specs.Keyed.{Grouped}
+use Rattle.ordmap.specs.Gathering.{Same}
+use Rattle.ordmap.proofs.Results.{accepted-inj, not-accepted, bind-accepted, value-bind, value-bind-next, bind-assoc, value-swap}
 use Rattle.model.specs.declared.Fault.{Fault}
 use Rattle.model.specs.declared.Fault.the-variants.{UnmatchedFunctionLine, UnmatchedChecksum, CountOverflow}
 use Rattle.model.specs.declared.Mode.{Mode}

@@ -8,9 +8,9 @@ use mathlib.Core.Option.{Option, none, some}
 use lib.Dec.{isEq, leb}
 use lib.ListN.{length, length-append, length-map}
 use borrow.Author.Tests.{le-leb}
-use Rattle.map.specs.Keyed.{Above}
+use Rattle.ordmap.specs.Keyed.{Above}
 use Rattle.model.specs.Order.{if_then_else_, isLess, isGreater}
-use Rattle.model.specs.Lists.{select, each}
+use Rattle.model.specs.Lists.{filter, concatMap}
 use Rattle.model.specs.Bytes.{Bytes, compareBytes}
 use Rattle.model.specs.Path.{Path, components}
 use Rattle.model.specs.Answer.{accepted}
@@ -39,7 +39,7 @@ use Rattle.model.specs.Printing.{
   group,
   sectionRecords,
 }
-use Rattle.model.specs.Valid.{Fits}
+use Rattle.model.specs.Valid.{ItemFits}
 use Rattle.model.proofs.ListLaws.{All, all-select, all-sort, select-all, select-none, each-append}
 use Rattle.model.proofs.KeyOrder.{bytes-order}
 use Rattle.model.proofs.SortLaws.{distinct-sorted, find-sort, distinct-sort}
@@ -64,12 +64,12 @@ use Rattle.model.proofs.Passes.{
 
 -- no item past a key passes a test whose items come before it
 passed : (test : Item → Bool) (k : List ℕ) → ((i : Item) → test i ≡ true → compareBytes k (itemKey i) ≡ Ordering·gt) → (l : List Item)
-    → Above itemKey compareBytes k l → select test l ≡ []
-unfolding select
+    → Above itemKey compareBytes k l → filter test l ≡ []
+unfolding filter
 passed test k h [] a = refl
 passed test k h (x ∷ xs) a = go (test x) refl (passed test k h xs (a .1))
   where
-    go : (b : Bool) → test x ≡ b → select test xs ≡ [] → (if b then x ∷ select test xs else select test xs) ≡ []
+    go : (b : Bool) → test x ≡ b → filter test xs ≡ [] → (if b then x ∷ filter test xs else filter test xs) ≡ []
     go true e ih = let z : Ordering·gt ≡ Ordering·lt = sym (h x e) ∙ a .0 in cc
     go false e ih = ih
 
@@ -90,30 +90,30 @@ before-line line count checksum test not-lines (functionItem name start c) h = r
 before-line line count checksum test not-lines (branchItem a b c d) h = refl
 before-line line count checksum test not-lines (lineItem a b c) h = absurd (true≢false (sym h ∙ not-lines a b c))
 
-pub by-kind : (l : List Item) → SortedItems l → All InSection l → select isFunction l ++ (select isBranch l ++ select isLine l) ≡ l
-unfolding select isFunction isBranch isLine isSection
+pub by-kind : (l : List Item) → SortedItems l → All InSection l → filter isFunction l ++ (filter isBranch l ++ filter isLine l) ≡ l
+unfolding filter isFunction isBranch isLine isSection
 by-kind [] s h = refl
 by-kind (sectionItem spelling ∷ xs) s h = absurd (true≢false (h .0))
 by-kind (functionItem name start count ∷ xs) s h = ap (λ (r : List Item). functionItem name start count ∷ r) (by-kind xs (s .1) (h .1))
 by-kind (branchItem line block branch taken ∷ xs) s h =
     let x : Item = branchItem line block branch taken in
-    let f : select isFunction xs ≡ [] = passed isFunction (itemKey x) (function-before-branch line block branch taken) xs (s .0) in
-    let ih : select isFunction xs ++ (select isBranch xs ++ select isLine xs) ≡ xs = by-kind xs (s .1) (h .1) in
+    let f : filter isFunction xs ≡ [] = passed isFunction (itemKey x) (function-before-branch line block branch taken) xs (s .0) in
+    let ih : filter isFunction xs ++ (filter isBranch xs ++ filter isLine xs) ≡ xs = by-kind xs (s .1) (h .1) in
     rw f (ap (λ (r : List Item). x ∷ r) (rw f at ih))
 by-kind (lineItem line count checksum ∷ xs) s h =
     let x : Item = lineItem line count checksum in
-    let f : select isFunction xs ≡ [] = passed isFunction (itemKey x) (before-line line count checksum isFunction (λ n c s. refl)) xs (s .0) in
-    let b : select isBranch xs ≡ [] = passed isBranch (itemKey x) (before-line line count checksum isBranch (λ n c s. refl)) xs (s .0) in
-    let ih : select isFunction xs ++ (select isBranch xs ++ select isLine xs) ≡ xs = by-kind xs (s .1) (h .1) in
+    let f : filter isFunction xs ≡ [] = passed isFunction (itemKey x) (before-line line count checksum isFunction (λ n c s. refl)) xs (s .0) in
+    let b : filter isBranch xs ≡ [] = passed isBranch (itemKey x) (before-line line count checksum isBranch (λ n c s. refl)) xs (s .0) in
+    let ih : filter isFunction xs ++ (filter isBranch xs ++ filter isLine xs) ≡ xs = by-kind xs (s .1) (h .1) in
     rw (f, b) (ap (λ (r : List Item). x ∷ r) (rw (f, b) at ih))
 
 -- branches and lines have no FN line
-no-starts : (test : Item → Bool) → ((i : Item) → test i ≡ true → startRecord i ≡ []) → (l : List Item) → each startRecord (select test l) ≡ []
-unfolding each select
+no-starts : (test : Item → Bool) → ((i : Item) → test i ≡ true → startRecord i ≡ []) → (l : List Item) → concatMap startRecord (filter test l) ≡ []
+unfolding concatMap filter
 no-starts test h [] = refl
 no-starts test h (x ∷ xs) = go (test x) refl (no-starts test h xs)
   where
-    go : (b : Bool) → test x ≡ b → each startRecord (select test xs) ≡ [] → each startRecord (if b then x ∷ select test xs else select test xs) ≡ []
+    go : (b : Bool) → test x ≡ b → concatMap startRecord (filter test xs) ≡ [] → concatMap startRecord (if b then x ∷ filter test xs else filter test xs) ≡ []
     go true e ih = rw (h x e, ih)
     go false e ih = ih
 
@@ -151,9 +151,9 @@ pub kept-last : (test spelling : Bytes) (item : Item) (items : List Item) (kept 
 unfolding keepSection replaceSection spellingOf
 kept-last test spelling item items kept h =
     let by : Entry → Ordering = λ e. compareSections (test, path) (sectionKey e) in
-    let earlier : select (λ e. isGreater (by e)) kept ≡ kept = select-all (λ e. isGreater (by e)) kept (past-test test path isGreater true refl kept h) in
-    let same : select (λ e. isEq (by e)) kept ≡ [] = select-none (λ e. isEq (by e)) kept (past-test test path isEq false refl kept h) in
-    let later : select (λ e. isLess (by e)) kept ≡ [] = select-none (λ e. isLess (by e)) kept (past-test test path isLess false refl kept h) in
+    let earlier : filter (λ e. isGreater (by e)) kept ≡ kept = select-all (λ e. isGreater (by e)) kept (past-test test path isGreater true refl kept h) in
+    let same : filter (λ e. isEq (by e)) kept ≡ [] = select-none (λ e. isEq (by e)) kept (past-test test path isEq false refl kept h) in
+    let later : filter (λ e. isLess (by e)) kept ≡ [] = select-none (λ e. isLess (by e)) kept (past-test test path isLess false refl kept h) in
     rw (earlier, same, later) (ap (λ (r : Report). kept ++ r) (append-nil (entriesOf test path spelling (item ∷ items))))
   where
     path : Path
@@ -162,43 +162,43 @@ kept-last test spelling item items kept h =
 -- ---- the run of a section's records
 
 module _ (limit : ℕ) (kept : Report) (test spelling : Bytes) (items : List Item) (sorted : SortedItems items) (within-section : All InSection items)
-    (fit : All Fits items) (room : length kept + suc (length items) ≤ limit) where
+    (fit : All ItemFits items) (room : length kept + suc (length items) ≤ limit) where
   fs : List Item
   fs = functionsOf items
 
   bs : List Item
-  bs = select isBranch items
+  bs = filter isBranch items
 
   ls : List Item
-  ls = select isLine items
+  ls = filter isLine items
 
   -- all that is printed, in printing order
   printed : List Item
   printed = fs ++ (bs ++ ls)
 
-  distinct-kinds : DistinctItems (select isFunction items ++ (select isBranch items ++ select isLine items))
+  distinct-kinds : DistinctItems (filter isFunction items ++ (filter isBranch items ++ filter isLine items))
   distinct-kinds = rw (by-kind items sorted within-section) (distinct-sorted itemKey compareBytes bytes-order items sorted)
 
   printed-distinct : DistinctItems printed
   unfolding printed fs bs ls functionsOf
-  printed-distinct = distinct-sort itemKey compareBytes bytes-order comparePrinted (bs ++ ls) (select isFunction items) distinct-kinds
+  printed-distinct = distinct-sort itemKey compareBytes bytes-order comparePrinted (bs ++ ls) (filter isFunction items) distinct-kinds
 
   printed-same : (k : List ℕ) → at k printed ≡ at k items
   unfolding printed fs bs ls functionsOf
   printed-same k =
-      find-sort itemKey compareBytes bytes-order comparePrinted (bs ++ ls) (select isFunction items) distinct-kinds k
+      find-sort itemKey compareBytes bytes-order comparePrinted (bs ++ ls) (filter isFunction items) distinct-kinds k
       ∙ ap (at k) (by-kind items sorted within-section)
 
-  starts-printed : each startRecord printed ≡ each startRecord fs
+  starts-printed : concatMap startRecord printed ≡ concatMap startRecord fs
   unfolding printed bs ls
   starts-printed =
       each-append startRecord fs (bs ++ ls)
-      ∙ ap (λ r. each startRecord fs ++ r) (each-append startRecord bs ls)
-      ∙ rw (no-starts isBranch branch-start items, no-starts isLine line-start items) (append-nil (each startRecord fs))
+      ∙ ap (λ r. concatMap startRecord fs ++ r) (each-append startRecord bs ls)
+      ∙ rw (no-starts isBranch branch-start items, no-starts isLine line-start items) (append-nil (concatMap startRecord fs))
 
   all-fs : (P : Item → Type 0) → All P items → All P fs
   unfolding fs functionsOf
-  all-fs P h = all-sort P comparePrinted (select isFunction items) (all-select P isFunction items h)
+  all-fs P h = all-sort P comparePrinted (filter isFunction items) (all-select P isFunction items h)
 
   all-bs : (P : Item → Type 0) → All P items → All P bs
   unfolding bs
@@ -236,7 +236,7 @@ module _ (limit : ℕ) (kept : Report) (test spelling : Bytes) (items : List Ite
     with-lines p r =
         go
         (group-pass limit kept test spelling items sorted room linesFound linesHit (λ n s. refl) (λ n s. refl) m ls []
-        (all-ls InSection within-section) (all-ls Fits fit) (rw (append-nil ls) p) (rw (append-nil ls) r))
+        (all-ls InSection within-section) (all-ls ItemFits fit) (rw (append-nil ls) p) (rw (append-nil ls) r))
       where
         go : (n : List Item) × (run limit (group linesFound linesHit ls) (holding m) ≡ accepted (holding n)) × Pass items some n []
             × Ready n []
@@ -252,7 +252,7 @@ module _ (limit : ℕ) (kept : Report) (test spelling : Bytes) (items : List Ite
     with-branches p r =
         go
         (group-pass limit kept test spelling items sorted room branchesFound branchesHit (λ n s. refl) (λ n s. refl) m bs ls
-        (all-bs InSection within-section) (all-bs Fits fit) p r)
+        (all-bs InSection within-section) (all-bs ItemFits fit) p r)
       where
         go : (n : List Item) × (run limit (group branchesFound branchesHit bs) (holding m) ≡ accepted (holding n)) × Pass items some n ls
             × Ready n ls
@@ -263,14 +263,14 @@ module _ (limit : ℕ) (kept : Report) (test spelling : Bytes) (items : List Ite
   -- all lines of the section but the last
   filled : (t : Bytes)
       → run limit
-      (testName test ∷ sourceFile spelling ∷ [] ++ each startRecord fs ++ group functionsFound functionsHit fs ++ group branchesFound branchesHit bs ++ group linesFound linesHit ls)
+      (testName test ∷ sourceFile spelling ∷ [] ++ concatMap startRecord fs ++ group functionsFound functionsHit fs ++ group branchesFound branchesHit bs ++ group linesFound linesHit ls)
       (outside kept t)
       ≡ accepted (holding items)
   unfolding printed effect
   filled t = starts (start-pass limit kept test spelling items sorted room [] printed start)
     where
       rs : List Record
-      rs = testName test ∷ sourceFile spelling ∷ [] ++ each startRecord fs
+      rs = testName test ∷ sourceFile spelling ∷ [] ++ concatMap startRecord fs
 
       groups : (m : List Item) → run limit rs (outside kept t) ≡ accepted (holding m)
           → (n : List Item) × (run limit (group functionsFound functionsHit fs) (holding m) ≡ accepted (holding n))
@@ -281,15 +281,15 @@ module _ (limit : ℕ) (kept : Report) (test spelling : Bytes) (items : List Ite
           with-branches (rs ++ group functionsFound functionsHit fs) (outside kept t) n
           (run-append limit rs (group functionsFound functionsHit fs) (outside kept t) (holding m) q ∙ q′) p r
 
-      starts : (m : List Item) × (run limit (each startRecord printed) (holding []) ≡ accepted (holding m)) × Pass items started m []
+      starts : (m : List Item) × (run limit (concatMap startRecord printed) (holding []) ≡ accepted (holding m)) × Pass items started m []
           → run limit (rs ++ group functionsFound functionsHit fs ++ group branchesFound branchesHit bs ++ group linesFound linesHit ls) (outside kept t)
           ≡ accepted (holding items)
       starts (m, q, p) =
           let (p′, r) = after-starts limit kept test spelling items sorted room m printed printed-same printed-distinct p in
           groups m
-          (run-append limit (testName test ∷ sourceFile spelling ∷ []) (each startRecord fs) (outside kept t) (holding []) (opened t) ∙ rw (← starts-printed) q)
+          (run-append limit (testName test ∷ sourceFile spelling ∷ []) (concatMap startRecord fs) (outside kept t) (holding []) (opened t) ∙ rw (← starts-printed) q)
           (group-pass limit kept test spelling items sorted room functionsFound functionsHit (λ n s. refl) (λ n s. refl) m fs (bs ++ ls)
-          (all-fs InSection within-section) (all-fs Fits fit) p′ r)
+          (all-fs InSection within-section) (all-fs ItemFits fit) p′ r)
 
   -- the end of the section
   ended : (item : Item) (rest : List Item) → items ≡ item ∷ rest → Past test (components spelling) kept
@@ -310,6 +310,6 @@ module _ (limit : ℕ) (kept : Report) (test spelling : Bytes) (items : List Ite
   unfolding sectionRecords fs bs ls
   section-run item rest e past t =
       run-append limit
-      (testName test ∷ sourceFile spelling ∷ [] ++ each startRecord fs ++ group functionsFound functionsHit fs ++ group branchesFound branchesHit bs ++ group linesFound linesHit ls)
+      (testName test ∷ sourceFile spelling ∷ [] ++ concatMap startRecord fs ++ group functionsFound functionsHit fs ++ group branchesFound branchesHit bs ++ group linesFound linesHit ls)
       (endOfRecord ∷ []) (outside kept t) (holding items) (filled t)
       ∙ ended item rest e past

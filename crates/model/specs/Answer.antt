@@ -1,9 +1,9 @@
 -- What a call answers: a value, or a refusal, which is a fault with its place. Assumes nothing.
 use Prim.Native.Nat.{ℕ, min}
 use mathlib.Core.List.{List, [], _∷_}
-use Rattle.map.specs.Result.{Result}
-pub use Rattle.map.specs.Result.{accepted, refused, _>>=_}
-use Rattle.map.specs.Gathering.{mapRefused}
+use Rattle.ordmap.specs.Result.{Result}
+pub use Rattle.ordmap.specs.Result.{accepted, refused, _>>=_}
+use Rattle.ordmap.specs.Gathering.{mapRefused}
 use Rattle.model.specs.declared.Fault.{Fault}
 use Rattle.model.specs.declared.Fault.the-variants.{
   UnknownRecord,
@@ -67,8 +67,8 @@ numberOf PartOutside = 17
 numberOf MalformedRanges = 18
 
 -- a refusal's number and values: text, line, field and needed length
-unfoldable pub told : Refusal → List ℕ
-told r = numberOf (r .fault) ∷ r .text ∷ r .line ∷ r .field ∷ r .needed ∷ []
+unfoldable pub refusalValues : Refusal → List ℕ
+refusalValues r = numberOf (r .fault) ∷ r .text ∷ r .line ∷ r .field ∷ r .needed ∷ []
 
 -- ---- answers
 
@@ -77,9 +77,9 @@ Answer A = Result Refusal A
 
 module _ {A : Type 0} where
   -- an answer as the caller gets it: a refusal by its number and values
-  abbrev pub asTold : Answer A → Result (List ℕ) A
-  asTold (accepted a) = accepted a
-  asTold (refused r) = refused (told r)
+  abbrev pub withValues : Answer A → Result (List ℕ) A
+  withValues (accepted a) = accepted a
+  withValues (refused r) = refused (refusalValues r)
 
 -- a fault with no place
 abbrev pub unplaced : Fault → Refusal

@@ -7,7 +7,7 @@ use lib.Dec.{leb, eqb}
 use lib.ListN.{length, getD, take, drop}
 use Rattle.model.specs.Lists.{all, from}
 use Rattle.model.specs.Bytes.{Bytes}
-use Rattle.model.specs.Limits.{most-texts}
+use Rattle.model.specs.Limits.{max-texts}
 
 -- the little-endian u32 at an offset
 unfoldable pub u32At : Bytes → ℕ → ℕ
@@ -32,7 +32,7 @@ textLength bundle i = u32At bundle (8 + 4 * textCount bundle + 4 * i)
 unfoldable pub wellFormed : Bytes → Bool
 wellFormed bundle =
     leb 8 (length bundle)
-    && leb (textCount bundle) most-texts
+    && leb (textCount bundle) max-texts
     && eqb (length bundle) (8 + 8 * textCount bundle + textBytes bundle)
     && all (λ i. leb (textStart bundle i + textLength bundle i) (textBytes bundle)) (from 0 (textCount bundle))
 

@@ -1,5 +1,5 @@
 -- What the public calls hand back, told by the definitions: each case of an answer's enum is a value, or a refusal whose number and
--- values `told` of Answer.antt gives. Assumes nothing.
+-- values `refusalValues` of Answer.antt gives. Assumes nothing.
 use mathlib.Core.Bool.{Bool}
 use mathlib.Core.List.{List}
 use lib.ListN.{length}

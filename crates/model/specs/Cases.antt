@@ -8,7 +8,7 @@ use lib.ListN.{length}
 use Rattle.model.specs.declared.Range.{Range}
 use Rattle.model.specs.Bytes.{Bytes, ascii}
 use Rattle.model.specs.Path.{comparePaths, components}
-use Rattle.model.specs.Answer.{accepted, refused, asTold}
+use Rattle.model.specs.Answer.{accepted, refused, withValues}
 use Rattle.model.specs.Record.{lineData, endOfRecord}
 use Rattle.model.specs.Tags.{defaultTag}
 use Rattle.model.specs.Line.{readLine}
@@ -39,15 +39,15 @@ sampleBundle =
     ++ sampleText
 
 pub record Cases : Type 0 where
-  pub a : (asTold (readLine defaultTag (ascii "FN:5")) ≡ refused (atLine 2 1 2)) × (asTold (readLine defaultTag (ascii "FNF:1,2")) ≡ refused (atLine 3 1 0))
+  pub a : (withValues (readLine defaultTag (ascii "FN:5")) ≡ refused (atLine 2 1 2)) × (withValues (readLine defaultTag (ascii "FNF:1,2")) ≡ refused (atLine 3 1 0))
   pub b : (readLine defaultTag (ascii "DA:1,2,") ≡ accepted (lineData 1 2 (some []))) × (readLine defaultTag (ascii "DA:1,2,-") ≡ accepted (lineData 1 2 none))
-  pub c : asTold (readLine defaultTag (ascii "BRDA:1,0,0,")) ≡ refused (atLine 4 1 4)
+  pub c : withValues (readLine defaultTag (ascii "BRDA:1,0,0,")) ≡ refused (atLine 4 1 4)
   pub d :
       (readLine defaultTag (ascii "DA:4294967295,0") ≡ accepted (lineData 4_294_967_295 0 none))
-      × (asTold (readLine defaultTag (ascii "DA:4294967296x,0")) ≡ refused (atLine 6 1 1))
-      × (asTold (readLine defaultTag (ascii "DA:4294967295x,0")) ≡ refused (atLine 5 1 1))
+      × (withValues (readLine defaultTag (ascii "DA:4294967296x,0")) ≡ refused (atLine 6 1 1))
+      × (withValues (readLine defaultTag (ascii "DA:4294967295x,0")) ≡ refused (atLine 5 1 1))
   pub e : readLine defaultTag (ascii "end_of_record:z") ≡ accepted endOfRecord
-  pub f : (readText defaultTag 256 (ascii "TN:a\n") ≡ accepted []) × (asTold (readText defaultTag 256 (ascii "TN:a\nSF:b\n")) ≡ refused (atLine 8 3 0))
+  pub f : (readText defaultTag 256 (ascii "TN:a\n") ≡ accepted []) × (withValues (readText defaultTag 256 (ascii "TN:a\nSF:b\n")) ≡ refused (atLine 8 3 0))
   pub g :
       readText defaultTag 256 (ascii "FNDA:2,f\nFN:3,f\nend_of_record\n")
       ≡ accepted

@@ -22,8 +22,8 @@ use mathlib.Core.Logic.{_↔_}
 use mathlib.Core.Bool.{true}
 use mathlib.Core.List.{List, List·Memᴰ as Member}
 use lib.ListN.{length}
-use Rattle.map.specs.Result.{value, IsAccepted}
-use Rattle.map.specs.Keyed.{Sorted}
+use Rattle.ordmap.specs.Result.{value, IsAccepted}
+use Rattle.ordmap.specs.Keyed.{Sorted}
 use Rattle.model.specs.declared.Kind.{Kind}
 use Rattle.model.specs.declared.Mode.the-variants.{Checked}
 use Rattle.model.specs.Bytes.{Bytes}

@@ -8,7 +8,7 @@ use Rattle.model.specs.declared.Fault.the-variants.{MalformedRanges}
 use Rattle.model.specs.declared.Kind.{Kind}
 use Rattle.model.specs.declared.Range.{Range}
 use Rattle.model.specs.Order.{if_then_else_}
-use Rattle.model.specs.Lists.{select, sort}
+use Rattle.model.specs.Lists.{filter, sort}
 use Rattle.model.specs.Bytes.{Bytes}
 use Rattle.model.specs.Answer.{Answer, _>>=_, refuse}
 use Rattle.model.specs.Limits.{u32-max}
@@ -50,9 +50,9 @@ heldFunctions ranges (f ∷ fs) =
 
 unfoldable pub filterItems : List Range → List Item → List Item
 filterItems ranges items =
-    sort compareItems (heldFunctions ranges (select hasStart (functionsOf items)))
-    ++ select (isHeld ranges) (select isBranch items)
-    ++ select (isHeld ranges) (select isLine items)
+    sort compareItems (heldFunctions ranges (filter hasStart (functionsOf items)))
+    ++ filter (isHeld ranges) (filter isBranch items)
+    ++ filter (isHeld ranges) (filter isLine items)
 
 -- an emptied section stays
 unfoldable pub filterSection : List Range → Section → Section

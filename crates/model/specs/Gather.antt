@@ -10,7 +10,7 @@ use Rattle.model.specs.declared.Mode.{Mode}
 use Rattle.model.specs.declared.Mode.the-variants.{Checked}
 use Rattle.model.specs.Order.{if_then_else_}
 use Rattle.model.specs.Bytes.{Bytes, ascii, newline}
-use Rattle.model.specs.Limits.{words-per-entry, most-entries, program-input, program-words, program-output}
+use Rattle.model.specs.Limits.{words-per-entry, max-entries, program-input, program-words, program-output}
 use Rattle.model.specs.Answer.{Answer, accepted, refused, _>>=_, refuse, inText, numberOf}
 use Rattle.model.specs.Number.{decimal}
 use Rattle.model.specs.Tags.{defaultTag}
@@ -22,7 +22,7 @@ use Rattle.model.specs.Bundle.{Text, wellFormed, texts}
 
 -- E: the smaller of W/32 rounded down and 65,535
 abbrev pub entryLimit : ℕ → ℕ
-entryLimit words = min (words / words-per-entry) most-entries
+entryLimit words = min (words / words-per-entry) max-entries
 
 module _ (tag : Kind → Bytes) where
   -- read one text: its report printed to the output
@@ -55,12 +55,12 @@ module _ (tag : Kind → Bytes) where
 -- ---- the program `gather`
 
 -- what it prints for an answer
-unfoldable pub shown : Answer Bytes → Bytes
-shown (accepted bytes) = bytes
-shown (refused r) =
+unfoldable pub printedAnswer : Answer Bytes → Bytes
+printedAnswer (accepted bytes) = bytes
+printedAnswer (refused r) =
     ascii "refused " ++ decimal (numberOf (r .fault)) ++ ascii " " ++ decimal (r .text) ++ ascii " " ++ decimal (r .line) ++ ascii " " ++ decimal (r .field) ++ newline ∷ []
 
 -- what it prints for its standard input
 unfoldable pub gatherProgram : Bytes → Bytes
 gatherProgram input =
-    shown (if leb (length input) program-input then gather defaultTag Checked input program-words program-output else refuse MalformedBundle)
+    printedAnswer (if leb (length input) program-input then gather defaultTag Checked input program-words program-output else refuse MalformedBundle)

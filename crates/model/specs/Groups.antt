@@ -5,8 +5,8 @@ use mathlib.Core.Path.{_≡_}
 use mathlib.Core.Bool.{true}
 use mathlib.Core.List.{List, [], _∷_, map}
 use lib.ListN.{length}
-use Rattle.map.specs.Result.{value}
-use Rattle.map.specs.Gathering.{flat, times}
+use Rattle.ordmap.specs.Result.{value}
+use Rattle.ordmap.specs.Gathering.{flat, times}
 use Rattle.model.specs.declared.Kind.{Kind}
 use Rattle.model.specs.declared.Mode.{Mode}
 use Rattle.model.specs.declared.Mode.the-variants.{Checked}

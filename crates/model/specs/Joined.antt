@@ -6,8 +6,8 @@ use mathlib.Core.Bool.{Bool, true, _&&_}
 use mathlib.Core.List.{List, [], _∷_, map, List·Memᴰ as Member}
 use mathlib.Core.Option.{Option, none, some}
 use lib.Dec.{leb, eqb}
-use Rattle.map.specs.Keyed.{only}
-use Rattle.map.specs.Gathering.{flat, times, readAll as readEach}
+use Rattle.ordmap.specs.Keyed.{withKey}
+use Rattle.ordmap.specs.Gathering.{flat, times, readAll as readEach}
 use Rattle.model.specs.declared.Kind.{Kind}
 use Rattle.model.specs.Lists.{all}
 use Rattle.model.specs.Bytes.{Bytes, sameBytes}
@@ -64,7 +64,7 @@ HasKey key es = (e : Entry) × Member e es × (entryKey e ≡ key)
 
 -- the items that the reports have at a key, in the order of the texts
 unfoldable pub itemsAt : Key → List Report → List Item
-itemsAt key reports = map (λ e. e .item) (only entryKey compareKeys key (allEntries reports))
+itemsAt key reports = map (λ e. e .item) (withKey entryKey compareKeys key (allEntries reports))
 
 -- ---- the value of a key
 

@@ -8,15 +8,15 @@ abbrev pub u64-max : ℕ
 u64-max = 18_446_744_073_709_551_615
 
 -- a bundle has at most 64 texts
-abbrev pub most-texts : ℕ
-most-texts = 64
+abbrev pub max-texts : ℕ
+max-texts = 64
 
 -- the entry limit is a 32nd of the scratch's words, and at most 65,535
 abbrev pub words-per-entry : ℕ
 words-per-entry = 32
 
-abbrev pub most-entries : ℕ
-most-entries = 65_535
+abbrev pub max-entries : ℕ
+max-entries = 65_535
 
 -- the program `gather`: bytes of standard input, words of scratch, bytes of output
 abbrev pub program-input : ℕ

@@ -7,7 +7,7 @@ use lib.Dec.{ltb}
 use lib.ListN.{length}
 use Rattle.model.specs.declared.Kind.{Kind}
 use Rattle.model.specs.Order.{if_then_else_}
-use Rattle.model.specs.Lists.{select, sort, each}
+use Rattle.model.specs.Lists.{filter, sort, concatMap}
 use Rattle.model.specs.Bytes.{Bytes, newline, compareBytes}
 use Rattle.model.specs.Record.{
   Record,
@@ -92,7 +92,7 @@ unfoldable pub comparePrinted : Item → Item → Ordering
 comparePrinted a b = compareBytes (printKey a) (printKey b)
 
 unfoldable pub functionsOf : List Item → List Item
-functionsOf items = sort comparePrinted (select isFunction items)
+functionsOf items = sort comparePrinted (filter isFunction items)
 
 -- FN, where a function has a start
 unfoldable pub startRecord : Item → List Record
@@ -111,21 +111,21 @@ dataRecord (lineItem line count checksum) = lineData line count checksum ∷ []
 
 -- hit means a count above 0
 unfoldable pub hits : List Item → ℕ
-hits items = length (select (λ i. ltb 0 (countOf i)) items)
+hits items = length (filter (λ i. ltb 0 (countOf i)) items)
 
 -- the data of a group, how many were found and how many hit; an empty group prints nothing
 unfoldable pub group : (ℕ → Record) → (ℕ → Record) → List Item → List Record
 group found hit [] = []
 group found hit (item ∷ items) =
-    each dataRecord (item ∷ items) ++ found (length (item ∷ items)) ∷ hit (hits (item ∷ items)) ∷ []
+    concatMap dataRecord (item ∷ items) ++ found (length (item ∷ items)) ∷ hit (hits (item ∷ items)) ∷ []
 
 unfoldable pub sectionRecords : Section → List Record
 sectionRecords s =
     testName (s .test) ∷ sourceFile (s .spelling) ∷ []
-    ++ each startRecord (functionsOf (s .items))
+    ++ concatMap startRecord (functionsOf (s .items))
     ++ group functionsFound functionsHit (functionsOf (s .items))
-    ++ group branchesFound branchesHit (select isBranch (s .items))
-    ++ group linesFound linesHit (select isLine (s .items))
+    ++ group branchesFound branchesHit (filter isBranch (s .items))
+    ++ group linesFound linesHit (filter isLine (s .items))
     ++ endOfRecord ∷ []
 
 -- ---- bytes
@@ -133,10 +133,10 @@ sectionRecords s =
 module _ (tag : Kind → Bytes) where
   -- each record's line, with byte 10 after it
   unfoldable pub printRecords : List Record → Bytes
-  printRecords records = each (λ r. printRecord tag r ++ newline ∷ []) records
+  printRecords records = concatMap (λ r. printRecord tag r ++ newline ∷ []) records
 
   unfoldable pub printSections : List Section → Bytes
-  printSections all = printRecords (each sectionRecords all)
+  printSections all = printRecords (concatMap sectionRecords all)
 
   unfoldable pub printReport : Report → Bytes
   printReport report = printSections (sections report)

@@ -5,11 +5,11 @@ use mathlib.Core.List.{List, [], _∷_, _++_, map}
 use mathlib.Core.Option.{none, some}
 use lib.Dec.{isEq}
 use lib.ListN.{length}
-use Rattle.map.specs.Keyed.{add as enter}
+use Rattle.ordmap.specs.Keyed.{add as enter}
 use Rattle.model.specs.declared.Fault.the-variants.{UnexpectedRecord, UnexpectedEof, CallOverflow}
 use Rattle.model.specs.declared.Kind.{Kind}
 use Rattle.model.specs.Order.{if_then_else_, isLess, isGreater}
-use Rattle.model.specs.Lists.{select}
+use Rattle.model.specs.Lists.{filter}
 use Rattle.model.specs.Bytes.{Bytes, newline, split, compareBytes}
 use Rattle.model.specs.Path.{components}
 use Rattle.model.specs.Answer.{Answer, accepted, _>>=_, refuse, onLine}
@@ -103,10 +103,10 @@ spellingOf path (e ∷ es) =
 unfoldable pub replaceSection : Bytes → Bytes → List Item → Report → Report
 replaceSection test path items kept =
     let key : SectionKey = (test, components path) in
-    let same : Report = select (λ e. isEq (compareSections key (sectionKey e))) kept in
-    select (λ e. isGreater (compareSections key (sectionKey e))) kept
+    let same : Report = filter (λ e. isEq (compareSections key (sectionKey e))) kept in
+    filter (λ e. isGreater (compareSections key (sectionKey e))) kept
     ++ (map (inSection key) (sectionItem (spellingOf path same) ∷ items)
-    ++ select (λ e. isLess (compareSections key (sectionKey e))) kept)
+    ++ filter (λ e. isLess (compareSections key (sectionKey e))) kept)
 
 -- a section without functions, branches and lines is dropped
 unfoldable pub keepSection : Bytes → Bytes → List Item → Report → Report

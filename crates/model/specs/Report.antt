@@ -8,7 +8,7 @@ use Rattle.model.specs.declared.Fault.{Fault}
 use Rattle.model.specs.declared.Fault.the-variants.{TooManyEntries, UnmatchedFunctionLine, UnmatchedChecksum, CountOverflow}
 use Rattle.model.specs.declared.Mode.{Mode}
 use Rattle.model.specs.declared.Mode.the-variants.{Checked, Lossy}
-use Rattle.map.specs.Keyed.{addAll}
+use Rattle.ordmap.specs.Keyed.{addAll}
 use Rattle.model.specs.Order.{if_then_else_, comparePair}
 use Rattle.model.specs.Bytes.{Bytes, compareBytes, sameBytes}
 use Rattle.model.specs.Path.{Path, comparePaths}

@@ -5,7 +5,7 @@ use mathlib.Core.Path.{_≡_}
 use mathlib.Core.Bool.{false}
 use mathlib.Core.List.{List·Memᴰ as Member}
 use mathlib.Core.Option.{Option, none, some}
-use Rattle.map.specs.Keyed.{Sorted}
+use Rattle.ordmap.specs.Keyed.{Sorted}
 use Rattle.model.specs.Bytes.{Bytes, ascii, newline, sameBytes, Free}
 use Rattle.model.specs.Path.{components}
 use Rattle.model.specs.Limits.{u32-max, u64-max}
@@ -41,17 +41,17 @@ pub record ChecksumText (bytes : Bytes) : Type 0 where
   pub not-dash : sameBytes bytes (ascii "-") ≡ false
 
 -- an item that a line can hold: numbers in range, texts of one line
-abbrev pub Fits : Item → Type 0
-Fits (sectionItem spelling) = LineText spelling
-Fits (functionItem name start count) = LineText name × Given (λ n. n ≤ u32-max) start × (count ≤ u64-max)
-Fits (branchItem line block branch taken) = (line ≤ u32-max) × (block ≤ u32-max) × (branch ≤ u32-max) × Given (λ n. n ≤ u64-max) taken
-Fits (lineItem line count checksum) = (line ≤ u32-max) × (count ≤ u64-max) × Given ChecksumText checksum
+abbrev pub ItemFits : Item → Type 0
+ItemFits (sectionItem spelling) = LineText spelling
+ItemFits (functionItem name start count) = LineText name × Given (λ n. n ≤ u32-max) start × (count ≤ u64-max)
+ItemFits (branchItem line block branch taken) = (line ≤ u32-max) × (block ≤ u32-max) × (branch ≤ u32-max) × Given (λ n. n ≤ u64-max) taken
+ItemFits (lineItem line count checksum) = (line ≤ u32-max) × (count ≤ u64-max) × Given ChecksumText checksum
 
 pub record Valid (report : Report) : Type 0 where
   -- strictly ascending by key
   pub sorted : Sorted entryKey compareKeys report
   pub tests : (e : Entry) → Member e report → LineText (e .test)
-  pub fits : (e : Entry) → Member e report → Fits (e .item)
+  pub fits : (e : Entry) → Member e report → ItemFits (e .item)
   -- a section's path is that of its spelling
   pub spelled : (e : Entry) (spelling : Bytes) → Member e report → e .item ≡ sectionItem spelling → components spelling ≡ e .path
   -- each entry's section has its own entry, which its key puts first

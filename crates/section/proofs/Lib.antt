@@ -1,3 +1,3 @@
 pub mod StateLaws
-pub mod EnterLineLaws
-pub mod OtherLineLaws
+pub mod ItemLaws
+pub mod OtherLaws

@@ -80,7 +80,7 @@ pub trait Ranges {
     fn half_open(&self, a: u32, b: u32, answer: &mut [u64]);
 }
 
-pub use port::{EQUAL, GREATER, LESS, MOST_ENTRIES, OUTPUT_TOO_SHORT, WORDS, WORDS_PER_ENTRY};
+pub use port::{EQUAL, GREATER, LESS, MAX_ENTRIES, OUTPUT_TOO_SHORT, WORDS, WORDS_PER_ENTRY};
 
 /// The scratch inside [`Gatherer::gather`].
 pub const INNER_WORDS: usize = 8192;

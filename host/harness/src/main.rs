@@ -9,7 +9,7 @@
 
 mod linked;
 
-use harness::interface::{INNER_WORDS, MOST_ENTRIES, WORDS_PER_ENTRY};
+use harness::interface::{INNER_WORDS, MAX_ENTRIES, WORDS_PER_ENTRY};
 use harness::lines::{by_chance, systematic};
 use harness::{paths, ranges, reports, Chance, Comparison};
 use linked::Linked;
@@ -124,7 +124,7 @@ impl Run {
         let reports = &mut self.reports;
         reports::systematic::bundles(&mut |bundle| reports.bundle(bundle));
         reports::systematic::near_the_inner_limit(inner, &mut |bundle| reports.bundle(bundle));
-        for entries in [MOST_ENTRIES, MOST_ENTRIES + 1] {
+        for entries in [MAX_ENTRIES, MAX_ENTRIES + 1] {
             reports.text(&reports::systematic::ascending(entries));
         }
         reports::systematic::replaced(self.seed, &mut |text| reports.text(text));

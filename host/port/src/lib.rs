@@ -1,4 +1,4 @@
-//! The port for Rust programs: the calls of the archive that `rt staticlib exports` writes, as include/lcov.h declares them for C, and safe
+//! The port for Rust programs: the calls of the archive that `rt staticlib lcov_c` writes, as include/lcov.h declares them for C, and safe
 //! ones over them. A program that uses them links the archive (host/tool/build.rs shows how).
 //!
 //! A call that can be refused returns 0, or document 01's number:
@@ -33,10 +33,10 @@ pub use refusal::{Refusal, MEANINGS};
 pub const WORDS_PER_ENTRY: usize = 32;
 
 /// The most entries, however long the scratch.
-pub const MOST_ENTRIES: usize = 65_535;
+pub const MAX_ENTRIES: usize = 65_535;
 
 /// The most texts that a bundle names.
-pub const MOST_TEXTS: usize = 64;
+pub const MAX_TEXTS: usize = 64;
 
 /// The words of an answer.
 pub const WORDS: usize = 8;

@@ -2,7 +2,7 @@
 //!
 //!     cd host/tool && cargo run --offline --release --example totals -- FILE
 
-use port::{Refusal, MOST_ENTRIES, WORDS, WORDS_PER_ENTRY};
+use port::{Refusal, MAX_ENTRIES, WORDS, WORDS_PER_ENTRY};
 
 fn main() {
     let path = std::env::args().nth(1).expect("usage: totals FILE");
@@ -24,7 +24,7 @@ fn main() {
 
 /// The text's report printed. Where the output is too short, the refusal tells the needed length.
 fn report(text: &[u8]) -> Result<Vec<u8>, Refusal> {
-    let mut scratch = vec![0; MOST_ENTRIES * WORDS_PER_ENTRY];
+    let mut scratch = vec![0; MAX_ENTRIES * WORDS_PER_ENTRY];
     let mut out = vec![0; 3 * text.len() + 64];
     let mut answer = [0; WORDS];
     let number = port::read_text(text, &mut scratch, &mut out, &mut answer);

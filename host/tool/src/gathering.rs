@@ -6,7 +6,7 @@
 use crate::failure::Failure;
 use crate::input::Input;
 use crate::progress::Progress;
-use port::{Refusal, MOST_ENTRIES, MOST_TEXTS, OUTPUT_TOO_SHORT, WORDS, WORDS_PER_ENTRY};
+use port::{Refusal, MAX_ENTRIES, MAX_TEXTS, OUTPUT_TOO_SHORT, WORDS, WORDS_PER_ENTRY};
 use std::path::{Path, PathBuf};
 
 #[derive(Clone, Copy, PartialEq, Eq)]
@@ -20,7 +20,7 @@ pub struct Scratch(Vec<u64>);
 
 impl Scratch {
     pub fn new() -> Self {
-        Scratch(vec![0; MOST_ENTRIES * WORDS_PER_ENTRY])
+        Scratch(vec![0; MAX_ENTRIES * WORDS_PER_ENTRY])
     }
 
     /// A call that reads so many bytes and writes a report, given an output that it finds long enough: at most twice.
@@ -85,7 +85,7 @@ pub fn gather(inputs: &[Input], mode: Mode) -> Result<Vec<u8>, Failure> {
 
 /// How many of the later files fit into one bundle with what was joined.
 fn how_many_fit(joined: Option<&[u8]>, later: &[Input]) -> usize {
-    let room = MOST_TEXTS - usize::from(joined.is_some());
+    let room = MAX_TEXTS - usize::from(joined.is_some());
     let mut bytes = joined.map_or(0, <[u8]>::len);
     later
         .iter()

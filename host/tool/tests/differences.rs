@@ -176,17 +176,17 @@ fn found_and_hit_lines_are_counted_anew() {
 
 #[test]
 fn sums_past_the_largest_number() {
-    const MOST: &str = "18446744073709551615";
-    let line = section(&format!("DA:1,{MOST}"));
+    const MAX: &str = "18446744073709551615";
+    let line = section(&format!("DA:1,{MAX}"));
     refuses(
         &[&line, &section("DA:1,1")],
         "t1: the counts of a line or branch add up past 2^64 - 1 (refusal 13)",
     );
-    let function = section(&format!("FNDA:{MOST},f"));
-    let held = format!("TN: SF:m FNDA:{MOST},f FNF:1 FNH:1 end_of_record");
+    let function = section(&format!("FNDA:{MAX},f"));
+    let held = format!("TN: SF:m FNDA:{MAX},f FNF:1 FNH:1 end_of_record");
     prints(&[&function, &section("FNDA:3,f")], &held);
     refuses(
-        &[&section(&format!("FNDA:{MOST},f FNDA:3,f"))],
+        &[&section(&format!("FNDA:{MAX},f FNDA:3,f"))],
         "t0:3: the calls of a function add up past 2^64 - 1 (refusal 9)",
     );
 }

@@ -5,15 +5,15 @@ use denote.Ref.{now}
 use mathlib.Core.List.{List}
 use lib.ListN.{take}
 use Rattle.model.specs.declared.Range.{Range}
-use Rattle.line_num.specs.Pairs.{rangesIn}
+use Rattle.line_num_pairs.specs.Pairs.{rangesIn}
 use Rattle.filter.proofs.SectionLaws.{section-ready, section-room, section-done}
 use Rattle.filter.proofs.filter_section.Statement.{statement}
 use Rattle.filter.proofs.filter_section.Tie as tie
 
-abbrev start : tie.After-find-runs → tie.Start
+abbrev start : tie.After-find-kind-ranges → tie.Start
 start f = f .before .before .before .before .before .before .before
 
-abbrev found : tie.After-keep-rows → tie.After-find-runs
+abbrev found : tie.After-keep-rows → tie.After-find-kind-ranges
 found k = k .before .before
 
 abbrev ranges : tie.Start → List Range
@@ -28,13 +28,13 @@ filter-section-spec =
     (λ c κs. let s = c .before .before .before .before .before .before in (s .pre .0 .0 .table .store, s .pre .0 .0 .table .room, omega arith))
     (λ c. omega arith)
     (λ c κs. let f = c .before in
-    let s = start f in (s .pre .0 .0, f .find-runs .ensures, s .pre .1 .0))
+    let s = start f in (s .pre .0 .0, f .find-kind-ranges .ensures, s .pre .1 .0))
     (λ c κs. let k = c .before .before .before .before in
     let f = found k in
     let s = start f in (
-      section-ready (s .pre .0 .0) (s .pre .0 .1) (s .pre .0 .2) (f .before .before .get .ensures) (f .find-runs .ensures) (ranges s)
+      section-ready (s .pre .0 .0) (s .pre .0 .1) (s .pre .0 .2) (f .before .before .get .ensures) (f .find-kind-ranges .ensures) (ranges s)
           (k .keep-rows .ensures),
-      section-room (s .pre .0 .0) (s .pre .0 .1) (s .pre .0 .2) (f .before .before .get .ensures) (f .find-runs .ensures) (ranges s)
+      section-room (s .pre .0 .0) (s .pre .0 .1) (s .pre .0 .2) (f .before .before .get .ensures) (f .find-kind-ranges .ensures) (ranges s)
           (k .keep-rows .ensures)
           (s .args .write) (now (s .args .out)) (s .args .at) (s .pre .1 .1),
     ))
@@ -44,6 +44,6 @@ filter-section-spec =
     let k = p .before .before .before .before .before in
     let f = found k in
     let s = start f in
-    section-done (s .pre .0 .0) (s .pre .0 .1) (s .pre .0 .2) (f .before .before .get .ensures) (f .find-runs .ensures) (ranges s)
+    section-done (s .pre .0 .0) (s .pre .0 .1) (s .pre .0 .2) (f .before .before .get .ensures) (f .find-kind-ranges .ensures) (ranges s)
     (k .keep-rows .ensures)
     (p .print-kept .ensures)))

@@ -5,9 +5,9 @@ use denote.Ref.{now}
 use mathlib.Core.List.{List}
 use lib.ListN.{take}
 use Rattle.model.specs.declared.Range.{Range}
-use Rattle.line_num.specs.Pairs.{rangesIn}
-use Rattle.printing.proofs.TableLaws.{spacious-kept}
-use Rattle.printing.proofs.LoopLaws.{Looping, loop-start, loop-own, loop-room, loop-next, loop-done}
+use Rattle.line_num_pairs.specs.Pairs.{rangesIn}
+use Rattle.print_report.proofs.TableLaws.{printable-kept}
+use Rattle.print_report.proofs.LoopLaws.{Looping, loop-start, loop-header, loop-room, loop-next, loop-done}
 use Rattle.filter.specs.Filtered.{filteredFrom}
 use Rattle.filter.proofs.SectionLaws.{filtered-prints}
 use Rattle.filter.proofs.filter_sections.Statement.{statement}
@@ -38,7 +38,7 @@ filter-sections-spec =
     let π = s .pre .0 in
     let δ = filtered-prints (ranges s) π in
     let Λ = l .loop .inv in
-    ((spacious-kept π (Λ .spared), omega arith, loop-own π δ Λ (omega arith)), (s .pre .1 .0, loop-room π δ Λ)))
+    ((printable-kept π (Λ .spared), omega arith, loop-header π δ Λ (omega arith)), (s .pre .1 .0, loop-room π δ Λ)))
     (λ c. let p = c .before .before .before .before .filter-section .ensures in omega (arith, p .more, p .most))
     (λ c. let p = c .before .before .before .before in
     let l = p .before .before .before .before in

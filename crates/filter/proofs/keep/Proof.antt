@@ -2,7 +2,7 @@
 use Prim.Native.Nat.{_+_, _-_, _≤_}
 use native.Mathlib.Omega.{arith}
 use lib.ListN.{length, take}
-use Rattle.line_num.specs.Pairs.{rangesIn}
+use Rattle.line_num_pairs.specs.Pairs.{rangesIn}
 use Rattle.filter.proofs.KeepLaws.{Keeping, keep-start, left-rows, keep-gone, keep-kept, keep-done}
 use Rattle.filter.proofs.keep.Statement.{statement}
 use Rattle.filter.proofs.keep.Tie as tie

@@ -3,7 +3,7 @@ use native.Mathlib.Omega.{arith}
 use borrow.Author.Needs.{needs}
 use denote.Ref.{now}
 use lib.ListN.{take}
-use Rattle.line_num.specs.Pairs.{rangesIn}
+use Rattle.line_num_pairs.specs.Pairs.{rangesIn}
 use Rattle.filter.proofs.RowsLaws.{order-behind, functions-held, functions-spared}
 use Rattle.filter.proofs.keep_functions.Statement.{statement}
 use Rattle.filter.proofs.keep_functions.Tie as tie

@@ -4,9 +4,9 @@ use borrow.Author.Needs.{needs}
 use denote.Ref.{now}
 use mathlib.Core.List.{List}
 use lib.ListN.{take}
-use Rattle.line_num.specs.Pairs.{rangesIn}
+use Rattle.line_num_pairs.specs.Pairs.{rangesIn}
 use Rattle.model.specs.declared.Range.{Range}
-use Rattle.printing.proofs.TableLaws.{run-functions}
+use Rattle.print_report.proofs.TableLaws.{run-functions}
 use Rattle.filter.proofs.RowsLaws.{runs-places, branches-ready, branches-room, lines-ready, lines-room, rows-kept}
 use Rattle.filter.proofs.keep_rows.Statement.{statement}
 use Rattle.filter.proofs.keep_rows.Tie as tie

@@ -10,38 +10,38 @@ use Rattle.model.specs.Report.{Report}
 use Rattle.model.specs.Tags.{defaultTag}
 use Rattle.model.specs.Printing.{sections, printSections}
 use Rattle.model.specs.Filter.{filterSection}
-use Rattle.closing.specs.Sections.{entriesAt}
-use Rattle.line_num.specs.Pairs.{rangesIn}
-use Rattle.printing.specs.Printing.{Spacious}
-use Rattle.printing.proofs.TableLaws.{spacious-kept}
-use Rattle.printing.proofs.LoopLaws.{entries-all, Measured, short-answer, short-out, second-room, written-answer, written-out}
+use Rattle.table_section.specs.Sections.{entriesAt}
+use Rattle.line_num_pairs.specs.Pairs.{rangesIn}
+use Rattle.print_report.specs.Printing.{PrintableTable}
+use Rattle.print_report.proofs.TableLaws.{printable-kept}
+use Rattle.print_report.proofs.LoopLaws.{entries-all, Measured, short-answer, short-out, second-room, written-answer, written-out}
 use Rattle.filter.specs.Filtered.{filteredFrom}
 use Rattle.filter.proofs.SectionLaws.{filtered-prints}
 use Rattle.filter.proofs.print_filtered.Statement.{statement}
 use Rattle.filter.proofs.print_filtered.Tie as tie
 
 abbrev spacious : (s : tie.Start)
-    → Spacious (now (s .args .text)) (now (s .args .words)) (s .args .index) (s .args .used) (s .args .n) (s .args .spare)
+    → PrintableTable (now (s .args .text)) (now (s .args .words)) (s .args .index) (s .args .used) (s .args .n) (s .args .spare)
 spacious s = record { table = s .pre .0 .0; few = s .pre .0 .1; behind = s .pre .1 .0; words = s .pre .1 .1 }
 
 abbrev ranges : tie.Start → List Range
 ranges s = take (s .args .count) (rangesIn (now (s .args .pairs)))
 
-abbrev start : tie.After-enough → tie.Start
+abbrev start : tie.After-required-len → tie.Start
 start m = m .before .before .before .before .before .before
 
 -- what the length promises
-abbrev measured : (m : tie.After-enough) → let a = start m .args in
+abbrev measured : (m : tie.After-required-len) → let a = start m .args in
     Measured (filteredFrom (ranges (start m)) (now (a .text)) (a .index) (a .n))
     (printSections defaultTag (map (filterSection (ranges (start m))) (sections (entriesAt (now (a .text)) (now (a .words)) (a .index) (a .n)))))
-    (now (a .words)) (m .enough .last .1 .0) (now (a .out)) (m .enough .last .1 .1 .1 .1 .1 .1 .1 .1 .0) (a .n) (a .spare)
-    (m .enough .result)
+    (now (a .words)) (m .required-len .last .1 .0) (now (a .out)) (m .required-len .last .1 .1 .1 .1 .1 .1 .1 .1 .0) (a .n) (a .spare)
+    (m .required-len .result)
 measured m = let a = start m .args in record {
   prints = filtered-prints (ranges (start m)) (spacious (start m));
   is = ap (λ (r : Report). printSections defaultTag (map (filterSection (ranges (start m))) (sections r)))
       (entries-all (now (a .text)) (now (a .words)) (a .index) (a .n));
-  spared = m .enough .ensures .1;
-  enough = m .enough .ensures .0;
+  spared = m .required-len .ensures .1;
+  enough = m .required-len .ensures .0;
   few = omega arith;
 }
 
@@ -57,7 +57,7 @@ print-filtered-spec =
     (short-answer μ (omega arith) (c .too-short .ensures), short-out μ (omega arith)))
     (λ c κs. let m = c .before .before .before .before .before .before .before in
     let μ = measured m in
-    (spacious-kept (spacious (start m)) (μ .spared), (start m .pre .0 .2, second-room μ (omega arith))))
+    (printable-kept (spacious (start m)) (μ .spared), (start m .pre .0 .2, second-room μ (omega arith))))
     (λ c. search needs)
     (λ c. search needs)
     (λ c. let w = c .before .before .before .before in

@@ -1,7 +1,7 @@
 -- `filter::start_line` meets its contract. Assumes nothing.
 use native.Mathlib.Omega.{arith}
 use borrow.Author.Needs.{needs}
-use Rattle.emit.proofs.LentLaws.{start-fits}
+use Rattle.print_rows.proofs.LentLaws.{start-fits}
 use Rattle.filter.proofs.ItemLaws.{start-none, start-is}
 use Rattle.filter.proofs.start_line.Statement.{statement}
 use Rattle.filter.proofs.start_line.Tie as tie

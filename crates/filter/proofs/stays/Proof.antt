@@ -5,7 +5,7 @@ use denote.Ref.{now}
 use mathlib.Core.List.{List}
 use lib.ListN.{take}
 use Rattle.model.specs.declared.Range.{Range}
-use Rattle.line_num.specs.Pairs.{rangesIn}
+use Rattle.line_num_pairs.specs.Pairs.{rangesIn}
 use Rattle.filter.proofs.ItemLaws.{first-inside, first-fits, next-printable, stays-started, stays-held, stays-until}
 use Rattle.filter.proofs.stays.Statement.{statement}
 use Rattle.filter.proofs.stays.Tie as tie

@@ -11,7 +11,7 @@ use Rattle.model.specs.Tags.{defaultTag}
 use Rattle.model.specs.Printing.{sections, printSections}
 use Rattle.model.specs.Ranges.{wellFormedRanges}
 use Rattle.model.specs.Filter.{filterSection}
-use Rattle.line_num.specs.Pairs.{rangesIn}
+use Rattle.line_num_pairs.specs.Pairs.{rangesIn}
 use Rattle.lcov.proofs.CallLaws.{limit-few, limit-room, reading-refused, reading-ready, reading-printed, filter-means, filter-bad}
 use Rattle.lcov.proofs.filter_text.Statement.{statement}
 use Rattle.lcov.proofs.filter_text.Tie as tie

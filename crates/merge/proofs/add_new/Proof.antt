@@ -19,4 +19,4 @@ add-new-spec =
     (λ c. search needs)
     (λ c. let p = c .before .before in
     let g = p .before .before .before .before in
-    grown-row _ _ (g .before .before .if1 .left) (g .grow .ensures .1 .0) (p .put .ensures .1 .0) (p .put .ensures .0)))
+    grown-row _ _ (g .before .before .if1 .left) (g .push-row .ensures .1 .0) (p .put .ensures .1 .0) (p .put .ensures .0)))

@@ -4,42 +4,42 @@ use Prim.Native.Nat.{ℕ, _+_, _*_, _≤_, _<_, _^_}
 use mathlib.Core.Path.{_≡_, ap, _∙_}
 use lib.ListN.{length}
 use denote.Ref.{now}
-use Rattle.store.specs.declared.Row.{Row}
-use Rattle.items.specs.declared.Found.{Found}
-use Rattle.items.specs.declared.Found.the-variants.{At, Insert}
-use Rattle.closing.specs.Sections.{entryOf}
-use Rattle.placing.specs.Placing.{compareEntries, Seated}
-use Rattle.placing.proofs.PlaceLaws.{whole-as}
-use Rattle.merge.proofs.AddLaws.{same-kind, seated-as, joins-as, added-refused, added-known, room, added-grown}
+use Rattle.table.specs.declared.Row.{Row}
+use Rattle.table_item.specs.declared.Found.{Found}
+use Rattle.table_item.specs.declared.Found.the-variants.{At, Insert}
+use Rattle.table_section.specs.Sections.{entryOf}
+use Rattle.merge_search.specs.Search.{compareEntries, SearchResult}
+use Rattle.merge_search.proofs.SearchLaws.{whole-as}
+use Rattle.merge.proofs.AddLaws.{same-kind, result-as, combined-as, added-refused, added-known, room, added-grown}
 use borrow.Author.Needs.{needs}
 use Rattle.merge.proofs.add_row.Statement.{statement}
 use Rattle.merge.proofs.add_row.Tie as tie
 
-abbrev start : tie.After-find-entry → tie.Start
+abbrev start : tie.After-search-with-hint → tie.Start
 start f = f .before .before .before .before
 
 -- where the search says that the row's key is
-abbrev Is : tie.After-find-entry → Found → Type 0
-Is f = let a = start f .args in Seated (now (a .text)) (now (a .words)) (a .index) (a .walk .n) (a .row)
+abbrev Is : tie.After-search-with-hint → Found → Type 0
+Is f = let a = start f .args in SearchResult (now (a .text)) (now (a .words)) (a .index) (a .walk .main) (a .row)
 
-is : (f : tie.After-find-entry) (q : Found) → f .find-entry .result ≡ q → Is f q
+is : (f : tie.After-search-with-hint) (q : Found) → f .search-with-hint .result ≡ q → Is f q
 is f q e =
     let a = start f .args in
-    seated-as (now (a .text)) (now (a .words)) (a .index) (a .walk .n) (a .row) (f .find-entry .result) q e (f .find-entry .ensures)
+    result-as (now (a .text)) (now (a .words)) (a .index) (a .walk .main) (a .row) (f .search-with-hint .result) q e (f .search-with-hint .ensures)
 
 -- what `omega` needs later
-record Fits (f : tie.After-find-entry) : Type 0 where
-  most : start f .args .walk .n + start f .args .walk .new ≤ start f .args .limit
+record Fits (f : tie.After-search-with-hint) : Type 0 where
+  most : start f .args .walk .main + start f .args .walk .delta ≤ start f .args .limit
   rows : start f .args .limit * 9 ≤ start f .args .index
   words : start f .args .index + start f .args .limit ≤ length (now (start f .args .words))
   index : start f .args .index < 2 ^ 64
 
-fits : (f : tie.After-find-entry) → Fits f
+fits : (f : tie.After-search-with-hint) → Fits f
 fits f = let ω = start f .pre .0 .joined in record { most = ω .most; rows = ω .rows; words = ω .words; index = omega arith }
 
 -- ---- the key stands there
 
-abbrev found : tie.After-found → tie.After-find-entry
+abbrev found : tie.After-found → tie.After-search-with-hint
 found a = a .before .before
 
 abbrev i : tie.After-found → ℕ
@@ -48,12 +48,12 @@ i a = a .found .given .0 .0
 known : (a : tie.After-found) → Is (found a) (At (i a))
 known a = is (found a) (At (i a)) (a .found .given .1)
 
-abbrev here : tie.After-join-rows → tie.After-found
+abbrev here : tie.After-combine-rows → tie.After-found
 here m = m .before .before .before .before
 
 -- ---- the key is to go there
 
-abbrev found₂ : tie.After-found2 → tie.After-find-entry
+abbrev found₂ : tie.After-found2 → tie.After-search-with-hint
 found₂ a = a .before .before
 
 abbrev j : tie.After-found2 → ℕ
@@ -67,19 +67,19 @@ add-row-spec =
     tie.close
     (tie.spec
     (λ c. let ω = c .before .before .pre .0 .joined in omega (arith, ω .most, ω .words))
-    (λ c κs. let s = c .before .before .before in (s .pre .0 .joined .ranked, s .pre .1, s .pre .0 .joined .from, s .pre .0 .ahead .passed))
+    (λ c κs. let s = c .before .before .before in (s .pre .0 .joined .ascending, s .pre .1, s .pre .0 .joined .from, s .pre .0 .ahead .passed))
     (λ c. search needs)
-    (λ c κs. let a = c .before .before in (start (found a) .pre .0 .joined .ranked .store, omega (arith, known a .0)))
+    (λ c κs. let a = c .before .before in (start (found a) .pre .0 .joined .ascending .store, omega (arith, known a .0)))
     (λ c κs. let a = c .before .before .before in
     let s = start (found a) in
-    let old = whole-as (c .get .ensures) (s .pre .0 .joined .ranked .whole (i a) (known a .0)) in (
+    let old = whole-as (c .get .ensures) (s .pre .0 .joined .ascending .whole (i a) (known a .0)) in (
       old,
       s .pre .1,
       same-kind (now (s .args .text)) (c .get .result) (s .args .row) old (s .pre .1)
           (ap (λ (y : Row). compareEntries (entryOf (now (s .args .text)) (s .args .row)) (entryOf (now (s .args .text)) y)) (c .get .ensures) ∙ known a .2),
     ))
     (λ c. search needs)
-    (λ c κs. let a = here (c .before .before .before .before) in (start (found a) .pre .0 .joined .ranked .store, omega (arith, known a .0)))
+    (λ c κs. let a = here (c .before .before .before .before) in (start (found a) .pre .0 .joined .ascending .store, omega (arith, known a .0)))
     (λ c. let a = here (c .before .before .before .before .before .before .before) in
     let φ = fits (found a) in omega (arith, known a .0))
     (λ c. search needs)
@@ -89,14 +89,14 @@ add-row-spec =
     let both = c .before .before .before .before .before .both .given in
     let p = c .before .before .put in
     added-known (s .args .mode) (s .pre .0) (i a) (known a) (both .0 .0)
-    (joins-as (m .before .get .ensures) (both .1) (m .join-rows .ensures)) (p .ensures .0) (p .ensures .1 .0) (p .kept .0))
+    (combined-as (m .before .get .ensures) (both .1) (m .combine-rows .ensures)) (p .ensures .0) (p .ensures .1 .0) (p .kept .0))
     (λ c. search needs)
     (λ c. search needs)
     (λ c. let m = c .before .before .before in
     let a = here m in
     let s = start (found a) in
     let fault = c .before .fault .given in
-    added-refused (s .args .mode) (s .pre .0) (i a) (known a) (fault .0 .0) (joins-as (m .before .get .ensures) (fault .1) (m .join-rows .ensures)))
+    added-refused (s .args .mode) (s .pre .0) (i a) (known a) (fault .0 .0) (combined-as (m .before .get .ensures) (fault .1) (m .combine-rows .ensures)))
     (λ c. search needs)
     (λ c κs. let s = start (found₂ (c .before .before)) in room (s .args .mode) (s .pre .0))
     (λ c. search needs)

@@ -5,13 +5,13 @@ use mathlib.Core.Path.{_≡_, refl, ap, _∙_}
 use mathlib.Core.List.{List, _++_}
 use lib.ListN.{length, take, drop, length-take}
 use denote.Ref.{now}
-use Rattle.store.specs.Store.{row}
-use Rattle.placing.specs.Naming.{OneSection, Means}
-use Rattle.placing.proofs.NameLaws.{means-as}
-use Rattle.placing.proofs.PlaceLaws.{whole-as}
+use Rattle.table.specs.Store.{row}
+use Rattle.merge_search.specs.Names.{OneSection, SameEntry}
+use Rattle.merge_search.proofs.NameLaws.{same-entry-as}
+use Rattle.merge_search.proofs.SearchLaws.{whole-as}
 use Rattle.merge.specs.declared.Walk.{Walk}
 use Rattle.merge.specs.Walking.{spareWord}
-use Rattle.merge.proofs.PartLaws.{ranked-front, Lent, other-part, lent-front, lent-back}
+use Rattle.merge.proofs.PartLaws.{ascending-front, Lent, other-part, lent-front, lent-back}
 use Rattle.merge.proofs.WalkLaws.{Walked, answer, rowsPart, walked-start, walked-ready, walked-refused, walked-next}
 use Rattle.merge.proofs.EndLaws.{merged-refused, settle-store, settle-rising, merged-done}
 use borrow.Author.Needs.{needs}
@@ -51,15 +51,15 @@ is-row : (g : tie.After-get Inv-loop μ-loop)
 is-row g = g .get .ensures ∙ ap (λ (ws : List ℕ). row ws (start (turn g) .args .index) (turn g .loop .k)) (other-part (turn g .loop .inv .0))
 
 -- as it is spelled when it is merged
-means : (q : tie.After-respelled Inv-loop μ-loop)
-    → Means (now (start (turn (q .before)) .args .text))
+means : (q : tie.After-with-known-names Inv-loop μ-loop)
+    → SameEntry (now (start (turn (q .before)) .args .text))
     (row (drop (start (turn (q .before)) .args .base) (now (start (turn (q .before)) .args .words))) (start (turn (q .before)) .args .index) (turn (q .before) .loop .k))
-    (q .respelled .result)
+    (q .with-known-names .result)
 means q =
     let g = q .before in
     let l = turn g in
-    means-as (is-row g)
-    (q .respelled .ensures _ (l .loop .inv .2) (whole-as (is-row g) (start l .pre .other .whole (l .loop .k) (g .before .before .before .loop-test .taken))))
+    same-entry-as (is-row g)
+    (q .with-known-names .ensures _ (l .loop .inv .2) (whole-as (is-row g) (start l .pre .other .whole (l .loop .k) (g .before .before .before .loop-test .taken))))
 
 -- and the part comes back
 lent : (a : tie.After-step Inv-loop μ-loop)
@@ -101,12 +101,12 @@ goes x =
     let l = turn (got a) in
     let spare = start l .args .index + start l .args .limit in
     rw (same a)
-    (walked-next (l .loop .inv .1) (start l .pre .other) (below x) (q .respelled .result) (means q)
+    (walked-next (l .loop .inv .1) (start l .pre .other) (below x) (q .with-known-names .result) (means q)
     (take spare (a .step .last .1 .0)) (spareWord (a .step .last .1 .0) spare) (a .step .result) (next x)
     (x .before .next .given .1) (a .step .ensures .0) (a .step .ensures .1))
 
 -- the end of the loop
-abbrev left : tie.After-settle Inv-loop μ-loop → tie.At-loop Inv-loop μ-loop
+abbrev left : tie.After-merge-delta Inv-loop μ-loop → tie.At-loop Inv-loop μ-loop
 left s = s .before .before .before
 
 pub merge-spec : {M : Type 1} → statement M
@@ -130,14 +130,14 @@ merge-spec =
     (λ c. simp length-take (omega (arith, whole (turn (c .before .before)))))
     (λ c κs. let q = c .before in
     let l = turn (q .before) in
-    (walked-ready (l .loop .inv .1) (start l .pre .other) (omega arith) (q .respelled .result) (means q), simp length-take (omega (arith, start l .pre .words, whole l))))
+    (walked-ready (l .loop .inv .1) (start l .pre .other) (omega arith) (q .with-known-names .result) (means q), simp length-take (omega (arith, start l .pre .words, whole l))))
     (λ c. search needs)
     (λ c. lent (c .before .before .before .before .before) .size)
     (λ c. let a = c .before .before .before .before .before in
     let q = a .before .before in
     let l = turn (got a) in
     merged-refused
-    (walked-refused (l .loop .inv .1) (start l .pre .other) (omega arith) (q .respelled .result) (means q) _ (a .step .result) _ (c .before .fault .given .1)
+    (walked-refused (l .loop .inv .1) (start l .pre .other) (omega arith) (q .with-known-names .result) (means q) _ (a .step .result) _ (c .before .fault .given .1)
     (a .step .ensures .0)))
     (λ c. search needs)
     (λ c. let τ = start (turn (got (stepped c))) .pre in omega (arith, lent (stepped c) .size, τ .words, τ .whole))
@@ -148,7 +148,7 @@ merge-spec =
     let l = turn g in
     let s = start l .args in
     let ω = goes x .joined in (
-      ranked-front (after (stepped x)) (s .base) (s .index + s .limit) (omega (arith, start l .pre .words)) (ω .ranked),
+      ascending-front (after (stepped x)) (s .base) (s .index + s .limit) (omega (arith, start l .pre .words)) (ω .ranked),
       ω .from,
       whole-as (is-row g) (start l .pre .other .whole (l .loop .k) (below x)),
       l .loop .inv .2,
@@ -156,7 +156,7 @@ merge-spec =
     (λ c κs. search needs)
     (λ c. let x = c .before .before .before .before in omega (arith, below x, small (turn (got (stepped x))) .1))
     (λ c. let x = c .before .before .before .before in omega (arith, below x))
-    (λ c. let x = c .before .before .before .before in (lent (stepped x), goes x, c .before .section-met .ensures))
+    (λ c. let x = c .before .before .before .before in (lent (stepped x), goes x, c .before .section-of .ensures))
     (λ c. whole (c .before))
     (λ c. simp length-take (omega (arith, whole (c .before .before))))
     (λ c κs. let l = c .before .before in
@@ -170,8 +170,8 @@ merge-spec =
     (λ c κs. tt)
     (λ c. let s = c .before .before .before .before in
     let l = left s in
-    lent-back (l .loop .inv .0) (s .settle .last .0) (start l .pre .whole) (s .settle .kept .0) .size)
+    lent-back (l .loop .inv .0) (s .merge-delta .last .0) (start l .pre .whole) (s .merge-delta .kept .0) .size)
     (λ c. let s = c .before .before .before .before in
     let l = left s in
-    merged-done (l .loop .words) (start l .pre) (l .loop .inv .1) (s .before .before .loop-test .left) (whole l) (s .settle .last .0)
-    (s .settle .ensures) _ (lent-front (l .loop .inv .0) (s .settle .last .0) (start l .pre .whole) (s .settle .kept .0)) (c .ended .result) (c .ended .ensures)))
+    merged-done (l .loop .words) (start l .pre) (l .loop .inv .1) (s .before .before .loop-test .left) (whole l) (s .merge-delta .last .0)
+    (s .merge-delta .ensures) _ (lent-front (l .loop .inv .0) (s .merge-delta .last .0) (start l .pre .whole) (s .merge-delta .kept .0)) (c .ended .result) (c .ended .ensures)))

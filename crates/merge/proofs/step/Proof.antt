@@ -8,7 +8,7 @@ use denote.Ref.{now}
 use Rattle.merge.specs.declared.Walk.{Walk}
 use Rattle.merge.specs.declared.Added.{Added}
 use Rattle.merge.specs.declared.Added.the-variants.{Next, Refused}
-use Rattle.merge.specs.Walking.{Adding}
+use Rattle.merge.specs.Walking.{RowAdded}
 use Rattle.merge.proofs.PartLaws.{lent-part, lent-noted, lent-size, noted-none, noted-place, adding-as}
 use borrow.Author.Needs.{needs}
 use Rattle.merge.proofs.step.Statement.{statement}
@@ -33,7 +33,7 @@ part a = a .add-row .last .1 .0
 
 -- what the answer says of it
 abbrev Says : tie.After-add-row → List ℕ → Added → Type 0
-Says a ws = let s = start a .args in Adding (now (s .text)) (take (spare a) (words a)) ws (s .index) (s .limit) (s .walk) (s .row) (s .mode)
+Says a ws = let s = start a .args in RowAdded (now (s .text)) (take (spare a) (words a)) ws (s .index) (s .limit) (s .walk) (s .row) (s .mode)
 
 says : (a : tie.After-add-row) (ws : List ℕ) (q : Added) → ws ≡ part a → a .add-row .result ≡ q → Says a ws q
 says a ws q e z =
@@ -47,8 +47,8 @@ abbrev next : tie.After-next → Walk
 next x = x .next .given .0 .0
 
 -- a new row's word is one of the spare ones
-room : (x : tie.After-next) → start (added x) .args .walk .new < next x .new
-    → spare (added x) + start (added x) .args .walk .new < length (words (added x))
+room : (x : tie.After-next) → start (added x) .args .walk .delta < next x .delta
+    → spare (added x) + start (added x) .args .walk .delta < length (words (added x))
 room x l =
     let σ = says (added x) (part (added x)) (Next (next x)) refl (x .next .given .1) in
     omega (arith, start (added x) .pre .1, σ .joined .most)

@@ -9,4 +9,4 @@ start-spec =
     tie.close
     (tie.spec
     (λ c κs. search needs)
-    (λ c. (λ text words index limit ρ. rw (c .outside .ensures) (start-valid ρ), λ text words index. rw (c .outside .ensures) (start-state text words index))))
+    (λ c. (λ text words index limit ρ. rw (c .with-closed .ensures) (start-valid ρ), λ text words index. rw (c .with-closed .ensures) (start-state text words index))))

@@ -1,6 +1,6 @@
 //! Bundles as bytes: made, and taken apart by document 01's words.
 
-pub use port::MOST_TEXTS;
+pub use port::MAX_TEXTS;
 
 const WORD: usize = 4;
 
@@ -45,7 +45,7 @@ pub fn head_len(texts: usize) -> usize {
 pub fn decoded(bundle: &[u8]) -> Option<Vec<&[u8]>> {
     let many = number(bundle, 0)?;
     let total = number(bundle, 1)?;
-    if many > MOST_TEXTS || bundle.len() != head_len(many) + total {
+    if many > MAX_TEXTS || bundle.len() != head_len(many) + total {
         return None;
     }
     let bytes = &bundle[head_len(many)..];

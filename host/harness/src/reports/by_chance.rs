@@ -357,7 +357,7 @@ fn with_damaged_head(chance: &mut Chance) -> Vec<u8> {
 fn many(chance: &mut Chance) -> Vec<u8> {
     let bytes = texts(chance).concat();
     let places = places_to_cut(&bytes);
-    let texts = bundles::MOST_TEXTS - 1 + chance.below(3);
+    let texts = bundles::MAX_TEXTS - 1 + chance.below(3);
     let named: Vec<(usize, usize)> = (0..texts)
         .map(|_| {
             let start = chance.pick(&places);

@@ -7,7 +7,7 @@ use super::Asked;
 use crate::compare::{shown, Difference};
 use crate::expected::{refused, too_short, written, Answer};
 use crate::interface::{
-    Gatherer, INNER_WORDS, MOST_ENTRIES, OUTPUT_TOO_SHORT, WORDS, WORDS_PER_ENTRY, WRITTEN,
+    Gatherer, INNER_WORDS, MAX_ENTRIES, OUTPUT_TOO_SHORT, WORDS, WORDS_PER_ENTRY, WRITTEN,
 };
 use crate::lent::{LentBytes, LentScratch, LentWords};
 use crate::ranges::List;
@@ -47,7 +47,7 @@ impl Scratch {
     }
 
     fn entries(self) -> usize {
-        (self.words() / WORDS_PER_ENTRY).min(MOST_ENTRIES)
+        (self.words() / WORDS_PER_ENTRY).min(MAX_ENTRIES)
     }
 
     fn shown(self) -> String {
@@ -111,7 +111,7 @@ impl<P: Gatherer> Comparison<P> {
         if self.tally.questions().is_multiple_of(THOROUGH_ONE_IN) {
             self.every_length(asked, &expected);
         }
-        let fits = expected.entries <= MOST_ENTRIES;
+        let fits = expected.entries <= MAX_ENTRIES;
         if let (Ok(printed), true) = (&expected.told, fits) {
             self.reading_back(asked, printed, expected.entries);
         }

@@ -130,7 +130,7 @@ pub fn may_refuse(asked: Asked, number: u32) -> bool {
 mod tests {
     use super::*;
 
-    const MOST: &[u8] = b"FNDA:18446744073709551615,f\nDA:1,18446744073709551615\nend_of_record\n";
+    const MAX: &[u8] = b"FNDA:18446744073709551615,f\nDA:1,18446744073709551615\nend_of_record\n";
 
     fn number(told: &Told) -> u32 {
         told.as_ref().map_or_else(|refusal| refusal.number, |_| 0)
@@ -146,8 +146,8 @@ mod tests {
         oracle::hush_overflow();
         let calls = b"FNDA:18446744073709551615,f\nFNDA:1,f\nend_of_record\n";
         assert_eq!(number(&Expected::of(Asked::Text(calls)).unwrap().told), 9);
-        assert_eq!(number(&gathered(Mode::Checked, &[MOST]).told), 0);
-        let twice = gathered(Mode::Lossy, &[MOST, MOST]).told.unwrap_err();
+        assert_eq!(number(&gathered(Mode::Checked, &[MAX]).told), 0);
+        let twice = gathered(Mode::Lossy, &[MAX, MAX]).told.unwrap_err();
         assert_eq!((twice.number, twice.text, twice.line), (13, 1, 0));
     }
 

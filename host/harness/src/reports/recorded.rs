@@ -9,8 +9,8 @@ use crate::interface::{INNER_WORDS, OUTPUT_TOO_SHORT, WORDS_PER_ENTRY};
 use oracle::{Mode, Refusal};
 
 /// What the program reads and writes at most.
-const MOST_INPUT: usize = 65_536;
-const MOST_OUTPUT: usize = 65_536;
+const MAX_INPUT: usize = 65_536;
+const MAX_OUTPUT: usize = 65_536;
 
 /// A file's name without its end, and the bundle in it.
 pub struct Recorded {
@@ -21,13 +21,13 @@ pub struct Recorded {
 impl Recorded {
     /// What the program prints.
     pub fn answer(&self) -> Vec<u8> {
-        if self.bundle.len() > MOST_INPUT {
+        if self.bundle.len() > MAX_INPUT {
             return refused(numbered(NOT_WELL_FORMED));
         }
         let asked = Asked::Bundle(Mode::Checked, &self.bundle);
         let expected = Expected::of(asked).expect("recorded bundles are UTF-8");
         match expected.limited(asked, INNER_WORDS / WORDS_PER_ENTRY) {
-            Ok(printed) if printed.len() > MOST_OUTPUT => refused(numbered(OUTPUT_TOO_SHORT)),
+            Ok(printed) if printed.len() > MAX_OUTPUT => refused(numbered(OUTPUT_TOO_SHORT)),
             Ok(printed) => printed,
             Err(refusal) => refused(refusal),
         }
@@ -56,8 +56,8 @@ fn refused(refusal: Refusal) -> Vec<u8> {
 const FIRST: &str = "TN:a\nSF:m.c\nFN:3,f\nFNDA:2,f\nDA:3,2\nDA:4,0,c1\nend_of_record\n";
 const SECOND: &str = "TN:a\nSF:./m.c\nFNDA:1,g\nBRDA:4,0,0,-\nBRDA:4,0,1,7\nend_of_record\n";
 const THIRD: &str = "TN:a\nSF:.//m.c\nFN:3,g\nBRDA:4,0,0,2\nDA:4,1,c2\nend_of_record\n";
-const MOST: &str = "BRDA:1,0,0,18446744073709551615\nDA:1,1\nend_of_record\n";
-const LINE_MOST: &str = "BRDA:1,0,0,-\nDA:1,18446744073709551615\nend_of_record\n";
+const MAX: &str = "BRDA:1,0,0,18446744073709551615\nDA:1,1\nend_of_record\n";
+const LINE_MAX: &str = "BRDA:1,0,0,-\nDA:1,18446744073709551615\nend_of_record\n";
 
 pub fn all() -> Vec<Recorded> {
     let mut all = Vec::new();
@@ -71,8 +71,8 @@ pub fn all() -> Vec<Recorded> {
     add("65-texts", bundles::of(&[FIRST; 65]));
     add("overlapping", overlapping());
     add("text-past-the-end", bundles::encoded(b"TN:a\n", &[(1, 5)]));
-    add("65536-bytes", of_length(MOST_INPUT));
-    add("65537-bytes", of_length(MOST_INPUT + 1));
+    add("65536-bytes", of_length(MAX_INPUT));
+    add("65537-bytes", of_length(MAX_INPUT + 1));
     add("256-entries", bundles::of(&[ascending(256)]));
     add("257-entries", bundles::of(&[ascending(257)]));
     add(
@@ -83,8 +83,8 @@ pub fn all() -> Vec<Recorded> {
         "257-joined",
         bundles::of(&[&ascending(253)[..], FIRST.as_bytes()]),
     );
-    add("output-65536", printed_as_long_as(MOST_OUTPUT));
-    add("output-65537", printed_as_long_as(MOST_OUTPUT + 1));
+    add("output-65536", printed_as_long_as(MAX_OUTPUT));
+    add("output-65537", printed_as_long_as(MAX_OUTPUT + 1));
     all
 }
 
@@ -113,9 +113,9 @@ fn of_texts() -> Vec<(&'static str, Vec<&'static str>)> {
         ),
         (
             "refused-13-branch",
-            vec![MOST, "DA:1,1\nend_of_record\n", MOST],
+            vec![MAX, "DA:1,1\nend_of_record\n", MAX],
         ),
-        ("refused-13-line", vec![LINE_MOST, MOST]),
+        ("refused-13-line", vec![LINE_MAX, MAX]),
         (
             "calls-stop",
             vec!["FNDA:18446744073709551615,f\nend_of_record\n"; 2],

@@ -1,6 +1,6 @@
 //! Bundles and texts that every run asks: all short sequences of a few texts, the limits on texts, entries and counts, and sections that come again.
 
-use super::bundles::{self, MOST_TEXTS};
+use super::bundles::{self, MAX_TEXTS};
 use super::measured;
 use crate::Chance;
 
@@ -25,7 +25,7 @@ const LONGEST: usize = 3;
 
 pub fn bundles(visit: &mut dyn FnMut(&[u8])) {
     sequences(&mut Vec::new(), visit);
-    for texts in [MOST_TEXTS, MOST_TEXTS + 1] {
+    for texts in [MAX_TEXTS, MAX_TEXTS + 1] {
         visit(&bundles::of(&vec![TEXTS[2]; texts]));
         visit(&bundles::of(&vec![TEXTS[0]; texts]));
     }

@@ -1,4 +1,0 @@
-pub mod AliveLaws
-pub mod LivingLaws
-pub mod BuryLaws
-pub mod SiftLaws

@@ -1,3 +1,0 @@
-pub mod Items
-pub mod Open
-pub mod Combining

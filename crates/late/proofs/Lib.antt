@@ -1,9 +1,0 @@
-pub mod PairLaws
-pub mod TogetherLaws
-pub mod HeldLaws
-pub mod MarkLaws
-pub mod LateLaws
-pub mod ClosedLaws
-pub mod KeptLaws
-pub mod LastLaws
-pub mod SiftedLaws

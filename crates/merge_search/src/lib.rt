@@ -1,0 +1,271 @@
+// The place of a key among entries that stand in ascending order of their keys: the first n of the used rows.
+pub mod names;
+
+use compare::Order;
+use names::same_names;
+use table::Row;
+use table_item::Found;
+ghost use mathlib.Core.Path.{_≡_};
+ghost use mathlib.Core.Bool.{true};
+ghost use Prim.Native.Nat.{_≤_, _<_};
+ghost use Rattle.model.specs.Report.{entryKey, compareKeys};
+ghost use Rattle.compare.specs.Orders.{orderOf};
+ghost use Rattle.table.specs.Store.{Store};
+ghost use Rattle.table.specs.Places.{PartitionPoint};
+ghost use Rattle.table_section.specs.Sections.{entryOf, RowInBounds};
+ghost use Rattle.merge_search.specs.Names.{LinesOfOne};
+ghost use Rattle.merge_search.specs.Search.{EntriesAscending, Before, Between, Passed, GallopBounds, SearchResult};
+
+// By section, then by item.
+fn compare_rows(text: &[u8], x: Row, y: Row) -> Order
+    requires { ⌜ RowInBounds (now text) x × RowInBounds (now text) y ⌝ }
+    ensures { λ r. ⌜ orderOf r ≡ compareKeys (entryKey (entryOf (now (text .entry)) x)) (entryKey (entryOf (now (text .entry)) y)) ⌝ }
+{
+    let sections = table_section::compare_sections(text, x, y);
+    if compare::is_equal(sections) {
+        return table_item::compare_items(text, x, y);
+    }
+    sections
+}
+
+// Whether both rows are lines, of sections whose names stand at the same places.
+fn lines_of_one(x: Row, y: Row) -> bool
+    ensures { λ r. ⌜ (r ≡ true → LinesOfOne x y) ⌝ }
+{
+    if x.tag / 2 == table_item::LINE {
+        if y.tag / 2 == table_item::LINE {
+            return same_names(x, y);
+        }
+    }
+    false
+}
+
+// Two lines of one section are compared at once: a text has more of them than of all else.
+fn compare_entries(text: &[u8], x: Row, y: Row) -> Order
+    requires { ⌜ RowInBounds (now text) x × RowInBounds (now text) y ⌝ }
+    ensures { λ r. ⌜ orderOf r ≡ compareKeys (entryKey (entryOf (now (text .entry)) x)) (entryKey (entryOf (now (text .entry)) y)) ⌝ }
+{
+    if lines_of_one(x, y) {
+        return compare::compare_numbers(x.k1, y.k1);
+    }
+    compare_rows(text, x, y)
+}
+
+// Whether the entry at a place comes before the key. Two lines are compared here as well, so that this is told without a call.
+fn is_before(
+    text: &[u8],
+    words: &[u64],
+    index: usize,
+    used: usize,
+    n: usize,
+    at: usize,
+    key: Row,
+) -> bool
+    requires { ⌜ EntriesAscending (now text) (now words) index used n × RowInBounds (now text) key × (at < n) ⌝ }
+    ensures { λ r. ⌜ r ≡ Before (now (text .entry)) (now (words .entry)) index key at ⌝ }
+{
+    let other = table::get(words, index, used, at);
+    if lines_of_one(other, key) {
+        return other.k1 < key.k1;
+    }
+    compare::is_less(compare_rows(text, other, key))
+}
+
+// Places between which the key's is.
+struct Span {
+    lo: usize,
+    hi: usize,
+}
+
+// Steps that double, from a place on before which all entries come before the key: two tables that are walked together have their keys
+// near each other.
+fn gallop(
+    text: &[u8],
+    words: &[u64],
+    index: usize,
+    used: usize,
+    n: usize,
+    from: usize,
+    key: Row,
+) -> Span
+    requires { ⌜ EntriesAscending (now text) (now words) index used n × RowInBounds (now text) key × (from ≤ n) × Passed (now text) (now words) index key from ⌝ }
+    ensures { λ r. ⌜ GallopBounds (Before (now (text .entry)) (now (words .entry)) index key) n (r .lo) (r .hi) ⌝ }
+{
+    let mut lo = from;
+    let mut step = 0;
+    while step < n - lo {
+        let at = lo + step;
+        if is_before(text, words, index, used, n, at, key) {
+            lo = at + 1;
+            step = step + step + 1;
+        } else {
+            return Span { lo, hi: at };
+        }
+    }
+    Span { lo, hi: n }
+}
+
+// How many of the n entries come before the key, by halving.
+fn lower_bound_entry(
+    text: &[u8],
+    words: &[u64],
+    index: usize,
+    used: usize,
+    n: usize,
+    from: usize,
+    key: Row,
+) -> usize
+    requires { ⌜ EntriesAscending (now text) (now words) index used n × RowInBounds (now text) key × (from ≤ n) × Passed (now text) (now words) index key from ⌝ }
+    ensures { λ r. ⌜ PartitionPoint (Before (now (text .entry)) (now (words .entry)) index key) n r ⌝ }
+{
+    let span = gallop(text, words, index, used, n, from, key);
+    let mut lo = span.lo;
+    let mut hi = span.hi;
+    while lo < hi {
+        let mid = lo + (hi - lo) / 2;
+        if is_before(text, words, index, used, n, mid, key) {
+            lo = mid + 1;
+        } else {
+            hi = mid;
+        }
+    }
+    lo
+}
+
+// The key's place is i: whether it stands there, or is to go there.
+fn resolve(
+    text: &[u8],
+    words: &[u64],
+    index: usize,
+    used: usize,
+    n: usize,
+    i: usize,
+    key: Row,
+) -> Found
+    requires { ⌜ EntriesAscending (now text) (now words) index used n × RowInBounds (now text) key × PartitionPoint (Before (now text) (now words) index key) n i ⌝ }
+    ensures { λ r. ⌜ SearchResult (now (text .entry)) (now (words .entry)) index n key r ⌝ }
+{
+    if n <= i {
+        return Found::Insert(i);
+    }
+    let here = table::get(words, index, used, i);
+    if compare::is_equal(compare_entries(text, key, here)) {
+        return Found::At(i);
+    }
+    Found::Insert(i)
+}
+
+// The key's place among the n entries, those before place `from` coming before it.
+fn gallop_search(
+    text: &[u8],
+    words: &[u64],
+    index: usize,
+    used: usize,
+    n: usize,
+    from: usize,
+    key: Row,
+) -> Found
+    requires { ⌜ EntriesAscending (now text) (now words) index used n × RowInBounds (now text) key × (from ≤ n) × Passed (now text) (now words) index key from ⌝ }
+    ensures { λ r. ⌜ SearchResult (now (text .entry)) (now (words .entry)) index n key r ⌝ }
+{
+    let i = lower_bound_entry(text, words, index, used, n, from, key);
+    resolve(text, words, index, used, n, i, key)
+}
+
+// The same, where the entry at `from` is tried first: one comparison for a key that stands there or goes there.
+fn search_first(
+    text: &[u8],
+    words: &[u64],
+    index: usize,
+    used: usize,
+    n: usize,
+    from: usize,
+    key: Row,
+) -> Found
+    requires { ⌜ EntriesAscending (now text) (now words) index used n × RowInBounds (now text) key × (from ≤ n) × Passed (now text) (now words) index key from ⌝ }
+    ensures { λ r. ⌜ SearchResult (now (text .entry)) (now (words .entry)) index n key r ⌝ }
+{
+    if n <= from {
+        return Found::Insert(from);
+    }
+    let first = table::get(words, index, used, from);
+    let order = compare_entries(text, key, first);
+    if compare::is_less(order) {
+        return Found::Insert(from);
+    }
+    if compare::is_equal(order) {
+        return Found::At(from);
+    }
+    gallop_search(text, words, index, used, n, from + 1, key)
+}
+
+// Whether the entries at `at` and before it are lines of the key's section between which the key is, or at the second. Most keys of texts that
+// interleave are: this is told by a few words of both rows, and no call takes the key through memory.
+fn is_between(words: &[u64], index: usize, used: usize, at: usize, key: Row) -> bool
+    requires { ⌜ Store (now words) index used × (0 < at) × (at < used) ⌝ }
+    ensures { λ r. ⌜ (r ≡ true → Between (now (words .entry)) index key at) ⌝ }
+{
+    let before = table::get(words, index, used, at - 1);
+    let here = table::get(words, index, used, at);
+    if lines_of_one(before, key) {
+        if lines_of_one(here, key) {
+            if before.k1 < key.k1 {
+                return key.k1 <= here.k1;
+            }
+        }
+    }
+    false
+}
+
+// The same, where the key's place is likely to be `at`.
+fn search_near(
+    text: &[u8],
+    words: &[u64],
+    index: usize,
+    used: usize,
+    n: usize,
+    from: usize,
+    at: usize,
+    key: Row,
+) -> Found
+    requires { ⌜ EntriesAscending (now text) (now words) index used n × RowInBounds (now text) key × (from ≤ n) × Passed (now text) (now words) index key from ⌝ }
+    requires { ⌜ (from < at) × (at < n) ⌝ }
+    ensures { λ r. ⌜ SearchResult (now (text .entry)) (now (words .entry)) index n key r ⌝ }
+{
+    if is_between(words, index, used, at, key) {
+        let here = table::get(words, index, used, at);
+        if key.k1 == here.k1 {
+            return Found::At(at);
+        }
+        return Found::Insert(at);
+    }
+    if is_before(text, words, index, used, n, at, key) {
+        return gallop_search(text, words, index, used, n, at + 1, key);
+    }
+    if is_before(text, words, index, used, n, at - 1, key) {
+        return resolve(text, words, index, used, n, at, key);
+    }
+    gallop_search(text, words, index, used, n, from, key)
+}
+
+// The same, where the key before it lay `gap` places behind where its search began: keys of texts that interleave have regular gaps.
+pub fn search_with_hint(
+    text: &[u8],
+    words: &[u64],
+    index: usize,
+    used: usize,
+    n: usize,
+    from: usize,
+    stride: usize,
+    key: Row,
+) -> Found
+    requires { ⌜ EntriesAscending (now text) (now words) index used n × RowInBounds (now text) key × (from ≤ n) × Passed (now text) (now words) index key from ⌝ }
+    ensures { λ r. ⌜ SearchResult (now (text .entry)) (now (words .entry)) index n key r ⌝ }
+{
+    if 0 < stride {
+        if stride < n - from {
+            return search_near(text, words, index, used, n, from, from + stride, key);
+        }
+    }
+    search_first(text, words, index, used, n, from, key)
+}

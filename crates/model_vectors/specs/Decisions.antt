@@ -1,0 +1,226 @@
+-- Points that document 01 leaves open, as docs/DECISIONS.md settles them, and the refusals that the Rust does not know: one claim about
+-- the definitions, on the smallest inputs, and one proof, by computation. Assumes nothing.
+use Prim.Native.Nat.{ℕ, _+_, _*_}
+use mathlib.Core.Path.{_≡_, refl}
+use mathlib.Core.Bool.{true, false}
+use mathlib.Core.List.{List, [], _∷_, _++_}
+use mathlib.Core.Option.{some}
+use lib.ListN.{length, replicate}
+use Rattle.model.specs.declared.Mode.{Mode}
+use Rattle.model.specs.declared.Mode.the-variants.{Checked, Lossy}
+use Rattle.model.specs.declared.Part.{Part}
+use Rattle.model.specs.declared.Range.{Range}
+use Rattle.model.specs.declared.Record.{Record as LentRecord}
+use Rattle.model.specs.declared.Record.the-variants as Lent
+use Rattle.model.specs.Bytes.{Bytes, ascii}
+use Rattle.model.specs.Path.{root, current, name, components}
+use Rattle.model.specs.Answer.{accepted, refused, withValues}
+use Rattle.model.specs.Record.{Record, testName, lineData}
+use Rattle.model.specs.Tags.{defaultTag}
+use Rattle.model.specs.Line.{readLine}
+use Rattle.model.specs.Parts.{printLine}
+use Rattle.model.specs.Output.{outputAfter}
+use Rattle.model.specs.Gather.{readAndPrint, gather, gatherProgram}
+use Rattle.model.specs.Ranges.{halfOpen, insertCall, sliceAfter, queryCall}
+use Rattle.model.specs.Filter.{filterText}
+use Rattle.model_vectors.specs.Asked.{Told, gives, refuses, refusesIn, range, bundleOf, open-asked}
+
+-- ---- what is asked
+
+abbrev pub line : Bytes → Told Record
+line bytes = withValues (readLine defaultTag bytes)
+
+-- one text, under E entries
+abbrev pub text : ℕ → Bytes → Told Bytes
+text limit bytes = withValues (readAndPrint defaultTag bytes (32 * limit) 65_536)
+
+-- texts, under E entries, and an output of so many bytes
+abbrev pub gathered : Mode → ℕ → ℕ → List Bytes → Told Bytes
+gathered mode limit room texts = withValues (gather defaultTag mode (bundleOf texts) (32 * limit) room)
+
+abbrev pub bundle : Bytes → Told Bytes
+bundle bytes = withValues (gather defaultTag Checked bytes 8_192 65_536)
+
+-- 14, and the length that was needed
+abbrev pub needs : {A : Type 0} → ℕ → Told A
+needs n = refused (14 ∷ 0 ∷ 0 ∷ 0 ∷ n ∷ [])
+
+abbrev pub most : Bytes
+most = ascii "18446744073709551615"
+
+-- a section with one line
+abbrev pub section : Bytes → Bytes → Bytes
+section path held = ascii "SF:" ++ path ++ ascii "\nDA:" ++ held ++ ascii "\nend_of_record\n"
+
+abbrev pub part : ℕ → ℕ → Part
+part start len = record { start = start; len = len }
+
+abbrev pub printed : LentRecord → ℕ → Told Bytes
+printed lent room = withValues (printLine defaultTag (ascii "abc") lent room)
+
+abbrev pub pairs : List Range
+pairs = range 1 2 ∷ range 5 6 ∷ range 9 9 ∷ []
+
+-- ---- lines
+
+pub record Lines : Type 0 where
+  -- an empty body is one empty field
+  pub empty-body : (line (ascii "FN") ≡ refuses 4 1 1) × (line (ascii "FN:") ≡ refuses 4 1 1)
+  -- a blank line, or one with byte 13 alone, has no known tag
+  pub blank : (line [] ≡ refuses 1 1 0) × (line (ascii "\r") ≡ refuses 1 1 0) × (text 8 (ascii "\n") ≡ refuses 1 1 0)
+  -- byte 10 inside a lone line is a byte like others
+  pub inner-newline : line (ascii "TN:a\nb\n") ≡ gives (testName (ascii "a\nb"))
+  -- only exactly "-" is no checksum
+  pub dash-comma : line (ascii "DA:1,2,-,") ≡ gives (lineData 1 2 (some (ascii "-,")))
+  -- byte 10 is written, and counted in the needed length; the output stays where it is too short
+  pub newline-counted : (printed Lent.EndOfRecord 14 ≡ gives (ascii "end_of_record\n")) × (printed Lent.EndOfRecord 13 ≡ needs 14)
+  -- 17 before 14, and never for a record without a text part
+  pub part-outside :
+      (printed (Lent.TestName (part 1 2)) 6 ≡ gives (ascii "TN:bc\n"))
+      × (printed (Lent.TestName (part 2 2)) 0 ≡ refuses 17 0 0)
+      × (printed (Lent.TestName (part 3 0)) 0 ≡ needs 4)
+      × (printed (Lent.LinesHit 0) 0 ≡ needs 5)
+  -- bytes past those written stay
+  pub rest-stays : outputAfter (printLine defaultTag [] (Lent.LinesHit 7) 7) (ascii "1234567") ≡ ascii "LH:7\n67"
+
+-- ---- paths, texts
+
+pub record Texts : Type 0 where
+  pub paths :
+      (components (ascii "/./a") ≡ root ∷ name (ascii "a") ∷ [])
+      × (components (ascii "./.") ≡ current ∷ [])
+      × (components [] ≡ [])
+  -- a lone end_of_record opens and drops a section: nothing is left to be counted; any other line counts
+  pub no-entries : (text 0 (ascii "end_of_record\n") ≡ gives []) × (text 0 (ascii "SF:a\n") ≡ refuses 10 1 0) × (text 0 (ascii "LF:1\n") ≡ refuses 10 1 0)
+  -- the open section counts beside the kept one that it will replace
+  pub both-count :
+      (text 2 (section (ascii "a") (ascii "1,1")) ≡ gives (ascii "TN:\nSF:a\nDA:1,1\nLF:1\nLH:1\nend_of_record\n"))
+      × (text 2 (section (ascii "a") (ascii "1,1") ++ section (ascii "a") (ascii "1,1")) ≡ refuses 10 4 0)
+      × (text 3 (section (ascii "a") (ascii "1,1") ++ section (ascii "a") (ascii "1,1")) ≡ refuses 10 5 0)
+      × (text 4 (section (ascii "a") (ascii "1,1") ++ section (ascii "a") (ascii "1,1")) ≡ gives (ascii "TN:\nSF:a\nDA:1,1\nLF:1\nLH:1\nend_of_record\n"))
+  -- a dropped section leaves no name and no spelling behind
+  pub dropped :
+      text 8 (ascii "TN:x\nSF:a//b\nend_of_record\n" ++ section (ascii "a/b") (ascii "1,1"))
+      ≡ gives (ascii "TN:\nSF:a/b\nDA:1,1\nLF:1\nLH:1\nend_of_record\n")
+  -- 8 is met after the last line
+  pub ended : (text 8 (ascii "SF:a") ≡ refuses 8 2 0) × (text 8 (ascii "SF:a\n") ≡ refuses 8 2 0)
+  -- 9 is met at the FNDA line
+  pub calls-past : text 8 (ascii "FNDA:" ++ most ++ ascii ",f\nFNDA:1,f\nend_of_record\n") ≡ refuses 9 2 0
+
+-- ---- gathers
+
+pub record Gathers : Type 0 where
+  -- a bundle that is too short, and one with no texts but text bytes
+  pub bundles : (bundle (ascii "1234567") ≡ refuses 16 0 0) × (bundle (0 ∷ 0 ∷ 0 ∷ 0 ∷ 1 ∷ 0 ∷ 0 ∷ 0 ∷ 65 ∷ []) ≡ gives [])
+  -- in a merge 10 has line 0; the report joined so far does not count while the next text is read
+  pub limit-in-merge :
+      (gathered Checked 2 65_536 (section (ascii "a") (ascii "1,1") ∷ section (ascii "b") (ascii "1,1") ∷ []) ≡ refusesIn 10 1 0 0)
+      × (gathered Checked 4 65_536 (section (ascii "a") (ascii "1,1") ∷ section (ascii "b") (ascii "1,1") ∷ [])
+      ≡ gives (ascii "TN:\nSF:a\nDA:1,1\nLF:1\nLH:1\nend_of_record\nTN:\nSF:b\nDA:1,1\nLF:1\nLH:1\nend_of_record\n"))
+  -- E is tested after the whole text: 12 of a later key comes before 10
+  pub conflict-first :
+      gathered Checked 4 65_536 (section (ascii "b") (ascii "1,1,x") ∷ (section (ascii "a") (ascii "1,1") ++ section (ascii "b") (ascii "1,1,y")) ∷ [])
+      ≡ refusesIn 12 1 0 0
+  -- 12 before 13 at one line
+  pub checksum-first :
+      gathered Checked 8 65_536 (section (ascii "a") (ascii "1," ++ most ++ ascii ",x") ∷ section (ascii "a") (ascii "1,1,y") ∷ []) ≡ refusesIn 12 1 0 0
+  -- lossy: the later checksum wins, 13 and 10 still come, functions stop at 2^64 − 1
+  pub lossy :
+      (gathered Lossy 8 65_536 (section (ascii "a") (ascii "1,1,x") ∷ section (ascii "a") (ascii "1,1,y") ∷ [])
+      ≡ gives (ascii "TN:\nSF:a\nDA:1,2,y\nLF:1\nLH:1\nend_of_record\n"))
+      × (gathered Lossy 8 65_536 (section (ascii "a") (ascii "1," ++ most ++ ascii ",x") ∷ section (ascii "a") (ascii "1,1,y") ∷ []) ≡ refusesIn 13 1 0 0)
+      × (gathered Lossy 2 65_536 (section (ascii "a") (ascii "1,1") ∷ section (ascii "b") (ascii "1,1") ∷ []) ≡ refusesIn 10 1 0 0)
+      × (gathered Lossy 8 65_536 ((ascii "FNDA:" ++ most ++ ascii ",f\nend_of_record\n") ∷ ascii "FNDA:1,f\nend_of_record\n" ∷ [])
+      ≡ gives (ascii "TN:\nSF:\nFNDA:" ++ most ++ ascii ",f\nFNF:1\nFNH:1\nend_of_record\n"))
+  -- an output that is exactly as long as needed; an empty report needs none
+  pub exact-fit :
+      (gathered Checked 8 40 (section (ascii "a") (ascii "1,1") ∷ []) ≡ gives (ascii "TN:\nSF:a\nDA:1,1\nLF:1\nLH:1\nend_of_record\n"))
+      × (gathered Checked 8 39 (section (ascii "a") (ascii "1,1") ∷ []) ≡ needs 40)
+      × (gathered Checked 0 0 [] ≡ gives [])
+  -- the printed length depends on which spelling is first: two orders are accepted alike only where a path has one
+  pub spelling-first :
+      (gathered Checked 8 40 (section (ascii "a") (ascii "1,1") ∷ section (ascii "a/") (ascii "1,1") ∷ [])
+      ≡ gives (ascii "TN:\nSF:a\nDA:1,2\nLF:1\nLH:1\nend_of_record\n"))
+      × (gathered Checked 8 40 (section (ascii "a/") (ascii "1,1") ∷ section (ascii "a") (ascii "1,1") ∷ []) ≡ needs 41)
+  -- the program: a refusal as numbers, with 0 for what does not apply
+  pub program : gatherProgram (ascii "12345678") ≡ ascii "refused 16 0 0 0\n"
+
+-- ---- ranges and the filter
+
+pub record Ranges : Type 0 where
+  -- a dropped range: the pairs past the used ones are zeroed; 18 is tried first
+  pub insert-dropped :
+      (sliceAfter (insertCall pairs 1 (range 4 3)) pairs ≡ range 1 2 ∷ range 0 0 ∷ range 0 0 ∷ [])
+      × (withValues (insertCall pairs 4 (range 4 3)) ≡ refuses 18 0 0)
+  -- full exactly where the result has no room: joining needs none
+  pub insert-full : (withValues (insertCall pairs 3 (range 4 7)) ≡ gives (range 1 2 ∷ range 4 7 ∷ range 9 9 ∷ []))
+      × (withValues (insertCall (range 1 2 ∷ []) 1 (range 4 4)) ≡ refuses 15 0 0)
+  -- a gap is one line or more
+  pub gap : withValues (queryCall (range 1 2 ∷ range 3 4 ∷ []) 2 0 0) ≡ refuses 18 0 0
+  -- a query with e below s is answered by the same rule
+  pub backwards : (withValues (queryCall pairs 3 2 1) ≡ gives true) × (withValues (queryCall pairs 3 6 4) ≡ gives false)
+  -- half-open ranges end at 0 where b is 0
+  pub half-open : (halfOpen 0 0 ≡ range 0 0) × (halfOpen 3 0 ≡ range 3 0)
+  -- the filter tries 18, then the text, then 14
+  pub filter-order :
+      (withValues (filterText defaultTag (ascii "X") (range 2 1 ∷ []) 1 8_192 0) ≡ refuses 18 0 0)
+      × (withValues (filterText defaultTag (ascii "X") [] 0 8_192 0) ≡ refuses 1 1 0)
+      × (withValues (filterText defaultTag (section (ascii "a") (ascii "1,1")) [] 0 8_192 0) ≡ needs 23)
+  -- functions without a start go before ends are reckoned
+  pub startless :
+      withValues (filterText defaultTag (ascii "FN:3,f\nFNDA:1,g\nend_of_record\n") (range 9 9 ∷ []) 1 8_192 65_536)
+      ≡ gives (ascii "TN:\nSF:\nFN:3,f\nFNDA:0,f\nFNF:1\nFNH:0\nend_of_record\n")
+
+-- ---- the proof
+
+pub lines : Lines
+unfolding open-asked
+lines =
+    record {
+      empty-body = (refl, refl);
+      blank = (refl, refl, refl);
+      inner-newline = refl;
+      dash-comma = refl;
+      newline-counted = (refl, refl);
+      part-outside = (refl, refl, refl, refl);
+      rest-stays = refl;
+    }
+
+pub texts : Texts
+unfolding open-asked
+texts =
+    record {
+      paths = (refl, refl, refl);
+      no-entries = (refl, refl, refl);
+      both-count = (refl, refl, refl, refl);
+      dropped = refl;
+      ended = (refl, refl);
+      calls-past = refl;
+    }
+
+pub gathers : Gathers
+unfolding open-asked
+gathers =
+    record {
+      bundles = (refl, refl);
+      limit-in-merge = (refl, refl);
+      conflict-first = refl;
+      checksum-first = refl;
+      lossy = (refl, refl, refl, refl);
+      exact-fit = (refl, refl, refl);
+      spelling-first = (refl, refl);
+      program = refl;
+    }
+
+pub ranges : Ranges
+unfolding open-asked
+ranges =
+    record {
+      insert-dropped = (refl, refl);
+      insert-full = (refl, refl);
+      gap = refl;
+      backwards = (refl, refl);
+      half-open = (refl, refl);
+      filter-order = (refl, refl, refl);
+      startless = refl;
+    }

@@ -1,0 +1,73 @@
+-- Pairs of lines queried. Made by host/vectors/make.py, with the answers of the Rust. Assumes nothing.
+use mathlib.Core.Path.{refl}
+use mathlib.Core.List.{List, [], _∷_}
+use mathlib.Core.Bool.{true, false}
+use Rattle.model_vectors.specs.Asked.{Agrees, Query, askQuery, gives, open-asked, range}
+
+abbrev pub queries-1 : List Query
+queries-1 =
+    (([], 0, 0), gives false)
+    ∷ ((range 1 2 ∷ [], 3, 2), gives false)
+    ∷ ((range 1 3 ∷ [], 3, 2), gives true)
+    ∷ ((range 1 3 ∷ [], 2, 1), gives true)
+    ∷ ((range 1 1 ∷ [], 5, 0), gives false)
+    ∷ ((range 1 9 ∷ [], 5, 2), gives true)
+    ∷ ((range 0 0 ∷ [], 0, 0), gives true)
+    ∷ ((range 3 3 ∷ [], 0, 2), gives false)
+    ∷ ((range 3 3 ∷ [], 4, 4294967295), gives false)
+    ∷ ((range 4294967295 4294967295 ∷ [], 7, 4294967295), gives true)
+    ∷ ((range 0 4294967295 ∷ [], 4294967295, 0), gives true)
+    ∷ ((range 1 2 ∷ range 5 6 ∷ [], 3, 4), gives false)
+    ∷ ((range 0 0 ∷ range 4294967294 4294967295 ∷ [], 0, 0), gives true)
+    ∷ (([], 4294967292, 4294967291), gives false)
+    ∷ ((range 1 1 ∷ range 4294967293 4294967295 ∷ [], 5, 6), gives false)
+    ∷ ((range 1 1 ∷ range 3 3 ∷ range 6 7 ∷ range 11 12 ∷ [], 9, 26), gives true)
+    ∷ (([], 2, 2), gives false)
+    ∷ (([], 3, 3), gives false)
+    ∷ ((range 0 0 ∷ range 4 7 ∷ range 11 11 ∷ range 13 13 ∷ [], 12, 12), gives false)
+    ∷ ((range 0 0 ∷ range 3 4 ∷ [], 7, 6), gives false)
+    ∷ ((range 2 2 ∷ range 5 6 ∷ range 10 13 ∷ range 17 18 ∷ [], 0, 0), gives false)
+    ∷ (([], 5, 5), gives false)
+    ∷ ((range 1 1 ∷ range 4 4 ∷ range 6 9 ∷ [], 12, 16), gives false)
+    ∷ ((range 1 2 ∷ [], 9, 10), gives false)
+    ∷ ((range 0 3 ∷ range 5 5 ∷ [], 4294967294, 24), gives false)
+    ∷ ((range 0 1 ∷ range 4 4 ∷ range 6 6 ∷ [], 27, 27), gives false)
+    ∷ ((range 1 1 ∷ [], 22, 22), gives false)
+    ∷ ((range 2 5 ∷ range 7 7 ∷ range 11 12 ∷ [], 7, 11), gives true)
+    ∷ (([], 4294967293, 4294967292), gives false)
+    ∷ ((range 0 3 ∷ [], 12, 12), gives false)
+    ∷ ((range 1 4 ∷ range 8 9 ∷ range 12 13 ∷ [], 6, 6), gives false)
+    ∷ ((range 0 1 ∷ range 5 8 ∷ range 10 10 ∷ range 14 14 ∷ range 4294967295 4294967295 ∷ [], 11, 11), gives false)
+    ∷ ((range 2 2 ∷ range 5 8 ∷ [], 4294967293, 4294967295), gives false)
+    ∷ ((range 0 0 ∷ range 4 5 ∷ range 7 7 ∷ range 9 12 ∷ [], 12, 16), gives true)
+    ∷ (([], 4, 4), gives false)
+    ∷ ((range 1 2 ∷ range 4 4 ∷ [], 4294967293, 4294967295), gives false)
+    ∷ ((range 1 4 ∷ range 6 6 ∷ range 10 10 ∷ [], 7, 7), gives false)
+    ∷ ((range 1 4 ∷ range 6 6 ∷ range 9 12 ∷ range 14 17 ∷ [], 3, 7), gives true)
+    ∷ ((range 1 1 ∷ range 4294967293 4294967295 ∷ [], 7, 7), gives false)
+    ∷ ((range 0 0 ∷ [], 1, 3), gives false)
+    ∷ ((range 2 2 ∷ [], 1, 5), gives true)
+    ∷ ((range 1 4 ∷ range 8 11 ∷ range 15 15 ∷ [], 4294967294, 9), gives false)
+    ∷ ((range 0 1 ∷ range 3 6 ∷ range 10 10 ∷ [], 4294967294, 4294967295), gives false)
+    ∷ (([], 11, 1), gives false)
+    ∷ ((range 0 1 ∷ range 3 4 ∷ range 6 7 ∷ range 9 10 ∷ range 4294967293 4294967295 ∷ [], 4294967294, 4294967293), gives true)
+    ∷ ((range 1 1 ∷ range 3 4 ∷ range 4294967295 4294967295 ∷ [], 11, 11), gives false)
+    ∷ (([], 8, 12), gives false)
+    ∷ ((range 2 2 ∷ [], 4, 3), gives false)
+    ∷ (([], 9, 4294967292), gives false)
+    ∷ ((range 0 0 ∷ range 3 4 ∷ range 6 9 ∷ [], 4294967294, 4294967294), gives false)
+    ∷ ((range 0 3 ∷ range 6 6 ∷ range 9 9 ∷ range 11 12 ∷ [], 13, 4294967292), gives false)
+    ∷ ((range 1 2 ∷ range 5 5 ∷ range 7 7 ∷ [], 4, 5), gives true)
+    ∷ ((range 0 0 ∷ range 4 4 ∷ range 8 8 ∷ [], 4294967293, 4294967293), gives false)
+    ∷ ((range 0 0 ∷ range 4 4 ∷ range 7 10 ∷ [], 8, 12), gives true)
+    ∷ ((range 0 1 ∷ range 3 3 ∷ range 7 8 ∷ [], 8, 9), gives true)
+    ∷ (([], 1, 4294967294), gives false)
+    ∷ ((range 0 3 ∷ range 7 10 ∷ range 13 13 ∷ range 16 16 ∷ [], 2, 2), gives true)
+    ∷ (([], 4294967292, 4294967293), gives false)
+    ∷ ((range 0 0 ∷ [], 4294967292, 4294967292), gives false)
+    ∷ ((range 0 1 ∷ range 4 5 ∷ range 9 12 ∷ range 14 15 ∷ range 4294967293 4294967295 ∷ [], 4294967293, 5), gives false)
+    ∷ []
+
+pub queries-1-agree : Agrees askQuery queries-1
+unfolding open-asked
+queries-1-agree = refl

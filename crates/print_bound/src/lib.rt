@@ -1,0 +1,70 @@
+// An upper bound for the bytes that a report prints, told by its rows alone: where the output is as long, the lines need not be measured before
+// they are written.
+use table::Row;
+ghost use mathlib.Core.Path.{_≡_};
+ghost use mathlib.Core.List.{List};
+ghost use Prim.Native.Nat.{ℕ, _+_, _≤_, _<_, min};
+ghost use lib.ListN.{length};
+ghost use Rattle.table.specs.Store.{Store};
+ghost use Rattle.model.specs.Limits.{u64-max};
+ghost use Rattle.model.specs.Number.{decimal};
+ghost use Rattle.table_section.specs.Sections.{entryOf};
+ghost use Rattle.print_bound.specs.Bound.{entryMost, FitsBound};
+
+// How many digits v has at most: one test, since most numbers of a report are small.
+fn max_digits(v: u64) -> u64
+    ensures { λ r. ⌜ (length (decimal v) ≤ r) × (1 ≤ r) × (r ≤ 20) ⌝ }
+{
+    if v < 100_000 {
+        return 5;
+    }
+    20
+}
+
+// A sum, held at 2^64 − 1.
+fn saturating_add(a: u64, b: u64) -> u64
+    ensures { λ r. ⌜ r ≡ min (a + b) u64-max ⌝ }
+{
+    if u64::MAX - a < b {
+        return u64::MAX;
+    }
+    a + b
+}
+
+// What comes of a row is at most so long: DA, BRDA, FN and FNDA, or all lines that a section has besides.
+fn max_line_len(row: Row) -> u64
+    ensures { λ r. ⌜ ((text : List ℕ) → min (entryMost (entryOf text row)) u64-max ≤ r) ⌝ }
+{
+    let kind = row.tag / 2;
+    if table_item::BRANCH < kind {
+        let numbers = 6 + max_digits(row.k1) + max_digits(row.count);
+        return saturating_add(row.k3, numbers);
+    }
+    if kind == table_item::BRANCH {
+        let place = max_digits(row.k1) + max_digits(row.k2) + max_digits(row.k3);
+        return 9 + place + max_digits(row.count);
+    }
+    if kind == table_item::FUNCTION {
+        return saturating_add(saturating_add(row.k2, row.k2), 52);
+    }
+    saturating_add(saturating_add(row.test_len, row.path_len), 80)
+}
+
+// Whether the first n rows print at most `room` bytes. The answer may be no where they do, and never yes where they don't. All used rows are
+// counted, in the order in which they stand in memory: that is faster than the order of the index, and few are not among the n.
+pub fn surely_fits(words: &[u64], index: usize, used: usize, n: usize, room: usize) -> bool
+    requires { ⌜ Store (now words) index used × (n ≤ used) × (room < u64-max) ⌝ }
+    ensures { λ r. ⌜ FitsBound (now (words .entry)) index n room r ⌝ }
+{
+    let mut left = room as u64;
+    let mut j = 0;
+    while j < used {
+        let most = max_line_len(table::read_row(words, j));
+        if left < most {
+            return false;
+        }
+        left = left - most;
+        j += 1;
+    }
+    true
+}

@@ -1,0 +1,41 @@
+-- `print_report::required_len` meets its contract: the output is surely long enough, or the lines are measured. Assumes nothing.
+use Prim.Native.Nat.{_*_, _^_, _<_}
+use native.Mathlib.Omega.{arith}
+use borrow.Author.Needs.{needs}
+use denote.Ref.{now}
+use lib.ListN.{length}
+use Rattle.model.specs.Bytes.{Bytes}
+use Rattle.print_report.specs.Printing.{printedFrom}
+use Rattle.print_report.proofs.TableLaws.{spared-none}
+use Rattle.print_report.proofs.LoopLaws.{required-measured}
+use Rattle.print_report.proofs.BoundLaws.{printed-most, fits-required}
+use Rattle.print_report.proofs.required_len.Statement.{statement}
+use Rattle.print_report.proofs.required_len.Tie as tie
+
+abbrev start : tie.After-surely-fits → tie.Start
+start b = b .before .before .before .before .before
+
+abbrev printed : tie.Start → Bytes
+printed s = printedFrom (now (s .args .text)) (s .args .index) (s .args .n) (now (s .args .words)) 0
+
+few : (b : tie.After-surely-fits) → length (now (start b .args .out)) * 1 < 2 ^ 63
+few b = omega arith
+
+pub required-len-spec : {M : Type 1} → statement M
+required-len-spec =
+    tie.close
+    (tie.spec
+    (λ c κs. let s = c .before .before .before .before in (s .pre .table .store, s .pre .table .room, omega arith))
+    (λ c. search needs)
+    (λ c. let b = c .before in
+    let s = start b in (
+      fits-required (now (s .args .text)) (now (s .args .words)) (now (s .args .out)) (printed s)
+          (s .args .index) (s .args .n) (b .surely-fits .result) (c .if1 .taken) (b .surely-fits .ensures) (printed-most (s .pre)),
+      spared-none,
+    ))
+    (λ c κs. (start (c .before .before .before) .pre, tt))
+    (λ c. search needs)
+    (λ c. search needs)
+    (λ c. let p = c .before .before .before .before in
+    let b = p .before .before .before .before in
+    (required-measured {bytes = printed (start b)} (p .print-sections .ensures .0) (few b), p .print-sections .ensures .1)))

@@ -1,0 +1,105 @@
+-- How long the lines of items are, and what a row says of that. Assumes nothing.
+use Prim.Native.Nat.{ℕ, _+_, _/_, _%_, _≤_, min}
+use native.Mathlib.Omega.{arith}
+use mathlib.Core.Path.{_≡_, refl, ap, _∙_}
+use mathlib.Core.Logic.{_≢_}
+use mathlib.Core.List.{List, [], _∷_}
+use mathlib.Core.Option.{none, some}
+use lib.ListN.{length, take, drop, length-append, length-take, length-drop}
+use Rattle.table.specs.declared.Row.{Row}
+use Rattle.model.specs.Bytes.{Bytes, joined}
+use Rattle.model.specs.Limits.{u64-max}
+use Rattle.model.specs.Line.{printTaken, printChecksum, printFields, printRecord}
+use Rattle.model.specs.Lists.{concatMap}
+use Rattle.model.specs.Number.{decimal}
+use Rattle.model.specs.Report.{Item, sectionItem, functionItem, branchItem, lineItem}
+use Rattle.model.specs.Tags.{defaultTag}
+use Rattle.model.specs.Printing.{startRecord, dataRecord, printRecords}
+use Rattle.table_item.specs.Items.{part, itemOf, ItemInBounds}
+use Rattle.print_rows.proofs.LentLaws.{item, item-is}
+use Rattle.print_rows.proofs.PassLaws.{lines}
+
+-- ---- items
+
+abbrev pub dataLen : Item → ℕ
+dataLen (sectionItem spelling) = 0
+dataLen (functionItem name start count) = 7 + length (decimal count) + length name
+dataLen (branchItem line block branch none) = 10 + length (decimal line) + length (decimal block) + length (decimal branch)
+dataLen (branchItem line block branch (some taken)) = 9 + length (decimal line) + length (decimal block) + length (decimal branch) + length (decimal taken)
+dataLen (lineItem line count none) = 5 + length (decimal line) + length (decimal count)
+dataLen (lineItem line count (some checksum)) = 6 + length (decimal line) + length (decimal count) + length checksum
+
+pub data-length : (i : Item) → length (lines (dataRecord i)) ≡ dataLen i
+unfolding dataRecord printRecords concatMap printRecord printFields joined printTaken printChecksum defaultTag
+data-length (sectionItem spelling) = refl
+data-length (functionItem name start count) = simp length-append (omega arith)
+data-length (branchItem line block branch none) = simp length-append (omega arith)
+data-length (branchItem line block branch (some taken)) = simp length-append (omega arith)
+data-length (lineItem line count none) = simp length-append (omega arith)
+data-length (lineItem line count (some checksum)) = simp length-append (omega arith)
+
+-- how long FN is, where there is one
+abbrev pub startLen : Item → ℕ
+startLen (sectionItem spelling) = 0
+startLen (functionItem name none count) = 0
+startLen (functionItem name (some start) count) = 5 + length (decimal start) + length name
+startLen (branchItem line block branch taken) = 0
+startLen (lineItem line count checksum) = 0
+
+pub start-length : (i : Item) → length (lines (startRecord i)) ≡ startLen i
+unfolding startRecord printRecords concatMap printRecord printFields joined defaultTag
+start-length (sectionItem spelling) = refl
+start-length (functionItem name none count) = refl
+start-length (functionItem name (some start) count) = simp length-append (omega arith)
+start-length (branchItem line block branch taken) = refl
+start-length (lineItem line count checksum) = refl
+
+-- ---- rows
+
+part-length : (text : Bytes) (start len : ℕ) → start + len ≤ length text → length (part text start len) ≡ len
+part-length text start len h = simp (length-take, length-drop) (omega arith)
+
+module _ (text : Bytes) (row : Row) where
+  data-at : (k m : ℕ) → row .tag / 2 ≡ k → row .tag % 2 ≡ m → length (lines (dataRecord (itemOf text row))) ≡ dataLen (item text row k m)
+  data-at k m e q = ap (λ (i : Item). length (lines (dataRecord i))) (item-is text row k e ∙ ap (item text row k) q) ∙ data-length (item text row k m)
+
+  module _ (good : ItemInBounds text row) (at r : ℕ) where
+    -- r is the place behind the row's data line
+    abbrev Past : Type 0
+    Past = r ≡ min (at + length (lines (dataRecord (itemOf text row)))) u64-max
+
+    pub past-line : (a b : ℕ) → row .tag / 2 ≡ 3 → row .tag % 2 ≡ 0 → a ≡ length (decimal (row .k1)) → b ≡ length (decimal (row .count))
+        → r ≡ min (at + (5 + a + b)) u64-max → Past
+    past-line a b e q p s h = omega (arith, data-at 3 0 e q)
+
+    pub past-checked : (a b n : ℕ) → row .tag / 2 ≡ 3 → row .tag % 2 ≢ 0 → a ≡ length (decimal (row .k1)) → b ≡ length (decimal (row .count))
+        → n ≡ min (at + (5 + a + b + 1)) u64-max → r ≡ min (n + row .k3) u64-max → Past
+    past-checked a b n e q p s h l =
+        let one : row .tag % 2 ≡ 1 = omega arith in
+        omega (arith, data-at 3 1 e one, part-length text (row .k2) (row .k3) (good .checksum e one))
+
+    pub past-untaken : (a b c : ℕ) → row .tag / 2 ≡ 2 → row .tag % 2 ≡ 0 → a ≡ length (decimal (row .k1)) → b ≡ length (decimal (row .k2))
+        → c ≡ length (decimal (row .k3)) → r ≡ min (at + (a + b + c + 10)) u64-max → Past
+    past-untaken a b c e q p s t h = omega (arith, data-at 2 0 e q)
+
+    pub past-taken : (a b c d : ℕ) → row .tag / 2 ≡ 2 → row .tag % 2 ≢ 0 → a ≡ length (decimal (row .k1)) → b ≡ length (decimal (row .k2))
+        → c ≡ length (decimal (row .k3)) → d ≡ length (decimal (row .count)) → r ≡ min (at + (a + b + c + 9 + d)) u64-max → Past
+    past-taken a b c d e q p s t u h = let one : row .tag % 2 ≡ 1 = omega arith in omega (arith, data-at 2 1 e one)
+
+    pub past-function : (a n : ℕ) → row .tag / 2 ≡ 1 → a ≡ length (decimal (row .count)) → n ≡ min (at + (7 + a)) u64-max
+        → r ≡ min (n + row .k2) u64-max → Past
+    past-function a n e p h l = omega (arith, data-at 1 (row .tag % 2) e refl, part-length text (row .k1) (row .k2) (good .name e))
+
+    pub past-none : r ≡ at → at ≤ u64-max → row .tag / 2 ≢ 1 → row .tag / 2 ≢ 2 → row .tag / 2 ≢ 3 → Past
+    past-none q h f b l =
+        let few = good .kind in
+        let z : row .tag / 2 ≡ 0 = omega arith in
+        omega (arith, data-at 0 (row .tag % 2) z refl)
+
+    pub past-start : (a n : ℕ) → row .tag ≡ 3 → a ≡ length (decimal (row .k3)) → n ≡ min (at + (5 + a)) u64-max → r ≡ min (n + row .k2) u64-max
+        → r ≡ min (at + length (lines (startRecord (itemOf text row)))) u64-max
+    past-start a n e p h l =
+        let k : row .tag / 2 ≡ 1 = omega arith in
+        let m : row .tag % 2 ≡ 1 = omega arith in
+        let is = ap (λ (i : Item). length (lines (startRecord i))) (item-is text row 1 k ∙ ap (item text row 1) m) ∙ start-length (item text row 1 1) in
+        omega (arith, is, part-length text (row .k1) (row .k2) (good .name k))

@@ -1,0 +1,358 @@
+// Rows printed as lines (document 01, "Printing"), in one code for two passes: one that only measures, where the place runs on, held at
+// 2^64 − 1, and one that writes: "Each line is written into the rest of the output".
+use model::Checksum;
+use model::Part;
+use model::Record;
+use model::Taken;
+use model::WriteAnswer;
+use table::Row;
+ghost use mathlib.Core.Path.{_≡_};
+ghost use mathlib.Core.Bool.{true};
+ghost use mathlib.Core.List.{List, [], _∷_};
+ghost use Prim.Native.Nat.{ℕ, _+_, _%_, _≤_, min};
+ghost use lib.ListN.{length};
+ghost use Rattle.table.specs.Places.{tabulate};
+ghost use Rattle.model.specs.Lists.{concatMap};
+ghost use Rattle.model.specs.Answer.{accepted};
+ghost use Rattle.model.specs.Limits.{u32-max, u64-max};
+ghost use Rattle.model.specs.Record.{testName, sourceFile, endOfRecord};
+ghost use Rattle.model.specs.Tags.{defaultTag};
+ghost use Rattle.model.specs.Parts.{recordIn};
+ghost use Rattle.model.specs.Printing.{startRecord, dataRecord, group, hits, printRecords};
+ghost use Rattle.model.specs.Valid.{ItemFits};
+ghost use Rattle.table_item.specs.Items.{part, itemOf, ItemInBounds};
+ghost use Rattle.record_display.specs.Lines.{lineIn, counted};
+ghost use Rattle.print_rows.specs.Emit.{RoomFor, Emitted, Numbered, Printable, numberedItem, passRecords, foundOf, hitOf, lentPart, lentTaken, lentChecksum, hitOne};
+
+// The place behind n bytes, held at 2^64 − 1.
+fn saturating_add(at: usize, n: usize) -> usize
+    ensures { λ r. ⌜ r ≡ min (at + n) u64-max ⌝ }
+{
+    if usize::MAX - at < n {
+        return usize::MAX;
+    }
+    at + n
+}
+
+// One record's line. A record with a part outside text has none.
+pub fn emit_record(text: &[u8], record: Record, out: &mut [u8], at: usize, write: bool) -> usize
+    requires { ⌜ RoomFor write (now out) at (lineIn (now text) «record») ⌝ }
+    ensures { λ r. ⌜ Emitted write (now (out .entry)) (now (out .exit)) at (lineIn (now (text .entry)) «record») r ⌝ }
+{
+    if write {
+        let wrote = record_display::print_line(text, record, &mut out[at..]);
+        let WriteAnswer::Written(n) = wrote else {
+            return at;
+        };
+        return at + n;
+    }
+    saturating_add(at, record_display::line_len(text, record))
+}
+
+// The place behind the FN of a function that has a start, told by its row.
+fn measure_start(row: Row, at: usize) -> usize
+    requires { ⌜ row .tag ≡ 3 ⌝ }
+    ensures { λ r. ⌜ ((text : List ℕ) → ItemInBounds text row → r ≡ min (at + length (printRecords defaultTag (startRecord (itemOf text row)))) u64-max) ⌝ }
+{
+    let number = 5 + format::decimal_len(row.k3);
+    saturating_add(saturating_add(at, number), row.k2 as usize)
+}
+
+// FN, where a function has a start.
+fn emit_start(text: &[u8], row: Row, out: &mut [u8], at: usize, write: bool) -> usize
+    requires { ⌜ ItemInBounds (now text) row × ItemFits (itemOf (now text) row) ⌝ }
+    requires { ⌜ RoomFor write (now out) at (printRecords defaultTag (startRecord (itemOf (now text) row))) ⌝ }
+    ensures { λ r. ⌜ Emitted write (now (out .entry)) (now (out .exit)) at (printRecords defaultTag (startRecord (itemOf (now (text .entry)) row))) r ⌝ }
+{
+    if row.tag != table_item::FUNCTION * 2 + 1 {
+        return at;
+    }
+    if write {
+        let record = Record::FunctionName {
+            start: row.k3 as u32,
+            name: part_of(row.k1, row.k2),
+        };
+        return emit_record(text, record, out, at, write);
+    }
+    measure_start(row, at)
+}
+
+fn part_of(start: u64, len: u64) -> Part
+    ensures { λ r. ⌜ r ≡ lentPart start len ⌝ }
+{
+    Part {
+        start: start as usize,
+        len: len as usize,
+    }
+}
+
+fn taken_of(row: Row) -> Taken
+    ensures { λ r. ⌜ r ≡ lentTaken (row .tag % 2) (row .count) ⌝ }
+{
+    if row.tag % 2 == 0 {
+        return Taken::Absent;
+    }
+    Taken::Given(row.count)
+}
+
+fn checksum_of(row: Row) -> Checksum
+    ensures { λ r. ⌜ r ≡ lentChecksum (row .tag % 2) (row .k2) (row .k3) ⌝ }
+{
+    if row.tag % 2 == 0 {
+        return Checksum::Absent;
+    }
+    Checksum::Given(part_of(row.k2, row.k3))
+}
+
+// FNDA, BRDA or DA, as a record.
+fn emit_item(text: &[u8], row: Row, out: &mut [u8], at: usize, write: bool) -> usize
+    requires { ⌜ ItemInBounds (now text) row × ItemFits (itemOf (now text) row) ⌝ }
+    requires { ⌜ RoomFor write (now out) at (printRecords defaultTag (dataRecord (itemOf (now text) row))) ⌝ }
+    ensures { λ r. ⌜ Emitted write (now (out .entry)) (now (out .exit)) at (printRecords defaultTag (dataRecord (itemOf (now (text .entry)) row))) r ⌝ }
+{
+    let kind = row.tag / 2;
+    if kind == table_item::FUNCTION {
+        let record = Record::FunctionData {
+            count: row.count,
+            name: part_of(row.k1, row.k2),
+        };
+        return emit_record(text, record, out, at, write);
+    }
+    if kind == table_item::BRANCH {
+        let record = Record::BranchData {
+            line: row.k1 as u32,
+            block: row.k2 as u32,
+            branch: row.k3 as u32,
+            taken: taken_of(row),
+        };
+        return emit_record(text, record, out, at, write);
+    }
+    if kind == table_item::LINE {
+        let record = Record::LineData {
+            line: row.k1 as u32,
+            count: row.count,
+            checksum: checksum_of(row),
+        };
+        return emit_record(text, record, out, at, write);
+    }
+    at
+}
+
+// The place behind a row's FNDA, BRDA or DA, told by the row with no record made.
+fn measure_data(row: Row, at: usize) -> usize
+    ensures { λ r. ⌜ ((text : List ℕ) → ItemInBounds text row → r ≡ min (at + length (printRecords defaultTag (dataRecord (itemOf text row)))) u64-max) ⌝ }
+{
+    let kind = row.tag / 2;
+    if kind == table_item::LINE {
+        let numbers = 5 + format::decimal_len(row.k1) + format::decimal_len(row.count);
+        if row.tag % 2 == 0 {
+            return saturating_add(at, numbers);
+        }
+        return saturating_add(saturating_add(at, numbers + 1), row.k3 as usize);
+    }
+    if kind == table_item::BRANCH {
+        let key = format::decimal_len(row.k1)
+            + format::decimal_len(row.k2)
+            + format::decimal_len(row.k3);
+        if row.tag % 2 == 0 {
+            return saturating_add(at, key + 10);
+        }
+        return saturating_add(at, key + 9 + format::decimal_len(row.count));
+    }
+    if kind == table_item::FUNCTION {
+        let number = 7 + format::decimal_len(row.count);
+        return saturating_add(saturating_add(at, number), row.k2 as usize);
+    }
+    at
+}
+
+// DA of a line with no checksum, written with no record made.
+fn emit_line_data(line: u32, count: u64, out: &mut [u8], at: usize) -> usize
+    requires { ⌜ RoomFor true (now out) at (lineIn [] (counted line count)) ⌝ }
+    ensures { λ r. ⌜ Emitted true (now (out .entry)) (now (out .exit)) at (lineIn [] (counted line count)) r ⌝ }
+{
+    let wrote = record_display::print_line_data(line, count, &mut out[at..]);
+    let WriteAnswer::Written(n) = wrote else {
+        return at;
+    };
+    at + n
+}
+
+// FNDA, BRDA or DA.
+fn emit_data(text: &[u8], row: Row, out: &mut [u8], at: usize, write: bool) -> usize
+    requires { ⌜ ItemInBounds (now text) row × ItemFits (itemOf (now text) row) ⌝ }
+    requires { ⌜ RoomFor write (now out) at (printRecords defaultTag (dataRecord (itemOf (now text) row))) ⌝ }
+    ensures { λ r. ⌜ Emitted write (now (out .entry)) (now (out .exit)) at (printRecords defaultTag (dataRecord (itemOf (now (text .entry)) row))) r ⌝ }
+{
+    if write {
+        if row.tag == table_item::LINE * 2 {
+            return emit_line_data(row.k1 as u32, row.count, out, at);
+        }
+        return emit_item(text, row, out, at, write);
+    }
+    measure_data(row, at)
+}
+
+// What one pass prints of a row: FN where `starts`, and FNDA, BRDA or DA in the other.
+fn emit_row(text: &[u8], row: Row, starts: bool, out: &mut [u8], at: usize, write: bool) -> usize
+    requires { ⌜ ItemInBounds (now text) row × ItemFits (itemOf (now text) row) ⌝ }
+    requires { ⌜ RoomFor write (now out) at (printRecords defaultTag (passRecords starts (itemOf (now text) row))) ⌝ }
+    ensures { λ r. ⌜ Emitted write (now (out .entry)) (now (out .exit)) at (printRecords defaultTag (passRecords starts (itemOf (now (text .entry)) row))) r ⌝ }
+{
+    if starts {
+        return emit_start(text, row, out, at, write);
+    }
+    emit_data(text, row, out, at, write)
+}
+
+// One pass over the n rows whose numbers stand from word `numbers` on.
+pub fn emit_rows(
+    text: &[u8],
+    words: &[u64],
+    numbers: usize,
+    n: usize,
+    starts: bool,
+    out: &mut [u8],
+    at: usize,
+    write: bool,
+) -> usize
+    requires { ⌜ Printable (now text) (now words) numbers n ⌝ }
+    requires { ⌜ RoomFor write (now out) at (printRecords defaultTag (concatMap (passRecords starts) (tabulate (numberedItem (now text) (now words) numbers) n))) ⌝ }
+    ensures { λ r. ⌜ Emitted write (now (out .entry)) (now (out .exit)) at (printRecords defaultTag (concatMap (passRecords starts) (tabulate (numberedItem (now (text .entry)) (now (words .entry)) numbers) n))) r ⌝ }
+{
+    let mut end = at;
+    let mut i = 0;
+    while i < n {
+        let j = words[numbers + i] as usize;
+        let row = table::read_row(words, j);
+        end = emit_row(text, row, starts, out, end, write);
+        i += 1;
+    }
+    end
+}
+
+// 1 for a row that is hit: its count is above 0. A branch with no taken count, and a section's own row, count 0.
+fn hit_of(row: Row) -> u32
+    ensures { λ r. ⌜ ((text : List ℕ) → r ≡ hitOne (itemOf text row)) × (r ≤ 1) ⌝ }
+{
+    if row.count == 0 {
+        return 0;
+    }
+    if row.tag < table_item::FUNCTION * 2 {
+        return 0;
+    }
+    if row.tag == table_item::BRANCH * 2 {
+        return 0;
+    }
+    1
+}
+
+// How many of the n rows are hit whose numbers stand from word `numbers` on.
+fn count_hits(words: &[u64], numbers: usize, n: usize) -> u32
+    requires { ⌜ Numbered (now words) numbers n × (n ≤ u32-max) ⌝ }
+    ensures { λ r. ⌜ ((text : List ℕ) → r ≡ hits (tabulate (numberedItem text (now (words .entry)) numbers) n)) ⌝ }
+{
+    let mut hit = 0;
+    let mut i = 0;
+    while i < n {
+        let j = words[numbers + i] as usize;
+        hit = hit + hit_of(table::read_row(words, j));
+        i += 1;
+    }
+    hit
+}
+
+// FNF, BRF or LF.
+fn found_record(kind: u64, n: u32) -> Record
+    requires { ⌜ 1 ≤ kind ⌝ }
+    ensures { λ r. ⌜ ((text : List ℕ) → recordIn text r ≡ accepted (foundOf kind n)) ⌝ }
+{
+    if kind == table_item::FUNCTION {
+        return Record::FunctionsFound(n);
+    }
+    if kind == table_item::BRANCH {
+        return Record::BranchesFound(n);
+    }
+    Record::LinesFound(n)
+}
+
+// FNH, BRH or LH.
+fn hit_record(kind: u64, n: u32) -> Record
+    requires { ⌜ 1 ≤ kind ⌝ }
+    ensures { λ r. ⌜ ((text : List ℕ) → recordIn text r ≡ accepted (hitOf kind n)) ⌝ }
+{
+    if kind == table_item::FUNCTION {
+        return Record::FunctionsHit(n);
+    }
+    if kind == table_item::BRANCH {
+        return Record::BranchesHit(n);
+    }
+    Record::LinesHit(n)
+}
+
+// How many rows are counted before they are printed.
+const BATCH: usize = 32;
+
+// The next batch of so many rows.
+fn batch_of(left: usize) -> usize
+    ensures { λ r. ⌜ (r ≤ left) × (1 ≤ left → 1 ≤ r) ⌝ }
+{
+    if left < BATCH {
+        return left;
+    }
+    BATCH
+}
+
+// The data of the n rows whose numbers stand from word `numbers` on, how many were found and how many hit: "a loop that carries the hit
+// number". An empty group prints nothing. Rows stand anywhere in the scratch: the hits of some of them are counted first, in a short loop that
+// waits for many rows of memory at once.
+pub fn emit_group(
+    text: &[u8],
+    words: &[u64],
+    kind: u64,
+    numbers: usize,
+    n: usize,
+    out: &mut [u8],
+    at: usize,
+    write: bool,
+) -> usize
+    requires { ⌜ Printable (now text) (now words) numbers n ⌝ }
+    requires { ⌜ (1 ≤ kind) × (kind ≤ 3) × (n ≤ u32-max) ⌝ }
+    requires { ⌜ RoomFor write (now out) at (printRecords defaultTag (group (foundOf kind) (hitOf kind) (tabulate (numberedItem (now text) (now words) numbers) n))) ⌝ }
+    ensures { λ r. ⌜ Emitted write (now (out .entry)) (now (out .exit)) at (printRecords defaultTag (group (foundOf kind) (hitOf kind) (tabulate (numberedItem (now (text .entry)) (now (words .entry)) numbers) n))) r ⌝ }
+{
+    if n == 0 {
+        return at;
+    }
+    let mut end = at;
+    let mut hit = 0;
+    let mut i = 0;
+    while i < n {
+        let m = batch_of(n - i);
+        hit = hit + count_hits(words, numbers + i, m);
+        end = emit_rows(text, words, numbers + i, m, false, out, end, write);
+        i += m;
+    }
+    let found = emit_record(text, found_record(kind, n as u32), out, end, write);
+    emit_record(text, hit_record(kind, hit), out, found, write)
+}
+
+// TN and SF of a section's own row.
+pub fn emit_head(text: &[u8], row: Row, out: &mut [u8], at: usize, write: bool) -> usize
+    requires { ⌜ (row .test + row .«test_len» ≤ length (now text)) × (row .path + row .«path_len» ≤ length (now text)) ⌝ }
+    requires { ⌜ RoomFor write (now out) at (printRecords defaultTag (testName (part (now text) (row .test) (row .«test_len»)) ∷ sourceFile (part (now text) (row .path) (row .«path_len»)) ∷ [])) ⌝ }
+    ensures { λ r. ⌜ Emitted write (now (out .entry)) (now (out .exit)) at (printRecords defaultTag (testName (part (now (text .entry)) (row .test) (row .«test_len»)) ∷ sourceFile (part (now (text .entry)) (row .path) (row .«path_len»)) ∷ [])) r ⌝ }
+{
+    let test = part_of(row.test, row.test_len);
+    let end = emit_record(text, Record::TestName(test), out, at, write);
+    let path = part_of(row.path, row.path_len);
+    emit_record(text, Record::SourceFile(path), out, end, write)
+}
+
+// end_of_record.
+pub fn emit_end(text: &[u8], out: &mut [u8], at: usize, write: bool) -> usize
+    requires { ⌜ RoomFor write (now out) at (printRecords defaultTag (endOfRecord ∷ [])) ⌝ }
+    ensures { λ r. ⌜ Emitted write (now (out .entry)) (now (out .exit)) at (printRecords defaultTag (endOfRecord ∷ [])) r ⌝ }
+{
+    emit_record(text, Record::EndOfRecord, out, at, write)
+}

@@ -1,8 +1,0 @@
--- `printing::too_short` meets its contract. Assumes nothing.
-use native.Mathlib.Omega.{arith}
-use Rattle.printing.proofs.LoopLaws.{short-is}
-use Rattle.printing.proofs.too_short.Statement.{statement}
-use Rattle.printing.proofs.too_short.Tie as tie
-
-pub too-short-spec : {M : Type 1} → statement M
-too-short-spec = tie.close (tie.spec (λ c. short-is _ (omega arith)))

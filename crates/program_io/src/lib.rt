@@ -1,0 +1,81 @@
+// What the programs share: recorded cases cut from standard input, a refusal told in words and numbers, the front of a buffer written.
+ghost use mathlib.Core.Path.{_≡_};
+ghost use Prim.Native.Nat.{_+_, _≤_};
+ghost use lib.ListN.{length};
+ghost use Rattle.format.specs.Put.{over};
+ghost use Rattle.program_io.specs.Cases.{u16At, caseEnd};
+ghost use Rattle.program_io.specs.Refused.{refusedLine, max-refused, places};
+use model::Refusal;
+
+fn wide(byte: u8) -> usize
+    ensures { λ r. ⌜ (r ≡ byte) × (r ≤ 255) ⌝ }
+{
+    byte as usize
+}
+
+// The little-endian u16 at an offset.
+pub fn u16_at(input: &[u8], at: usize) -> usize
+    requires { ⌜ at + 2 ≤ length (now input) ⌝ }
+    ensures { λ r. ⌜ (r ≡ u16At (now (input .entry)) at) × (r ≤ 65535) ⌝ }
+{
+    wide(input[at]) + wide(input[at + 1]) * 256
+}
+
+// Where the case that starts at `at` with its length ends, or the end of the input where no whole case is left.
+pub fn case_end(input: &[u8], at: usize) -> usize
+    requires { ⌜ at + 2 ≤ length (now input) ⌝ }
+    ensures { λ r. ⌜ (r ≡ caseEnd (now (input .entry)) at) × (at + 2 ≤ r) × (r ≤ length (now (input .entry))) ⌝ }
+{
+    let len = u16_at(input, at);
+    let rest = input.len() - 2 - at;
+    if rest < len {
+        return input.len();
+    }
+    at + 2 + len
+}
+
+// Four numbers, a blank before each, at the front of out.
+fn put_places(number: u64, text: u64, line: u64, field: u64, out: &mut [u8]) -> usize
+    requires { ⌜ length (places number text line field) ≤ length (now out) ⌝ }
+    ensures { λ r. ⌜ (r ≡ length (places number text line field)) × (now (out .exit) ≡ over (places number text line field) (now (out .entry))) ⌝ }
+{
+    let at = format::put_pair(b' ', number, b' ', text, out);
+    let n = format::put_pair(b' ', line, b' ', field, &mut out[at..]);
+    at + n
+}
+
+// `refused`, number, text, line and field, parted by blanks (document 01, "Program `gather`"), at the front of out.
+pub fn put_refusal(refusal: Refusal, out: &mut [u8]) -> usize
+    requires { ⌜ max-refused ≤ length (now out) ⌝ }
+    ensures { λ r. ⌜ (r ≡ length (refusedLine «refusal»)) × (now (out .exit) ≡ over (refusedLine «refusal») (now (out .entry))) ⌝ }
+{
+    let fault = refusal.fault;
+    let number = refusal::number_of(fault) as u64;
+    let head = format::put_bytes(b"refused", out);
+    let n = put_places(
+        number,
+        refusal.text as u64,
+        refusal.line,
+        refusal.field as u64,
+        &mut out[head..],
+    );
+    let end = head + n;
+    out[end] = 10;
+    end + 1
+}
+
+// The most bytes that such a line has: `max-refused` in specs/Refused.antt.
+const MAX_REFUSED: usize = 92;
+
+pub fn show_refusal(refusal: Refusal) {
+    let mut line = [0u8; MAX_REFUSED];
+    let n = put_refusal(refusal, &mut line);
+    write_first(&line, n);
+}
+
+// The first n bytes.
+pub fn write_first(bytes: &[u8], n: usize) {
+    if n <= bytes.len() {
+        io::write_all(1, &bytes[..n]);
+    }
+}

@@ -1,4 +1,0 @@
-pub mod QueueLaws
-pub mod HeldLaws
-pub mod ReplayLaws
-pub mod EnterLaws

@@ -1,4 +1,0 @@
-pub mod Ranks
-pub mod Arranged
-pub mod Digits
-pub mod Reordered

@@ -1,0 +1,124 @@
+-- A line with no checksum, written with no record made of it. Assumes nothing.
+use Prim.Native.Nat.{ℕ, _+_, _-_, _^_, _≤_, _<_}
+use mathlib.Core.Path.{_≡_, refl, sym, ap, _∙_}
+use mathlib.Core.Bool.{true}
+use mathlib.Core.List.{List, [], _∷_, _++_, append-nil}
+use native.Mathlib.Omega.{arith}
+use lib.Dec.{lit≤}
+use lib.ListN.{length, take, drop, set}
+use mir.Val.{Fits}
+use mir.Syntax.{w64}
+use Rattle.model.specs.declared.Kind.the-variants as Kd
+use Rattle.model.specs.declared.WriteAnswer.the-variants.{Written}
+use Rattle.model.specs.Bytes.{Bytes}
+use Rattle.model.specs.Number.{decimal}
+use Rattle.model.specs.Tags.{defaultTag}
+use Rattle.model.specs.Output.{outputAfter}
+use Rattle.model.specs.Calls.{writeAnswer}
+use Rattle.model.specs.Parts.{printLine}
+use Rattle.format.specs.Put.{over, pair}
+use Rattle.record_display.specs.Fields.{FieldsOf, separated, numberTexts, lastLen, lastField, headOf, max-head, shapeFields, shapeLine, Fitting}
+use Rattle.record_display.specs.Lines.{counted}
+use Rattle.record_display.specs.declared.shape.Last.the-variants as L
+use Rattle.record_display.specs.declared.shape.Fields.{Fields}
+use Rattle.format.proofs.OverLaws.{second-at, second-room, second-fits, second-len, second-out}
+use Rattle.record_display.proofs.FieldLaws.{head-first, inside-nothing}
+use Rattle.record_display.proofs.ShapeLaws.{line-first, line-len, line-within, line-fits, line-kept, line-out, fits-any}
+use Rattle.record_display.proofs.LineLaws.{print-room, print-written, print-out}
+
+-- ---- the line
+
+abbrev both : ℕ → ℕ → Bytes
+both line count = pair 58 line 44 count
+
+abbrev numbers : ℕ → ℕ → List ℕ
+numbers line count = line ∷ count ∷ []
+
+abbrev tag : Bytes
+tag = defaultTag Kd.LineData
+
+abbrev head : ℕ → ℕ → Bytes
+head line count = headOf Kd.LineData (numbers line count) 2
+
+abbrev fields : ℕ → ℕ → Bytes
+fields line count = shapeFields [] Kd.LineData (numbers line count) 2 L.Nothing
+
+abbrev whole : ℕ → ℕ → Bytes
+whole line count = shapeLine [] Kd.LineData (numbers line count) 2 L.Nothing
+
+head-both : (line count : ℕ) → head line count ≡ tag ++ both line count
+unfolding headOf separated numberTexts
+head-both line count = ap (λ (l : Bytes). tag ++ (58 ∷ decimal line ++ 44 ∷ l)) (append-nil (decimal count))
+
+fields-head : (line count : ℕ) → fields line count ≡ head line count
+unfolding shapeFields separated lastField
+fields-head line count = append-nil (head line count)
+
+module _ (line count : ℕ) (old : Bytes) (room : length (whole line count) ≤ length old) where
+  head-room : length (head line count) ≤ length old
+  head-room = rw (fields-head line count) at (line-first [] Kd.LineData 2 (numbers line count) L.Nothing (length old) room)
+
+  pub count-first : length tag ≤ length old
+  count-first = head-first Kd.LineData 2 (length old) (numbers line count) head-room
+
+  module _ (out : Bytes) (at : ℕ) (upTo : at ≡ length tag) (held : out ≡ over tag old) where
+    pub count-at : at ≤ length out
+    count-at = second-at (head line count) tag (both line count) old (head-both line count) head-room out at held upTo
+
+    pub count-room : length (both line count) ≤ length (take (length out - at) (drop at out))
+    count-room = second-room (head line count) tag (both line count) old (head-both line count) head-room out at held upTo
+
+    module _ (n : ℕ) (more : n ≡ length (both line count)) where
+      pub count-ends : length old < 2 ^ 64 → Fits w64 (at + n)
+      count-ends h = second-fits (head line count) tag (both line count) old (head-both line count) head-room out at held upTo n more h
+
+      end : at + n ≡ length (fields line count)
+      end =
+          second-len (head line count) tag (both line count) old (head-both line count) head-room out at held upTo n more
+          ∙ ap length (sym (fields-head line count))
+
+      pub count-len : at + n + 1 ≡ length (whole line count)
+      count-len = line-len [] Kd.LineData 2 (numbers line count) L.Nothing (at + n) end
+
+      module _ (ys : Bytes) (rest : ys ≡ over (both line count) (take (length out - at) (drop at out))) where
+        abbrev written : Bytes
+        written = take at out ++ (ys ++ drop (length out - at) (drop at out))
+
+        done : written ≡ over (fields line count) old
+        done = rw (fields-head line count) (second-out (head line count) tag (both line count) old (head-both line count) head-room out at held upTo ys rest)
+
+        pub count-within : at + n < length written
+        count-within = line-within [] Kd.LineData 2 (numbers line count) L.Nothing (at + n) old written done end room
+
+        pub count-fits : length old < 2 ^ 64 → Fits w64 (at + n + 1)
+        count-fits h = line-fits [] Kd.LineData 2 (numbers line count) L.Nothing (at + n) old written done end room h
+
+        pub count-kept : length (set written (at + n) 10) ≡ length old
+        count-kept = line-kept [] Kd.LineData 2 (numbers line count) L.Nothing (at + n) old written done end room
+
+        pub count-out : set written (at + n) 10 ≡ over (whole line count) old
+        count-out = line-out [] Kd.LineData 2 (numbers line count) L.Nothing (at + n) old written done end room
+
+-- ---- it is what the printer answers
+
+abbrev countShape : ℕ → ℕ → Fields
+countShape line count = record { kind = Kd.LineData; numbers = numbers line count; count = 2; last = L.Nothing }
+
+shaped : (line count : ℕ) → FieldsOf (counted line count) (countShape line count)
+shaped line count = record { kind = refl; few = lit≤ tt; long = lit≤ tt; numbers = refl; last = refl }
+
+fitting : (line count room : ℕ) → max-head ≤ room → Fitting (countShape line count) room true
+unfolding lastLen
+fitting line count room h = fits-any 0 (lit≤ tt) refl h
+
+module _ (line count : ℕ) where
+  pub counted-room : (room : ℕ) → max-head ≤ room → length (whole line count) ≤ room
+  counted-room room h = print-room [] (counted line count) (countShape line count) (shaped line count) true (inside-nothing L.Nothing 0 refl) refl (fitting line count room h) refl
+
+  pub counted-written : (room n : ℕ) → max-head ≤ room → n ≡ length (whole line count) → Written n ≡ writeAnswer (printLine defaultTag [] (counted line count) room)
+  counted-written room n h e =
+      print-written [] (counted line count) (countShape line count) (shaped line count) true (inside-nothing L.Nothing 0 refl) refl (fitting line count room h) refl n e
+
+  pub counted-out : (old out : Bytes) → max-head ≤ length old → out ≡ over (whole line count) old → out ≡ outputAfter (printLine defaultTag [] (counted line count) (length old)) old
+  counted-out old out h e =
+      print-out [] (counted line count) (countShape line count) (shaped line count) true (inside-nothing L.Nothing 0 refl) refl old out (fitting line count (length old) h) refl e

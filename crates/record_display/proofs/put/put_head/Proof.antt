@@ -1,0 +1,18 @@
+use borrow.Author.Needs.{needs}
+use Rattle.format.proofs.OverLaws.{over-at, second-fits, second-room, second-size, second-len, second-out}
+use Rattle.record_display.proofs.FieldLaws.{head-first, head-is}
+use Rattle.record_display.proofs.put.put_head.Statement.{statement}
+use Rattle.record_display.proofs.put.put_head.Tie as tie
+
+pub put-head-spec : {M : Type 1} → statement M
+put-head-spec =
+    tie.close
+    (tie.spec
+    (λ c κs. search (head-first, needs))
+    (λ c. search (over-at, head-first, needs))
+    (λ c. search (over-at, head-first, needs))
+    (λ c. search needs)
+    (λ c κs. search (second-room, head-is, needs))
+    (λ c. search (second-fits, head-is, needs))
+    (λ c. search (second-size, head-is, needs))
+    (λ c. search (second-len, second-out, head-is, needs)))

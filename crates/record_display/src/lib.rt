@@ -1,0 +1,80 @@
+// A record printed as a line: `Display for Record`, document 01's "The line printer tries 17, then 14".
+ghost use mathlib.Core.Path.{_≡_};
+ghost use mathlib.Core.List.{[]};
+ghost use lib.ListN.{length};
+ghost use Rattle.model.specs.Calls.{writeAnswer};
+ghost use Rattle.model.specs.Output.{outputAfter};
+ghost use Rattle.model.specs.Parts.{printLine};
+ghost use Rattle.model.specs.Tags.{defaultTag};
+ghost use Rattle.record_display.specs.Fields.{neededAt};
+ghost use Rattle.record_display.specs.Lines.{lineIn, counted};
+
+mod put;
+mod shape;
+mod tag;
+
+use model::Checksum;
+use model::Fault;
+use model::Record;
+use model::Refusal;
+use model::WriteAnswer;
+
+fn refusal(fault: Fault, needed: u64) -> Refusal
+    ensures { λ r. ⌜ r ≡ neededAt fault needed ⌝ }
+{
+    Refusal {
+        fault,
+        text: 0,
+        line: 0,
+        field: 0,
+        needed,
+    }
+}
+
+// The length of a record's line, with byte 10 after it. A record with a part outside text has no line, and 0 is its length.
+pub fn line_len(text: &[u8], record: Record) -> usize
+    ensures { λ r. ⌜ r ≡ length (lineIn (now (text .entry)) «record») ⌝ }
+{
+    let shape = shape::fields_of(record);
+    let last = shape.last;
+    if shape::is_inside(last, text.len()) {
+        return put::line_len(shape);
+    }
+    0
+}
+
+// Prints a record, whose text parts lie in text, with byte 10 after it.
+pub fn print_line(text: &[u8], record: Record, out: &mut [u8]) -> WriteAnswer
+    ensures { λ r. ⌜ r ≡ writeAnswer (printLine defaultTag (now (text .entry)) «record» (length (now (out .entry)))) ⌝ }
+    ensures { λ _. ⌜ now (out .exit) ≡ outputAfter (printLine defaultTag (now (text .entry)) «record» (length (now (out .entry)))) (now (out .entry)) ⌝ }
+{
+    let shape = shape::fields_of(record);
+    let last = shape.last;
+    if shape::is_inside(last, text.len()) {
+        if put::fits(shape, out.len()) {
+            let n = put::put_line(shape, text, out);
+            return WriteAnswer::Written(n);
+        }
+        let needed = put::line_len(shape);
+        return WriteAnswer::Refused(refusal(Fault::OutputTooShort, needed as u64));
+    }
+    WriteAnswer::Refused(refusal(Fault::PartOutside, 0))
+}
+
+// Prints a line's record with no checksum, as `print_line` does, and makes no record of it where the output surely holds it: most lines of a
+// report are such.
+pub fn print_line_data(line: u32, count: u64, out: &mut [u8]) -> WriteAnswer
+    ensures { λ r. ⌜ r ≡ writeAnswer (printLine defaultTag [] (counted line count) (length (now (out .entry)))) ⌝ }
+    ensures { λ _. ⌜ now (out .exit) ≡ outputAfter (printLine defaultTag [] (counted line count) (length (now (out .entry)))) (now (out .entry)) ⌝ }
+{
+    if put::MAX_HEAD <= out.len() {
+        let n = put::put_line_data(line as u64, count, out);
+        return WriteAnswer::Written(n);
+    }
+    let record = Record::LineData {
+        line,
+        count,
+        checksum: Checksum::Absent,
+    };
+    print_line(b"", record, out)
+}

@@ -1,0 +1,174 @@
+// A shape's line measured and written, field by field, each into the rest of the output.
+ghost use mathlib.Core.Path.{_≡_};
+ghost use Prim.Native.Nat.{_+_, _≤_, _<_};
+ghost use mathlib.Core.List.{[], _∷_};
+ghost use mathlib.Core.Bool.{true};
+ghost use lib.ListN.{length};
+ghost use Rattle.model.specs.declared.Kind.the-variants as Kd;
+ghost use Rattle.model.specs.Number.{decimal};
+ghost use Rattle.format.specs.Put.{over};
+ghost use Rattle.record_display.specs.declared.shape.Last.the-variants as L;
+ghost use Rattle.record_display.specs.Fields.{separated, numberTexts, lastLen, lastField, inside, sepAfter, headOf, max-head, shapeFields, shapeLine, Fitting};
+use crate::shape;
+use crate::shape::Fields;
+use crate::shape::Last;
+use crate::tag;
+use model::Kind;
+
+// Writes a field at the front of out: the byte sep, then the bytes of s.
+fn put_text(sep: u8, s: &[u8], out: &mut [u8]) -> usize
+    requires { ⌜ 1 + length (now s) ≤ length (now out) ⌝ }
+    ensures { λ r. ⌜ (r ≡ 1 + length (now (s .entry))) × (now (out .exit) ≡ over (sep ∷ now (s .entry)) (now (out .entry))) ⌝ }
+{
+    out[0] = sep;
+    let n = format::put_bytes(s, &mut out[1..]);
+    1 + n
+}
+
+// The length of the first count numbers as fields.
+fn numbers_len(numbers: [u64; 4], count: usize) -> usize
+    requires { ⌜ count ≤ 4 ⌝ }
+    ensures { λ r. ⌜ (r ≡ length (separated 58 (numberTexts numbers count))) × (r ≤ 84) ⌝ }
+{
+    let mut n = 0;
+    let mut i = 0;
+    while i < count {
+        n = n + 1 + format::decimal_len(numbers[i]);
+        i += 1;
+    }
+    n
+}
+
+// Writes the first count numbers as fields at the front of out.
+fn put_numbers(numbers: [u64; 4], count: usize, out: &mut [u8]) -> usize
+    requires { ⌜ (count ≤ 4) × (length (separated 58 (numberTexts numbers count)) ≤ length (now out)) ⌝ }
+    ensures { λ r. ⌜ (r ≡ length (separated 58 (numberTexts numbers count))) × (now (out .exit) ≡ over (separated 58 (numberTexts numbers count)) (now (out .entry))) ⌝ }
+{
+    let mut at = 0;
+    let mut sep = b':';
+    let mut i = 0;
+    while i < count {
+        let n = format::put_number(sep, numbers[i], &mut out[at..]);
+        at = at + n;
+        sep = b',';
+        i += 1;
+    }
+    at
+}
+
+// Writes the last field at the front of out.
+fn put_last(sep: u8, last: Last, text: &[u8], out: &mut [u8]) -> usize
+    requires { ⌜ (inside (length (now text)) last ≡ true) × (lastLen last ≤ length (now out)) ⌝ }
+    ensures { λ r. ⌜ (r ≡ lastLen last) × (now (out .exit) ≡ over (separated sep (lastField (now (text .entry)) last)) (now (out .entry))) ⌝ }
+{
+    match last {
+        Last::Nothing => 0,
+        Last::Dash => put_text(sep, b"-", out),
+        Last::Text(part) => {
+            let start = part.start;
+            let end = start + part.len;
+            put_text(sep, &text[start..end], out)
+        }
+    }
+}
+
+fn sep_after(count: usize) -> u8
+    ensures { λ r. ⌜ r ≡ sepAfter count ⌝ }
+{
+    if count == 0 {
+        return b':';
+    }
+    b','
+}
+
+// The length of the tag and the numbers.
+fn head_len(kind: Kind, numbers: [u64; 4], count: usize) -> usize
+    requires { ⌜ count ≤ 4 ⌝ }
+    ensures { λ r. ⌜ (r ≡ length (headOf kind numbers count)) × (r ≤ 97) ⌝ }
+{
+    tag::tag_len(kind) + numbers_len(numbers, count)
+}
+
+// The length of a shape's line.
+pub fn line_len(shape: Fields) -> usize
+    requires { ⌜ (shape .count ≤ 4) × (lastLen (shape .last) ≤ 9223372036854775808) ⌝ }
+    ensures { λ r. ⌜ (r ≡ length (headOf (shape .kind) (shape .numbers) (shape .count)) + lastLen (shape .last) + 1) × (r ≤ max-head + lastLen (shape .last)) ⌝ }
+{
+    let kind = shape.kind;
+    let numbers = shape.numbers;
+    let last = shape.last;
+    head_len(kind, numbers, shape.count) + shape::last_len(last) + 1
+}
+
+// The tag, four numbers and byte 10 are at most so many bytes: `max-head` in specs/Fields.antt.
+pub const MAX_HEAD: usize = 98;
+
+// Whether a shape's line is at most room bytes long. Where any tag and numbers fit, they are not measured.
+pub fn fits(shape: Fields, room: usize) -> bool
+    requires { ⌜ (shape .count ≤ 4) × (lastLen (shape .last) ≤ 9223372036854775808) ⌝ }
+    ensures { λ r. ⌜ Fitting shape room r ⌝ }
+{
+    let last = shape.last;
+    if MAX_HEAD + shape::last_len(last) <= room {
+        return true;
+    }
+    line_len(shape) <= room
+}
+
+// Writes the tag and the numbers at the front of out.
+fn put_head(kind: Kind, numbers: [u64; 4], count: usize, out: &mut [u8]) -> usize
+    requires { ⌜ (count ≤ 4) × (length (headOf kind numbers count) ≤ length (now out)) ⌝ }
+    ensures { λ r. ⌜ (r ≡ length (headOf kind numbers count)) × (now (out .exit) ≡ over (headOf kind numbers count) (now (out .entry))) ⌝ }
+{
+    let at = tag::put_tag(kind, out);
+    let n = put_numbers(numbers, count, &mut out[at..]);
+    at + n
+}
+
+// Writes all fields of a shape at the front of out.
+fn put_fields(
+    kind: Kind,
+    numbers: [u64; 4],
+    count: usize,
+    last: Last,
+    text: &[u8],
+    out: &mut [u8],
+) -> usize
+    requires { ⌜ (count ≤ 4) × (inside (length (now text)) last ≡ true) ⌝ }
+    requires { ⌜ length (shapeFields (now text) kind numbers count last) ≤ length (now out) ⌝ }
+    ensures { λ r. ⌜ r ≡ length (shapeFields (now (text .entry)) kind numbers count last) ⌝ }
+    ensures { λ _. ⌜ now (out .exit) ≡ over (shapeFields (now (text .entry)) kind numbers count last) (now (out .entry)) ⌝ }
+{
+    let at = put_head(kind, numbers, count, out);
+    let sep = sep_after(count);
+    let n = put_last(sep, last, text, &mut out[at..]);
+    at + n
+}
+
+// Writes the line of a shape at the front of out.
+pub fn put_line(shape: Fields, text: &[u8], out: &mut [u8]) -> usize
+    requires { ⌜ (shape .count ≤ 4) × (inside (length (now text)) (shape .last) ≡ true) ⌝ }
+    requires { ⌜ length (shapeLine (now text) (shape .kind) (shape .numbers) (shape .count) (shape .last)) ≤ length (now out) ⌝ }
+    ensures { λ r. ⌜ r ≡ length (shapeLine (now (text .entry)) (shape .kind) (shape .numbers) (shape .count) (shape .last)) ⌝ }
+    ensures { λ _. ⌜ now (out .exit) ≡ over (shapeLine (now (text .entry)) (shape .kind) (shape .numbers) (shape .count) (shape .last)) (now (out .entry)) ⌝ }
+{
+    let kind = shape.kind;
+    let numbers = shape.numbers;
+    let last = shape.last;
+    let end = put_fields(kind, numbers, shape.count, last, text, out);
+    out[end] = 10;
+    end + 1
+}
+
+// Writes the line of a DA with no checksum at the front of out.
+pub fn put_line_data(line: u64, count: u64, out: &mut [u8]) -> usize
+    requires { ⌜ length (shapeLine [] Kd.LineData (line ∷ count ∷ []) 2 L.Nothing) ≤ length (now out) ⌝ }
+    ensures { λ r. ⌜ r ≡ length (shapeLine [] Kd.LineData (line ∷ count ∷ []) 2 L.Nothing) ⌝ }
+    ensures { λ _. ⌜ now (out .exit) ≡ over (shapeLine [] Kd.LineData (line ∷ count ∷ []) 2 L.Nothing) (now (out .entry)) ⌝ }
+{
+    let at = tag::put_tag(Kind::LineData, out);
+    let n = format::put_pair(b':', line, b',', count, &mut out[at..]);
+    let end = at + n;
+    out[end] = 10;
+    end + 1
+}

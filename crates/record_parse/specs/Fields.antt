@@ -1,0 +1,42 @@
+-- What the field readers promise, told by the model's definitions. Assumes nothing.
+use Prim.Native.Nat.{ℕ, _+_, _≤_}
+use mathlib.Core.Path.{_≡_}
+use lib.ListN.{length}
+use mathlib.Core.Bool.{cond}
+use Rattle.model.specs.declared.Fault.{Fault}
+use Rattle.model.specs.declared.Fault.the-variants.{FieldNotFound, TooManyFields}
+use Rattle.model.specs.declared.Part.{Part}
+use Rattle.model.specs.declared.Checksum.{Checksum}
+use Rattle.model.specs.declared.Checksum.the-variants as Ck
+use Rattle.model.specs.declared.LineAnswer.{LineAnswer}
+use Rattle.model.specs.declared.LineAnswer.the-variants.{Refused}
+use Rattle.model.specs.Order.{if_then_else_}
+use Rattle.model.specs.Bytes.{Bytes, ascii, sameBytes}
+use Rattle.scan.specs.declared.Number.{Number}
+use Rattle.scan.specs.declared.Number.the-variants as N
+use Rattle.scan.specs.Scan.{numberIn, nextOf, valueOf}
+
+abbrev pub refusedAt : Fault → ℕ → LineAnswer
+refusedAt fault field = Refused (record { fault = fault; text = 0; line = 0; field = field; needed = 0 })
+
+abbrev pub numberRefusal : ℕ → Number → LineAnswer
+numberRefusal field (N.Fault fault) = refusedAt fault field
+numberRefusal field (N.Last value) = refusedAt FieldNotFound (field + 1)
+numberRefusal field (N.More value next) = refusedAt TooManyFields 0
+
+-- a number read in the part of a line from start on: what follows its comma is told as a position of the line
+abbrev pub inLine : ℕ → Number → Number
+inLine start (N.Last value) = N.Last value
+inLine start (N.More value next) = N.More value (start + next)
+inLine start (N.Fault fault) = N.Fault fault
+
+pub record NumberField (max start : ℕ) (rest : Bytes) (r : Number) : Type 0 where
+  pub is : r ≡ inLine start (numberIn max rest)
+  pub long : nextOf r ≤ start + length rest
+  pub most : valueOf r ≤ max
+
+abbrev pub partFrom : ℕ → Bytes → Part
+partFrom start rest = record { start = start; len = length rest }
+
+abbrev pub checksumFrom : ℕ → Bytes → Checksum
+checksumFrom start rest = if sameBytes rest (ascii "-") then Ck.Absent else Ck.Given (partFrom start rest)

@@ -1,0 +1,83 @@
+-- What the readers of the kinds of line promise, told by the model's definitions. Assumes nothing.
+use Prim.Native.Nat.{ℕ, _+_}
+use mathlib.Core.Path.{_≡_}
+use mathlib.Core.Bool.{true, false}
+use mathlib.Core.List.{[]}
+use mathlib.Core.Option.{Option, none, some}
+use lib.Dec.{ltb}
+use Rattle.model.specs.declared.Fault.the-variants.{UnknownRecord}
+use Rattle.model.specs.declared.Kind.{Kind}
+use Rattle.model.specs.declared.Kind.the-variants as Kd
+use Rattle.model.specs.declared.LineAnswer.{LineAnswer}
+use Rattle.model.specs.declared.Record.{Record as LentRecord}
+use Rattle.model.specs.declared.Record.the-variants as Lent
+use Rattle.model.specs.Order.{if_then_else_}
+use Rattle.model.specs.Bytes.{Bytes, sameBytes}
+use Rattle.model.specs.Answer.{Answer, _>>=_, refuse}
+use Rattle.model.specs.Limits.{u64-max}
+use Rattle.model.specs.Record.{
+  Record,
+  functionsFound,
+  functionsHit,
+  branchData,
+  branchesFound,
+  branchesHit,
+  linesFound,
+  linesHit,
+}
+use Rattle.model.specs.Tags.{defaultTag}
+use Rattle.model.specs.Line.{fromField, takenField, lastBefore, readBody}
+use Rattle.record_parse.specs.declared.lines.Total.{Total}
+use Rattle.record_parse.specs.declared.lines.Total.the-variants as Ct
+use Rattle.record_parse.specs.declared.lines.TotalAnswer.{TotalAnswer}
+use Rattle.record_parse.specs.declared.lines.TotalAnswer.the-variants as CA
+use Rattle.record_parse.specs.Answers.{Answers}
+
+-- the answer for every BRDA body whose field 4 is at the front of rest
+pub record TakenRead (line block branch : ℕ) (rest : Bytes) (r : LineAnswer) : Type 0 where
+  pub is : (body : Bytes) → fromField 4 body ≡ some rest
+      → Answers [] r (takenField u64-max 4 body >>= λ taken. lastBefore 5 body (branchData line block branch taken))
+
+-- ---- the six kinds that hold one number
+
+abbrev pub countLent : Total → ℕ → LentRecord
+countLent Ct.FunctionsFound n = Lent.FunctionsFound n
+countLent Ct.FunctionsHit n = Lent.FunctionsHit n
+countLent Ct.BranchesFound n = Lent.BranchesFound n
+countLent Ct.BranchesHit n = Lent.BranchesHit n
+countLent Ct.LinesFound n = Lent.LinesFound n
+countLent Ct.LinesHit n = Lent.LinesHit n
+
+abbrev pub countMade : Total → ℕ → Record
+countMade Ct.FunctionsFound n = functionsFound n
+countMade Ct.FunctionsHit n = functionsHit n
+countMade Ct.BranchesFound n = branchesFound n
+countMade Ct.BranchesHit n = branchesHit n
+countMade Ct.LinesFound n = linesFound n
+countMade Ct.LinesHit n = linesHit n
+
+abbrev pub countKind : Total → Kind
+countKind Ct.FunctionsFound = Kd.FunctionsFound
+countKind Ct.FunctionsHit = Kd.FunctionsHit
+countKind Ct.BranchesFound = Kd.BranchesFound
+countKind Ct.BranchesHit = Kd.BranchesHit
+countKind Ct.LinesFound = Kd.LinesFound
+countKind Ct.LinesHit = Kd.LinesHit
+
+-- whether a tag is that of one of the six
+abbrev pub countIs : Bytes → TotalAnswer → Type 0
+countIs bytes (CA.Known kind) = sameBytes bytes (defaultTag (countKind kind)) ≡ true
+countIs bytes CA.Unknown = (kind : Total) → sameBytes bytes (defaultTag (countKind kind)) ≡ false
+
+pub record CountOf (bytes : Bytes) (r : TotalAnswer) : Type 0 where
+  pub is : countIs bytes r
+
+-- ---- a whole line
+
+-- the body of a line whose kind is known or not
+abbrev pub bodyIn : Option Kind → Bytes → Answer Record
+bodyIn known body = elim known [ none ↦ refuse UnknownRecord | some kind ↦ readBody kind body ]
+
+-- where the body starts in a line of n bytes, its colon at a position or, where there is none, at n
+unfoldable pub bodyAt : ℕ → ℕ → ℕ
+bodyAt n colon = if ltb colon n then colon + 1 else colon

@@ -1,0 +1,230 @@
+// A reader for each kind of line whose body has numbers. Each gets the line, its end trimmed, and where the body starts, and hands
+// the part from there, then the part after each comma, on to the field readers.
+ghost use mathlib.Core.Path.{_≡_};
+ghost use Prim.Native.Nat.{_≤_};
+ghost use lib.ListN.{length, drop};
+ghost use Rattle.model.specs.Line.{readBody, readOne};
+ghost use Rattle.model.specs.declared.Kind.the-variants as Kind;
+ghost use Rattle.scan_digits.specs.Word.{ShortRead};
+ghost use Rattle.record_parse.specs.Answers.{Answers};
+ghost use Rattle.record_parse.specs.Lines.{TakenRead, countLent, countMade, CountOf};
+use super::fields::checksum_field;
+use super::fields::number_field;
+use super::fields::number_refusal;
+use super::fields::refused;
+use super::fields::text_field;
+use model::Checksum;
+use model::Fault;
+use model::LineAnswer;
+use model::Record;
+use model::Taken;
+use scan::Number;
+use scan_digits::Short;
+
+const MAX_U32: u64 = 4294967295;
+
+const MAX_U64: u64 = 18446744073709551615;
+
+// The kinds that hold one number.
+pub(crate) enum Total {
+    FunctionsFound,
+    FunctionsHit,
+    BranchesFound,
+    BranchesHit,
+    LinesFound,
+    LinesHit,
+}
+
+pub(crate) enum TotalAnswer {
+    Known(Total),
+    Unknown,
+}
+
+// FN: a start line and a name.
+pub(crate) fn read_function_name(line: &[u8], at: usize) -> LineAnswer
+    requires { ⌜ at ≤ length (now line) ⌝ }
+    ensures { λ r. ⌜ Answers (now (line .entry)) r (readBody Kind.FunctionName (drop at (now (line .entry)))) ⌝ }
+{
+    let short = scan_digits::short_number(line, at);
+    let first = number_field(at, &line[at..], short, MAX_U32);
+    let Number::More { value, next } = first else {
+        return number_refusal(first, 1);
+    };
+    let start = value as u32;
+    let name = text_field(next, &line[next..]);
+    LineAnswer::Read(Record::FunctionName { start, name })
+}
+
+// FNDA: a count and a name.
+pub(crate) fn read_function_data(line: &[u8], at: usize) -> LineAnswer
+    requires { ⌜ at ≤ length (now line) ⌝ }
+    ensures { λ r. ⌜ Answers (now (line .entry)) r (readBody Kind.FunctionData (drop at (now (line .entry)))) ⌝ }
+{
+    let short = scan_digits::short_number(line, at);
+    let first = number_field(at, &line[at..], short, MAX_U64);
+    let Number::More { value: count, next } = first else {
+        return number_refusal(first, 1);
+    };
+    let name = text_field(next, &line[next..]);
+    LineAnswer::Read(Record::FunctionData { count, name })
+}
+
+// The end of a BRDA body: a taken count, which short tells if it is short, or "-" for none.
+fn read_taken(line: u32, block: u32, branch: u32, short: Short, rest: &[u8]) -> LineAnswer
+    requires { ⌜ ShortRead (now rest) short ⌝ }
+    ensures { λ r. ⌜ TakenRead line block branch (now (rest .entry)) r ⌝ }
+{
+    if let Short::Last(count) = short {
+        let taken = Taken::Given(count);
+        return LineAnswer::Read(Record::BranchData {
+            line,
+            block,
+            branch,
+            taken,
+        });
+    }
+    if scan::equal(rest, b"-") {
+        let taken = Taken::Absent;
+        return LineAnswer::Read(Record::BranchData {
+            line,
+            block,
+            branch,
+            taken,
+        });
+    }
+    if scan::starts_with(rest, b"-,") {
+        return refused(Fault::TooManyFields, 0);
+    }
+    let fourth = scan::read_number(rest, MAX_U64);
+    let Number::Last(count) = fourth else {
+        return number_refusal(fourth, 4);
+    };
+    let taken = Taken::Given(count);
+    LineAnswer::Read(Record::BranchData {
+        line,
+        block,
+        branch,
+        taken,
+    })
+}
+
+// BRDA: line, block, branch and a taken count.
+pub(crate) fn read_branch_data(line: &[u8], at: usize) -> LineAnswer
+    requires { ⌜ at ≤ length (now line) ⌝ }
+    ensures { λ r. ⌜ Answers (now (line .entry)) r (readBody Kind.BranchData (drop at (now (line .entry)))) ⌝ }
+{
+    let short = scan_digits::short_number(line, at);
+    let first = number_field(at, &line[at..], short, MAX_U32);
+    let Number::More {
+        value: number,
+        next,
+    } = first
+    else {
+        return number_refusal(first, 1);
+    };
+    let short = scan_digits::digit_number(line, next);
+    let second = number_field(next, &line[next..], short, MAX_U32);
+    let Number::More { value: block, next } = second else {
+        return number_refusal(second, 2);
+    };
+    let short = scan_digits::digit_number(line, next);
+    let third = number_field(next, &line[next..], short, MAX_U32);
+    let Number::More {
+        value: branch,
+        next,
+    } = third
+    else {
+        return number_refusal(third, 3);
+    };
+    let short = scan_digits::short_number(line, next);
+    read_taken(
+        number as u32,
+        block as u32,
+        branch as u32,
+        short,
+        &line[next..],
+    )
+}
+
+// DA: a line number, a count and perhaps a checksum.
+pub(crate) fn read_line_data(line: &[u8], at: usize) -> LineAnswer
+    requires { ⌜ at ≤ length (now line) ⌝ }
+    ensures { λ r. ⌜ Answers (now (line .entry)) r (readBody Kind.LineData (drop at (now (line .entry)))) ⌝ }
+{
+    let short = scan_digits::short_number(line, at);
+    let first = number_field(at, &line[at..], short, MAX_U32);
+    let Number::More { value, next } = first else {
+        return number_refusal(first, 1);
+    };
+    let number = value as u32;
+    let short = scan_digits::short_number(line, next);
+    let second = number_field(next, &line[next..], short, MAX_U64);
+    match second {
+        Number::Last(count) => LineAnswer::Read(Record::LineData {
+            line: number,
+            count,
+            checksum: Checksum::Absent,
+        }),
+        Number::More { value: count, next } => {
+            let checksum = checksum_field(next, &line[next..]);
+            LineAnswer::Read(Record::LineData {
+                line: number,
+                count,
+                checksum,
+            })
+        }
+        Number::Fault(fault) => refused(fault, 2),
+    }
+}
+
+// The record of a kind that holds one number.
+fn total_record(kind: Total, n: u32) -> Record
+    ensures { λ r. ⌜ r ≡ countLent kind n ⌝ }
+{
+    match kind {
+        Total::FunctionsFound => Record::FunctionsFound(n),
+        Total::FunctionsHit => Record::FunctionsHit(n),
+        Total::BranchesFound => Record::BranchesFound(n),
+        Total::BranchesHit => Record::BranchesHit(n),
+        Total::LinesFound => Record::LinesFound(n),
+        Total::LinesHit => Record::LinesHit(n),
+    }
+}
+
+// FNF, FNH, BRF, BRH, LF, LH: one number.
+pub(crate) fn read_total(kind: Total, line: &[u8], at: usize) -> LineAnswer
+    requires { ⌜ at ≤ length (now line) ⌝ }
+    ensures { λ r. ⌜ Answers (now (line .entry)) r (readOne (countMade kind) (drop at (now (line .entry)))) ⌝ }
+{
+    let short = scan_digits::short_number(line, at);
+    let first = number_field(at, &line[at..], short, MAX_U32);
+    let Number::Last(value) = first else {
+        return number_refusal(first, 1);
+    };
+    LineAnswer::Read(total_record(kind, value as u32))
+}
+
+// The kind of a tag, if it is one that holds one number.
+pub(crate) fn total_of(tag: &[u8]) -> TotalAnswer
+    ensures { λ r. ⌜ CountOf (now (tag .entry)) r ⌝ }
+{
+    if scan::equal(tag, b"LF") {
+        return TotalAnswer::Known(Total::LinesFound);
+    }
+    if scan::equal(tag, b"LH") {
+        return TotalAnswer::Known(Total::LinesHit);
+    }
+    if scan::equal(tag, b"FNF") {
+        return TotalAnswer::Known(Total::FunctionsFound);
+    }
+    if scan::equal(tag, b"FNH") {
+        return TotalAnswer::Known(Total::FunctionsHit);
+    }
+    if scan::equal(tag, b"BRF") {
+        return TotalAnswer::Known(Total::BranchesFound);
+    }
+    if scan::equal(tag, b"BRH") {
+        return TotalAnswer::Known(Total::BranchesHit);
+    }
+    TotalAnswer::Unknown
+}

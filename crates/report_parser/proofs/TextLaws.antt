@@ -1,0 +1,68 @@
+-- The whole text: the loop's start, its turns and its end. Assumes nothing.
+use Prim.Native.Nat.{ℕ, _+_, _-_, _*_, _^_, _≤_, _<_}
+use native.Mathlib.Omega.{arith}
+use mathlib.Core.Path.{_≡_, refl, sym, ap, _∙_}
+use mathlib.Core.Bool.{Bool, true, false}
+use mathlib.Core.List.{List, []}
+use lib.ListN.{length}
+use mir.Val.{Fits}
+use mir.Syntax.{w64}
+use Rattle.model.specs.declared.Refusal.{Refusal}
+use Rattle.model.specs.Answer.{accepted}
+use Rattle.model.specs.Reading.{outside}
+use Rattle.section.specs.declared.State.{State}
+use Rattle.section.specs.Reading.{SectionRoom, stateOf, HoldsState}
+use Rattle.section.proofs.OtherLaws.{main-few}
+use Rattle.report_parser.specs.declared.LineStep.{LineStep}
+use Rattle.report_parser.specs.declared.LineStep.the-variants as L
+use Rattle.report_parser.specs.declared.TextAnswer.{TextAnswer}
+use Rattle.report_parser.specs.declared.TextAnswer.the-variants as T
+use Rattle.report_parser.specs.Reader.{leftAt, Progress, AfterLine, LineDone, Ended, TextRead}
+use Rattle.report_parser.proofs.LoopLaws.{start-progress, done-inside, done-outside}
+
+-- before the first line
+pub text-start : (text ws : List ℕ) (index limit from : ℕ) (st : State) → SectionRoom ws index limit
+    → ((text words : List ℕ) (index limit : ℕ) → SectionRoom words index limit → HoldsState text words index limit st)
+    → ((text words : List ℕ) (index : ℕ) → stateOf text words index st ≡ outside [] []) → Progress text ws index limit from from 1 st
+text-start text ws index limit from st room valid state = start-progress text ws index limit from st (valid text ws index limit room) (state text ws index)
+
+-- a turn
+module _ (text ws ws′ : List ℕ) (index limit from at number : ℕ) (st : State) (p : Progress text ws index limit from at number st) (got : LineStep)
+    (done : LineDone text ws ws′ index limit at number st got) where
+  pub text-refused : (r : Refusal) → got ≡ L.Refused r → TextRead text ws′ index limit from (T.Refused r)
+  text-refused r e =
+      let t : AfterLine text ws′ index limit at number (leftAt text ws index limit at number st) (L.Refused r) = rw e at (done .after) in
+      record { is = sym t ∙ p .left; held = tt }
+
+  module _ (st′ : State) (next : ℕ) (e : got ≡ L.Next st′ next) where
+    turned : AfterLine text ws′ index limit at number (leftAt text ws index limit at number st) (L.Next st′ next)
+    turned = rw e at (done .after)
+
+    pub text-next : Progress text ws′ index limit from next (number + 1) st′
+    text-next = record { valid = turned .0; left = turned .1 ∙ p .left; few = omega (arith, p .few, turned .2) }
+
+    -- less of the text is left
+    pub text-less : length text + 1 - next < length text + 1 - at
+    text-less = omega (arith, turned .2, turned .3)
+
+    pub text-most : next ≤ length text + 1
+    text-most = turned .3
+
+-- a line's number fits a word
+pub number-fits : (text ws : List ℕ) (index limit from at number : ℕ) (st : State) → Progress text ws index limit from at number st → at < length text
+    → length text * 1 < 2 ^ 63 → Fits w64 (number + 1)
+number-fits text ws index limit from at number st p h b = record { fits = omega (arith, p .few) }
+
+-- past the last line
+pub text-done : (text ws ws′ : List ℕ) (index limit from at number : ℕ) (st : State) (r : TextAnswer) → Progress text ws index limit from at number st
+    → length text ≤ at → Ended text ws ws′ index st number r → TextRead text ws′ index limit from r
+text-done text ws ws′ index limit from at number st r p end ε = go (st .inside) refl
+  where
+    go : (b : Bool) → st .inside ≡ b → TextRead text ws′ index limit from r
+    go true i = rw (ε .is, i) (record { is = sym (done-inside text ws index limit at number st end i) ∙ p .left; held = tt })
+    go false i =
+        let σ = ε .settled i in
+        rw (ε .is, i) (record {
+          is = ap accepted (σ .entries) ∙ sym (done-outside text ws index limit at number st end i) ∙ p .left;
+          held = (σ .sections, p .valid .space .most, main-few (p .valid) σ);
+        })

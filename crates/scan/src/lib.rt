@@ -1,0 +1,147 @@
+// Bytes searched, compared and trimmed, and numbers read. These are the words "bytes 10 and 13 are dropped" and "a number may begin with
+// one '+'" of document 01's paragraph "One line".
+ghost use mathlib.Core.Path.{_≡_};
+ghost use Prim.Native.Nat.{_≤_, _<_};
+ghost use lib.ListN.{length, take};
+ghost use Rattle.model.specs.Bytes.{before, sameBytes};
+ghost use Rattle.model.specs.Line.{trimmed};
+ghost use Rattle.scan.specs.Scan.{isEnd, signLen, withDigits, Above, NumberRead};
+use model::Fault;
+
+// A number at the front of a text: the text ends after it, or a comma follows and next is past the comma; or its fault.
+pub enum Number {
+    Last(u64),
+    More { value: u64, next: usize },
+    Fault(Fault),
+}
+
+// The index of the first byte b, or the length where there is none.
+pub fn find(s: &[u8], b: u8) -> usize
+    ensures { λ r. ⌜ (r ≡ length (before b (now (s .entry)))) × (r ≤ length (now (s .entry))) ⌝ }
+{
+    let mut i = 0;
+    while i < s.len() {
+        if s[i] == b {
+            return i;
+        }
+        i += 1;
+    }
+    i
+}
+
+pub fn equal(a: &[u8], b: &[u8]) -> bool
+    ensures { λ r. ⌜ r ≡ sameBytes (now (a .entry)) (now (b .entry)) ⌝ }
+{
+    if a.len() != b.len() {
+        return false;
+    }
+    let mut i = 0;
+    while i < a.len() {
+        if a[i] != b[i] {
+            return false;
+        }
+        i += 1;
+    }
+    true
+}
+
+// Whether s starts with t.
+pub fn starts_with(s: &[u8], t: &[u8]) -> bool
+    ensures { λ r. ⌜ r ≡ sameBytes (take (length (now (t .entry))) (now (s .entry))) (now (t .entry)) ⌝ }
+{
+    let n = t.len();
+    if s.len() < n {
+        return false;
+    }
+    equal(&s[..n], t)
+}
+
+fn is_end(b: u8) -> bool
+    ensures { λ r. ⌜ r ≡ isEnd b ⌝ }
+{
+    if b == b'\n' {
+        return true;
+    }
+    b == b'\r'
+}
+
+// The line without bytes 10 and 13 at its end.
+pub fn trim(s: &[u8]) -> &[u8]
+    ensures { λ r. ⌜ now r ≡ trimmed (now (s .entry)) ⌝ }
+{
+    let mut n = s.len();
+    while 0 < n {
+        if is_end(s[n - 1]) {
+            n -= 1;
+        } else {
+            return &s[..n];
+        }
+    }
+    &s[..n]
+}
+
+// How many bytes a number's sign takes.
+fn sign_len(s: &[u8]) -> usize
+    ensures { λ r. ⌜ (r ≡ signLen (now (s .entry))) × (r ≤ length (now (s .entry))) ⌝ }
+{
+    if s.len() == 0 {
+        return 0;
+    }
+    if s[0] == b'+' {
+        return 1;
+    }
+    0
+}
+
+// The number whose digits are those from start to end; without a digit it is empty, or bad after a sign.
+fn with_digits(start: usize, end: usize, number: Number) -> Number
+    ensures { λ r. ⌜ r ≡ withDigits start end number ⌝ }
+{
+    if start < end {
+        return number;
+    }
+    if start == 0 {
+        return Number::Fault(Fault::EmptyNumber);
+    }
+    Number::Fault(Fault::InvalidDigit)
+}
+
+// Whether the value with one more digit is above max. Most digits need the first test only.
+fn is_above(value: u64, digit: u64, max: u64) -> bool
+    requires { ⌜ digit ≤ 9 ⌝ }
+    ensures { λ r. ⌜ Above value digit max r ⌝ }
+{
+    if value < max / 10 {
+        return false;
+    }
+    if max / 10 < value {
+        return true;
+    }
+    max - value * 10 < digit
+}
+
+// The number at the front of s, up to the first comma or the end; it is at most max.
+pub fn read_number(s: &[u8], max: u64) -> Number
+    ensures { λ r. ⌜ NumberRead max (now (s .entry)) r ⌝ }
+{
+    let start = sign_len(s);
+    let mut value = 0;
+    let mut i = start;
+    while i < s.len() {
+        let b = s[i];
+        let digit = std::num::wrapping_sub_u8(b, b'0') as u64;
+        if 9 < digit {
+            if b == b',' {
+                let next = i + 1;
+                return with_digits(start, i, Number::More { value, next });
+            }
+            return Number::Fault(Fault::InvalidDigit);
+        }
+        if is_above(value, digit, max) {
+            return Number::Fault(Fault::NumberOverflow);
+        }
+        value = value * 10 + digit;
+        i += 1;
+    }
+    with_digits(start, i, Number::Last(value))
+}

@@ -1,0 +1,259 @@
+-- Late sections: their places among the settled ones, and what comes of settling them. Assumes nothing.
+use mathlib.Core.Path.{_≡_, refl, sym, ap, subst, _∙_}
+use mathlib.Core.Logic.{_≢_}
+use mathlib.Core.Bool.{Bool, true, false}
+use mathlib.Core.List.{List, map}
+use Prim.Native.Nat.{ℕ, zero, suc, _+_, _-_, _≤_, _<_, compare, Ordering, Ordering·lt, Ordering·eq, Ordering·gt}
+use native.Mathlib.Omega.{arith}
+use lib.Dec.{isEq}
+use lib.ListN.{length, set, length-set}
+use lib.Seq.{getD-set-same, getD-set-other}
+use Rattle.table.specs.declared.Row.{Row}
+use Rattle.table.specs.Places.{tabulate, Unchanged, PartitionPoint}
+use Rattle.table.specs.Rows.{word, UnchangedOutside}
+use Rattle.table.specs.Store.{Store, row}
+use Rattle.table.proofs.PlaceLaws.{by-eq, by-lt}
+use Rattle.table.proofs.StoreLaws.{behind-store, behind-rows}
+use Rattle.table.proofs.TabulateLaws.{map-tabulate}
+use Rattle.ordmap.specs.Compare.{lex}
+use Rattle.ordmap.specs.Result.{accepted}
+use Rattle.ordmap.proofs.Orderings.{is-eq}
+use Rattle.ordmap.proofs.Results.{impossible, accepted-inj}
+use Rattle.model.specs.Order.{if_then_else_}
+use Rattle.model.specs.Lists.{filter}
+use Rattle.model.specs.Bytes.{Bytes}
+use Rattle.model.specs.Report.{SectionKey, compareSections}
+use Rattle.model.proofs.KeyOrder.{sections-order}
+use Rattle.table_item.specs.Items.{kindOf}
+use Rattle.table_interleave.specs.Interleaved.{Ascending, Interleaved, InsertPositions}
+use Rattle.table_interleave.proofs.InterleavedLaws.{interleaved-as, interleaved-each, interleaved-pairs}
+use Rattle.table_interleave.proofs.PositionLaws.{woven-pass}
+use Rattle.table_tombstone.specs.Live.{isLive}
+use Rattle.table_section.specs.Sections.{entryOf, keyOf, RowInBounds, rowsFrom, SectionsFrom, isPast, PastRow}
+use Rattle.table_section.proofs.RangeLaws.{goes-greater}
+use Rattle.table_item.proofs.AllLaws.{all-tabulate}
+use Rattle.table_section.proofs.SpliceLaws.{less-not-greater}
+use Rattle.section_commit.specs.Commit.{mergeSorted, mergeReports, liveEntriesOf, keptAt, InParts, PositionOf, PositionsWritten, SameReport}
+use Rattle.section_commit.proofs.MergeLaws.{pass-merge}
+use Rattle.section_commit.proofs.HeldLaws.{position-as, parts-as, kept-length, live-entries-length, none-delta, kept-main}
+use Rattle.section_commit.proofs.MarkLaws.{markOf, compareMarks, marks-order, Front, live-entries-both}
+use Rattle.section_commit.proofs.PairLaws.{pairs-tabulate}
+
+-- ---- the place of a late entry
+
+-- an own row says it
+pub position-cached : {text ws : List ℕ} {index used settled late dead : ℕ} (j : ℕ) {a : Row} → InParts text ws index used settled late dead → j < late
+    → a ≡ rowsFrom ws index settled j → kindOf a ≡ 0 → PositionOf text ws index settled j (a .k1)
+position-cached {text} {ws} {index} {used} {settled} j π l e h =
+    subst (λ (b : Row). PositionOf text ws index settled j (b .k1)) (sym e) (π .positions j l (ap kindOf (sym e) ∙ h))
+
+-- an entry of the section of the one before it
+pub position-again : (text : Bytes) (ws : List ℕ) (index settled i j : ℕ) {r : ℕ} {a b : Row} → a ≡ rowsFrom ws index settled j
+    → b ≡ rowsFrom ws index settled i
+    → true ≡ isEq (compareSections (keyOf text a) (keyOf text b)) → PositionOf text ws index settled i r → PositionOf text ws index settled j r
+position-again text ws index settled i j {r} {a} {b} p q e c =
+    let z : keyOf text (rowsFrom ws index settled i) ≡ keyOf text (rowsFrom ws index settled j) =
+    ap (keyOf text) (sym q) ∙ sym (sections-order .equal (is-eq (compareSections (keyOf text a) (keyOf text b)) (sym e))) ∙ ap (keyOf text) p in
+    subst (λ (k : SectionKey). PartitionPoint (PastRow false text (rowsFrom ws index 0) k) settled r) z c
+
+-- an entry as the store handed it out
+pub position-row : (text : Bytes) (ws : List ℕ) (index settled j : ℕ) {r : ℕ} {a : Row} → a ≡ rowsFrom ws index settled j
+    → PartitionPoint (PastRow false text (rowsFrom ws index 0) (keyOf text a)) settled r → PositionOf text ws index settled j r
+position-row text ws index settled j {r} p c = subst (λ (a : Row). PartitionPoint (PastRow false text (rowsFrom ws index 0) (keyOf text a)) settled r) p c
+
+-- ---- the loop: the places of the first j are noted
+
+pub record WritingPositions (text ws₀ ws : List ℕ) (index spare settled late j : ℕ) : Type 0 where
+  pub size : length ws ≡ length ws₀
+  pub most : j ≤ late
+  pub kept : UnchangedOutside ws₀ ws spare (spare + late)
+  pub places : (i : ℕ) → i < j → PositionOf text ws₀ index settled i (word ws (spare + i))
+
+pub writing-none : (text ws : List ℕ) (index spare settled late : ℕ) → WritingPositions text ws ws index spare settled late 0
+writing-none text ws index spare settled late = record {
+  size = refl;
+  most = omega arith;
+  kept = record { below = λ k l. refl; above = λ k l. refl };
+  places = λ i l. absurd (omega arith);
+}
+
+module _ {text ws₀ ws : List ℕ} {index used spare settled late dead j : ℕ} (π : InParts text ws₀ index used settled late dead) (b : index + used ≤ spare)
+    (η : WritingPositions text ws₀ ws index spare settled late j) where
+  same : Unchanged (row ws₀ index) (row ws index) 0 (settled + late)
+  same k l h = behind-rows (π .main .store) (η .kept) b k l (omega (arith, π .delta .room))
+
+  later : Unchanged (row ws₀ index) (row ws index) settled (settled + late)
+  later k l h = same k (omega arith) h
+
+  same-keys : (k : ℕ) → k < settled → keyOf text (rowsFrom ws index 0 k) ≡ keyOf text (rowsFrom ws₀ index 0 k)
+  same-keys k l = ap (keyOf text) (same (0 + k) (omega arith) (omega arith))
+
+  pub writing-parts : InParts text ws index used settled late dead
+  writing-parts = parts-as ws used π (behind-store (π .main .store) (η .kept) b (η .size)) (π .delta .room) same
+
+  -- the one before is noted
+  pub writing-last : j < late → 0 < j → PositionOf text ws index settled (j - 1) (word ws (spare + (j - 1)))
+  writing-last l z = position-as ws π same-keys later (j - 1) (omega arith) (η .places (j - 1) (omega arith))
+
+  pub writing-next : (r : ℕ) → j < late → spare + late ≤ length ws₀ → PositionOf text ws index settled j r
+      → WritingPositions text ws₀ (set ws (spare + j) r) index spare settled late (j + 1)
+  writing-next r l room c = record {
+    size = simp length-set (η .size);
+    most = omega arith;
+    kept = record {
+      below = λ k h. getD-set-other ws (spare + j) k r 0 (omega arith) ∙ η .kept .below k h;
+      above = λ k h. getD-set-other ws (spare + j) k r 0 (omega arith) ∙ η .kept .above k h;
+    };
+    places = λ i h. by-eq i j
+        (λ e. let z : word (set ws (spare + j) r) (spare + i) ≡ r =
+        ap (λ (k : ℕ). word (set ws (spare + j) r) (spare + k)) e ∙ getD-set-same ws (spare + j) r 0 (omega (arith, η .size)) in
+        rw (z, e) (position-as ws₀ writing-parts (λ k p. sym (same-keys k p)) (λ k p q. sym (later k p q)) j l c))
+        (λ e. let z : word (set ws (spare + j) r) (spare + i) ≡ word ws (spare + i) = getD-set-other ws (spare + j) (spare + i) r 0 (omega arith) in
+        rw z (η .places i (omega arith)));
+  }
+
+pub writing-done : {text ws₀ ws : List ℕ} {index spare settled late j : ℕ} → WritingPositions text ws₀ ws index spare settled late j → late ≤ j
+    → PositionsWritten text ws₀ ws index spare settled late
+writing-done η h = record { kept = η .kept; places = λ i l. η .places i (omega arith) }
+
+-- ---- settled
+
+not-past : (o : Ordering) → isPast false o ≡ false → o ≢ Ordering·gt
+not-past Ordering·lt g h = impossible cc
+not-past Ordering·eq g h = impossible cc
+not-past Ordering·gt g h = impossible cc
+
+-- a row that is not less than the key of a living one, and dead where it has that key, comes behind it
+mark-behind : (o : Ordering) (b : Bool) → o ≢ Ordering·gt → (o ≡ Ordering·eq → b ≡ false) → lex o (compare 0 (if b then 0 else 1)) ≡ Ordering·lt
+mark-behind Ordering·lt b g h = refl
+mark-behind Ordering·eq b g h = rw (h refl) refl
+mark-behind Ordering·gt b g h = absurd (g refl)
+
+module _ {text ws ws₁ : List ℕ} {index used spare settled late dead : ℕ} (π : InParts text ws index used settled late dead)
+    (ν : PositionsWritten text ws ws₁ index spare settled late) where
+  abbrev position : ℕ → ℕ
+  position j = word ws₁ (spare + j)
+
+  abbrev x : ℕ → Row
+  x i = rowsFrom ws index 0 i
+
+  abbrev y : ℕ → Row
+  y j = rowsFrom ws index settled j
+
+  past : (j i : ℕ) → j < late → i < position j → compareSections (keyOf text (x i)) (keyOf text (y j)) ≡ Ordering·lt
+  past j i l m = sections-order .less (goes-greater _ (ν .places j l .past i m))
+
+  rest : (j i : ℕ) → j < late → position j ≤ i → i < settled → compareSections (keyOf text (y j)) (keyOf text (x i)) ≢ Ordering·gt
+  rest j i l m h = not-past _ (ν .places j l .rest i m h)
+
+  pub cached-rising : Ascending position settled late
+  cached-rising = record {
+    most = λ j l. ν .places j l .most;
+    rising = λ i j l h. by-eq i j (λ e. omega (arith, ap position e)) (λ e. by-lt (position j) (position i) (λ z. absurd (back i j (omega arith) h z)) (λ z. z));
+  }
+    where
+      -- an entry between the two places would come before itself
+      back : (i j : ℕ) → i < j → j < late → position j < position i → ⊥
+      back i j l h z =
+          let a : compareSections (keyOf text (x (position j))) (keyOf text (y i)) ≡ Ordering·lt = past i (position j) (omega arith) z in
+          rest j (position j) h (omega arith) (omega (arith, ν .places i (let q : i < late = omega arith in q) .most))
+          (up (compareSections (keyOf text (y i)) (keyOf text (y j))) refl a)
+        where
+          up : (o : Ordering) → compareSections (keyOf text (y i)) (keyOf text (y j)) ≡ o
+              → compareSections (keyOf text (x (position j))) (keyOf text (y i)) ≡ Ordering·lt
+              → compareSections (keyOf text (y j)) (keyOf text (x (position j))) ≡ Ordering·gt
+          up Ordering·lt e a = sections-order .greater (sections-order .trans a e)
+          up Ordering·eq e a = let k : keyOf text (y i) ≡ keyOf text (y j) = sections-order .equal e in rw k at (sections-order .greater a)
+          up Ordering·gt e a = absurd (π .delta .rows .ordered i j l h e)
+
+  same-key : (i j : ℕ) → compareSections (keyOf text (y j)) (keyOf text (x i)) ≡ Ordering·eq → i < settled → j < late → isLive (x i) ≡ false
+  same-key i j e l h = go (isLive (x i)) refl
+    where
+      go : (b : Bool) → isLive (x i) ≡ b → isLive (x i) ≡ false
+      go true t = absurd (π .apart i j l t h e)
+      go false t = t
+
+  positions : InsertPositions (markOf text) compareMarks x y position settled late
+  positions = record {
+    most = λ j l. ν .places j l .most;
+    past = λ j i l m. rw (past j i l m);
+    rest = λ j i l m h. rw (π .live j l) (mark-behind (compareSections (keyOf text (y j)) (keyOf text (x i))) (isLive (x i)) (rest j i l m h)
+        (λ e. same-key i j e h l));
+  }
+
+  front : (i j : ℕ) → i < j → j < settled → Front text (x i) (x j)
+  front i j l h d a = go (compareSections (keyOf text (x i)) (keyOf text (x j))) refl
+    where
+      go : (o : Ordering) → compareSections (keyOf text (x i)) (keyOf text (x j)) ≡ o → compareSections (keyOf text (x i)) (keyOf text (x j)) ≡ Ordering·lt
+      go Ordering·lt e = e
+      go Ordering·eq e = let z : true ≡ false = sym (π .front i j l h e a) ∙ d in impossible cc
+      go Ordering·gt e = absurd (π .main .rows .ordered i j l h e)
+
+  module _ {ws₂ : List ℕ} (b : index + used ≤ spare) (σ : Store ws₂ index used)
+      (ω : Interleaved (row ws₁ index) (row ws₂ index) (λ j. word ws₁ (spare + j)) used 0 settled late) where
+    abbrev z : ℕ → Row
+    z k = rowsFrom ws₂ index 0 k
+
+    room : 0 + settled + late ≤ used
+    room = omega (arith, π .delta .room)
+
+    woven : Interleaved (row ws index) (row ws₂ index) position used 0 settled late
+    woven = interleaved-as room (λ k l. behind-rows (π .main .store) (ν .kept) b k (omega arith) l) (λ k l. refl) ω
+
+    second : (j : ℕ) → row ws index (0 + settled + j) ≡ row ws index (settled + j)
+    second j = ap (row ws index) (let e : 0 + settled + j ≡ settled + j = omega arith in e)
+
+    -- the rows after are those of both parts
+    mixed : tabulate z (settled + late) ≡ mergeSorted (markOf text) compareMarks (tabulate x settled) (tabulate y late)
+    mixed =
+        accepted-inj (sym (woven-pass (λ (r : Row). r) woven {x = x} {y = y} {z = z} (λ i l. refl) (λ j l. sym (second j)) (λ k l. refl)
+        (markOf text) compareMarks (λ e f. accepted e) marks-order positions cached-rising)
+        ∙ pass-merge (markOf text) compareMarks (tabulate x settled) (tabulate y late))
+
+    report : liveEntriesOf text z (settled + late) ≡ keptAt text ws index settled late
+    report =
+        ap (λ (l : List Row). map (entryOf text) (filter isLive l)) mixed
+        ∙ live-entries-both text (tabulate x settled) (tabulate y late) (pairs-tabulate (Front text) x settled front)
+        (all-tabulate (λ r. isLive r ≡ true) y late (π .live))
+        ∙ ap (mergeReports (liveEntriesOf text x settled)) (map-tabulate (entryOf text) y late)
+
+    abbrev InOrder : Row → Row → Type 0
+    InOrder a b = compareSections (keyOf text a) (keyOf text b) ≢ Ordering·gt
+
+    whole : (m : ℕ) → 0 ≤ m → m < 0 + settled + late → RowInBounds text (row ws index m)
+    whole m l h = by-lt m settled
+        (λ z. let e : 0 + m ≡ m = omega arith in rw e at (π .main .rows .whole m z))
+        (λ z. let e : settled + (m - settled) ≡ m = omega arith in rw e at (π .delta .rows .whole (m - settled) (omega arith)))
+
+    ordered : (k l : ℕ) → k < l → l < settled + late → InOrder (z k) (z l)
+    ordered = interleaved-pairs cached-rising woven InOrder (π .main .rows .ordered)
+        (λ i j l h. rw (second i, second j) (π .delta .rows .ordered i j l h))
+        (λ i j l h. rw (second j) (less-not-greater (past j i l h)))
+        (λ i j l h m. rw (second j) (rest j i l h m))
+
+    -- of two rows of one section, the first lives if the second does
+    abbrev LivesToo : Row → Row → Type 0
+    LivesToo a b = compareSections (keyOf text a) (keyOf text b) ≡ Ordering·eq → isLive b ≡ true → isLive a ≡ true
+
+    fronts : (k l : ℕ) → k < l → l < settled + late → LivesToo (z k) (z l)
+    fronts = interleaved-pairs cached-rising woven LivesToo (π .front)
+        (λ i j l h e a. rw (second i) (π .live i (omega arith)))
+        (λ i j l h. rw (second j) (λ e a. let q : Ordering·lt ≡ Ordering·eq = sym (past j i l h) ∙ e in impossible cc))
+        (λ i j l h m e a. rw (second j) (π .live j l))
+
+    sections : SectionsFrom text ws₂ index used 0 (settled + late)
+    sections = record {
+      store = σ;
+      room = omega (arith, room);
+      rows = record {
+        whole = λ k l. interleaved-each cached-rising woven (RowInBounds text) whole (0 + k) (omega arith) (omega arith);
+        ordered = ordered;
+      };
+    }
+
+    pub settled-all : SameReport text ws ws₂ index used (record { main = settled; delta = late; tombstones = dead })
+        (record { main = settled + late; delta = 0; tombstones = dead })
+    settled-all = record {
+      report = kept-main text ws₂ index (settled + late) ∙ report;
+      held = none-delta sections fronts (omega (arith, live-entries-length text z (settled + late), ap length report, kept-length π));
+    }

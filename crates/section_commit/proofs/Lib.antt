@@ -1,0 +1,9 @@
+pub mod PairLaws
+pub mod MergeLaws
+pub mod HeldLaws
+pub mod MarkLaws
+pub mod DeltaLaws
+pub mod CommittedLaws
+pub mod KeptLaws
+pub mod LastLaws
+pub mod CompactLaws

@@ -1,0 +1,119 @@
+-- The open section with its queue: how many items it has, and that it stays where its rows stay. Assumes nothing.
+use mathlib.Core.Path.{_≡_, sym, ap, ap₂, _∙_}
+use mathlib.Core.List.{List, [], _∷_, _++_}
+use Prim.Native.Nat.{ℕ, _+_, _-_, _≤_, _<_}
+use native.Mathlib.Omega.{arith}
+use lib.ListN.{length}
+use Rattle.table.specs.Places.{tabulate, Unchanged}
+use Rattle.table.specs.Rows.{UnchangedOutside}
+use Rattle.table.specs.Store.{row, Store}
+use Rattle.table.proofs.PlaceLaws.{by-lt}
+use Rattle.table.proofs.TabulateLaws.{length-tabulate, tabulate-cong, tabulate-split}
+use Rattle.model.specs.Report.{Item}
+use Rattle.table_item.specs.declared.Found.the-variants.{Insert}
+use Rattle.table_item.specs.Items.{itemOf, ItemRow}
+use Rattle.table_item.specs.SortedItems.{itemAt, itemFrom, itemsAt, place}
+use Rattle.section_upsert.specs.MainDelta.{mergeItems, allAt, MainDelta}
+use Rattle.section_upsert.proofs.RangeLaws.{same-items, same-open}
+use Rattle.section_upsert.proofs.UpsertLaws.{parts-length, none-delta}
+use Rattle.section_tail.specs.declared.OpenSizes.{OpenSizes}
+use Rattle.section_tail.specs.Tail.{insertAll, rowsOf, endOf, itemsOf, OpenSection}
+use Rattle.section_tail.proofs.TailLaws.{inserted-length, inserted-append, inserted-sorted}
+
+-- ---- counts
+
+-- there is a row for each item
+pub held-length : {text ws : List ℕ} {index used spare at : ℕ} {s : OpenSizes} → OpenSection text ws index used spare at s
+    → length (itemsOf text ws index at s) ≤ rowsOf s
+held-length {text} {ws} {index} {used} {spare} {at} {s} κ =
+    omega (
+      arith,
+      inserted-length (itemsAt text ws index (at + s .main + s .delta) (s .tail)) (allAt text ws index at (s .main) (s .delta)),
+      parts-length (κ .parts),
+      length-tabulate (itemFrom text ws index (at + s .main + s .delta)) (s .tail),
+    )
+
+-- the last of i + 1 items
+pub items-last : (f : ℕ → Item) (i : ℕ) → tabulate f (i + 1) ≡ tabulate f i ++ f i ∷ []
+unfolding tabulate
+items-last f i = tabulate-split f i 1 ∙ ap (λ (k : ℕ). tabulate f i ++ f k ∷ []) (let z : i + 0 ≡ i = omega arith in z)
+
+-- ---- where nothing is queued
+
+pub none-inserted : (text ws : List ℕ) (index at : ℕ) (s : OpenSizes) → s .tail ≡ 0 → itemsOf text ws index at s ≡ allAt text ws index at (s .main) (s .delta)
+unfolding insertAll tabulate
+none-inserted text ws index at s z = rw z
+
+-- each row is an item
+pub held-exact : {text ws : List ℕ} {index used spare at : ℕ} {s : OpenSizes} → OpenSection text ws index used spare at s → s .tail ≡ 0
+    → length (itemsOf text ws index at s) ≡ rowsOf s
+held-exact {text} {ws} {index} {used} {spare} {at} {s} κ z = ap length (none-inserted text ws index at s z) ∙ omega (arith, parts-length (κ .parts))
+
+pub inserted-none : {text ws : List ℕ} {index used spare at : ℕ} (s : OpenSizes) → s .tail ≡ 0 → MainDelta text ws index used spare at (s .main) (s .delta)
+    → OpenSection text ws index used spare at s
+inserted-none s z π = record {
+  parts = π;
+  alone = λ h. absurd (h z);
+  room = omega (arith, π .delta .room);
+  inner = λ k l. absurd (omega arith);
+}
+
+-- ---- where nothing is recent
+
+module _ {text ws : List ℕ} {index used spare at : ℕ} {s : OpenSizes} (κ : OpenSection text ws index used spare at s) (z : s .delta ≡ 0) where
+  -- the settled and the queued rows stand one behind the other
+  pub all-inner : (k : ℕ) → k < s .main + s .tail → ItemRow text (row ws index (at + k))
+  all-inner k l =
+      by-lt k (s .main)
+      (λ h. κ .parts .main .inner k h)
+      (λ h. let e : at + k ≡ at + s .main + s .delta + (k - s .main) = omega arith in rw e (κ .inner (k - s .main) (omega arith)))
+
+  -- and are the items, entered one after the other
+  pub all-inserted : insertAll [] (itemsAt text ws index at (s .main + s .tail)) ≡ itemsOf text ws index at s
+  all-inserted =
+      ap (insertAll []) (tabulate-split (itemFrom text ws index at) (s .main) (s .tail))
+      ∙ inserted-append (itemsAt text ws index at (s .main)) (tabulate (λ k. itemFrom text ws index at (s .main + k)) (s .tail)) []
+      ∙ ap₂ insertAll (inserted-sorted (itemsAt text ws index at (s .main)) (κ .parts .main .sorted) ∙ sym (none-delta text ws index at (s .main) z))
+      (tabulate-cong (λ k. itemFrom text ws index at (s .main + k)) (itemFrom text ws index (at + s .main + s .delta)) (s .tail)
+      (λ k l. ap (itemAt text ws index) (let e : at + (s .main + k) ≡ at + s .main + s .delta + k = omega arith in e)))
+
+-- ---- rows that stay
+
+module _ (text ws ws′ : List ℕ) (index : ℕ) where
+  same-all : (at n p : ℕ) → Unchanged (row ws index) (row ws′ index) 0 (at + n + p) → allAt text ws′ index at n p ≡ allAt text ws index at n p
+  same-all at n p s =
+      ap₂ mergeItems (same-items text ws ws′ index at n (λ k a b. s k (omega arith) (omega arith)))
+      (same-items text ws ws′ index (at + n) p (λ k a b. s k (omega arith) (omega arith)))
+
+  same-parts : {used spare : ℕ} (used′ at n p : ℕ) → MainDelta text ws index used spare at n p → Store ws′ index used′ → at + n + p ≤ used′
+      → Unchanged (row ws index) (row ws′ index) 0 (at + n + p)
+      → UnchangedOutside ws ws′ 0 spare → MainDelta text ws′ index used′ spare at n p
+  same-parts {spare = spare} used′ at n p π σ l s κ =
+      record {
+        main = same-open text ws ws′ index at n low used′ (π .main) σ (omega arith);
+        delta = same-open text ws ws′ index (at + n) p high used′ (π .delta) σ l;
+        positions = λ j m. ap₂ place (ap (itemOf text) (s (at + n + j) (omega arith) (omega arith))) (same-items text ws ws′ index at n low)
+            ∙ π .positions j m
+            ∙ ap Insert (sym (κ .above (spare + j) (omega arith)));
+      }
+    where
+      low : Unchanged (row ws index) (row ws′ index) at (at + n)
+      low k a b = s k (omega arith) (omega arith)
+
+      high : Unchanged (row ws index) (row ws′ index) (at + n) (at + n + p)
+      high k a b = s k (omega arith) b
+
+  module _ (at : ℕ) (z : OpenSizes) (s : Unchanged (row ws index) (row ws′ index) 0 (endOf at z)) where
+    pub same-held : itemsOf text ws′ index at z ≡ itemsOf text ws index at z
+    same-held =
+        ap₂ insertAll (same-all at (z .main) (z .delta) (λ k a b. s k a (omega arith)))
+        (same-items text ws ws′ index (at + z .main + z .delta) (z .tail) (λ k a b. s k (omega arith) b))
+
+    pub same-queued : {used spare : ℕ} (used′ : ℕ) → OpenSection text ws index used spare at z → Store ws′ index used′ → endOf at z ≤ used′
+        → UnchangedOutside ws ws′ 0 spare → OpenSection text ws′ index used′ spare at z
+    same-queued used′ κ σ l kept = record {
+      parts = same-parts used′ at (z .main) (z .delta) (κ .parts) σ (omega arith) (λ k a b. s k a (omega arith)) kept;
+      alone = κ .alone;
+      room = l;
+      inner = λ k h. rw (s (at + z .main + z .delta + k) (omega arith) (omega arith)) (κ .inner k h);
+    }

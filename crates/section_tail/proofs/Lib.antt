@@ -1,0 +1,4 @@
+pub mod TailLaws
+pub mod ItemLaws
+pub mod UpsertLaws
+pub mod AddLaws

@@ -1,0 +1,24 @@
+-- `section_tail::upsert_row` meets its contract. Assumes nothing.
+use Rattle.section_tail.proofs.AddLaws.{exact-items, exact-refused, exact-as}
+use borrow.Author.Needs.{needs}
+use Rattle.section_tail.proofs.upsert_row.Statement.{statement}
+use Rattle.section_tail.proofs.upsert_row.Tie as tie
+
+abbrev start : tie.After-upsert → tie.Start
+start n = n .before .before .before .before
+
+pub upsert-row-spec : {M : Type 1} → statement M
+upsert-row-spec =
+    tie.close
+    (tie.spec
+    (λ c κs. search needs)
+    (λ c. search needs)
+    (λ c. search needs)
+    (λ c. let n = c .before .before .before .before .before in
+    let s = start n in
+    exact-items (s .args .row) (s .args .accumulate) (s .pre .0 .0) (s .pre .0 .1) (exact-as (c .before .main .given .1) (n .upsert .ensures)))
+    (λ c. search needs)
+    (λ c. search needs)
+    (λ c. let n = c .before .before .before .before .before in
+    let s = start n in
+    exact-refused (s .args .row) (s .args .accumulate) (s .pre .0 .0) (s .pre .0 .1) (exact-as (c .before .fault .given .1) (n .upsert .ensures))))

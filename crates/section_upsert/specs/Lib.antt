@@ -1,0 +1,2 @@
+pub mod MainDelta
+pub mod Upserted

@@ -1,0 +1,166 @@
+// A row entered into the open section (document 01, "Sections"). A new key that comes after all others, as in most texts, is settled where
+// it is. Any other waits among the recent items behind the settled ones, sorted too, and they are woven in together, so that a text
+// whose lines come in no order moves the settled items rarely.
+use model::Fault;
+use table::Row;
+use table_item::Combined;
+use table_item::Found;
+use table_item::combine;
+use table_item::find_item;
+ghost use Prim.Native.Nat.{_+_, _≤_, _<_};
+ghost use lib.ListN.{length};
+ghost use Rattle.table.specs.Store.{Store};
+ghost use Rattle.table_item.specs.declared.Found.the-variants.{Insert};
+ghost use Rattle.table_item.specs.Items.{itemOf, ItemRow};
+ghost use Rattle.table_item.specs.SortedItems.{FoundPlace};
+ghost use Rattle.table_item.specs.Combining.{Adds};
+ghost use Rattle.section_upsert.specs.MainDelta.{DeltaInserted, MainDelta};
+ghost use Rattle.section_upsert.specs.Upserted.{RowCombined, Upserted};
+
+// The row at place i and another of its key, made one and put there, where their counts add.
+fn combine_at(
+    words: &mut [u64],
+    index: usize,
+    used: usize,
+    i: usize,
+    row: Row,
+    accumulate: bool,
+) -> Combined
+    requires { ⌜ Store (now words) index used × (i < used) × Adds accumulate row ⌝ }
+    ensures { λ r. ⌜ RowCombined (now (words .entry)) (now (words .exit)) index used i row accumulate r ⌝ }
+{
+    let old = table::get(words, index, used, i);
+    let made = combine(old, row, accumulate);
+    let Combined::One(both) = made else {
+        return Combined::Overflow;
+    };
+    table::put(words, index, used, i, both);
+    Combined::One(both)
+}
+
+// How many recent items are settled together.
+const DELTA_ITEMS: usize = 256;
+
+// A row put at place k of the p recent ones, which start at place `from`, and its place i among the settled noted with theirs. Behind them is
+// a free row.
+fn insert_delta(
+    words: &mut [u64],
+    index: usize,
+    used: usize,
+    spare: usize,
+    from: usize,
+    p: usize,
+    k: usize,
+    i: usize,
+    row: Row,
+)
+    requires { ⌜ Store (now words) index used × (k ≤ p) × (from + p < used) ⌝ }
+    requires { ⌜ (index + used ≤ spare) × (spare + used ≤ length (now words)) ⌝ }
+    ensures { λ _. ⌜ DeltaInserted (now (words .entry)) (now (words .exit)) index used spare from p k i row ⌝ }
+{
+    table::put(words, index, used, from + p, row);
+    table::move_row(words, index, used, from + k, from + p);
+    table::copy_backward(words, spare + k, spare + k + 1, p - k);
+    words[spare + k] = i as u64;
+}
+
+// How many items of the open section are settled and how many are recent, or why the row is refused.
+pub enum UpsertOutcome {
+    Items(usize, usize),
+    Refused(Fault),
+}
+
+// A row whose key none of the n settled items has, and which is to go to place i of them, entered among the p recent ones.
+fn upsert_delta(
+    text: &[u8],
+    words: &mut [u64],
+    index: usize,
+    used: usize,
+    spare: usize,
+    at: usize,
+    n: usize,
+    p: usize,
+    i: usize,
+    row: Row,
+    accumulate: bool,
+) -> UpsertOutcome
+    requires { ⌜ MainDelta (now text) (now words) index used spare at n p × ItemRow (now text) row × Adds accumulate row ⌝ }
+    requires { ⌜ (index + used ≤ spare) × (spare + used + used ≤ length (now words)) × FoundPlace (now text) (now words) index at n (itemOf (now text) row) (Insert i) ⌝ }
+    ensures { λ r. ⌜ Upserted (now (text .entry)) (now (words .entry)) (now (words .exit)) index used spare at n p row accumulate r ⌝ }
+{
+    match find_item(text, words, index, used, at + n, p, row) {
+        Found::At(k) => match combine_at(words, index, used, at + n + k, row, accumulate) {
+            Combined::One(_both) => {
+                return UpsertOutcome::Items(n, p);
+            }
+            Combined::Overflow => {
+                return UpsertOutcome::Refused(Fault::CallOverflow);
+            }
+        },
+        Found::Insert(k) => {
+            if used <= at + n + p {
+                return UpsertOutcome::Refused(Fault::TooManyEntries);
+            }
+            insert_delta(words, index, used, spare, at + n, p, k, i, row);
+            if p + 1 < DELTA_ITEMS {
+                return UpsertOutcome::Items(n, p + 1);
+            }
+            table_interleave::interleave(words, index, used, at, n, p + 1, spare);
+            return UpsertOutcome::Items(n + (p + 1), 0);
+        }
+    }
+}
+
+// A row entered into the open section: n settled items from place `at` on and p recent ones behind them, the last in the index's order but
+// for free rows. `spare` is where free words start.
+pub fn upsert(
+    text: &[u8],
+    words: &mut [u64],
+    index: usize,
+    used: usize,
+    spare: usize,
+    at: usize,
+    n: usize,
+    p: usize,
+    row: Row,
+    accumulate: bool,
+) -> UpsertOutcome
+    requires { ⌜ MainDelta (now text) (now words) index used spare at n p × ItemRow (now text) row × Adds accumulate row ⌝ }
+    requires { ⌜ (index + used ≤ spare) × (spare + used + used ≤ length (now words)) ⌝ }
+    ensures { λ r. ⌜ Upserted (now (text .entry)) (now (words .entry)) (now (words .exit)) index used spare at n p row accumulate r ⌝ }
+{
+    match find_item(text, words, index, used, at, n, row) {
+        Found::At(i) => match combine_at(words, index, used, at + i, row, accumulate) {
+            Combined::One(_both) => {
+                return UpsertOutcome::Items(n, p);
+            }
+            Combined::Overflow => {
+                return UpsertOutcome::Refused(Fault::CallOverflow);
+            }
+        },
+        Found::Insert(i) => {
+            if p == 0 {
+                if i == n {
+                    if used <= at + n {
+                        return UpsertOutcome::Refused(Fault::TooManyEntries);
+                    }
+                    table::put(words, index, used, at + n, row);
+                    return UpsertOutcome::Items(n + 1, 0);
+                }
+            }
+            return upsert_delta(
+                text,
+                words,
+                index,
+                used,
+                spare,
+                at,
+                n,
+                p,
+                i,
+                row,
+                accumulate,
+            );
+        }
+    }
+}

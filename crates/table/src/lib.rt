@@ -1,0 +1,198 @@
+// Rows in a lent slice of words, and an index of row numbers that says their order: "`BTreeMap` becomes sorted entries in scratch"
+// (document 01). Row j starts at word j * ROW_WORDS. The index starts at word `index`, past the rows, and its first `used` words are
+// the row numbers below `used`, each once. So a row changes its place by moving words of the index, and rows never move. Words behind
+// these are spare: `push_row`, `put` and `move_row` leave them as they are.
+ghost use mathlib.Core.Path.{_≡_};
+ghost use mathlib.Core.Logic.{_⊎_};
+ghost use Prim.Native.Nat.{_+_, _*_, _≤_, _<_};
+ghost use lib.ListN.{length};
+ghost use Rattle.table.specs.Places.{Unchanged, Updated, RowsMoved, BlocksSwapped};
+ghost use Rattle.table.specs.Rows.{row-words, rowAt, UnchangedOutside, Moved, Written};
+ghost use Rattle.table.specs.Store.{Store, row};
+
+// The words of a row: `row-words` in specs/Rows.antt.
+pub const ROW_WORDS: usize = 9;
+
+// The one that has its tag: `tag-word`.
+pub const TAG_WORD: usize = 4;
+
+// One entry. Names are a start and a length in the lent text; the tag says the item's kind and what is given.
+pub struct Row {
+    pub test: u64,
+    pub test_len: u64,
+    pub path: u64,
+    pub path_len: u64,
+    pub tag: u64,
+    pub k1: u64,
+    pub k2: u64,
+    pub k3: u64,
+    pub count: u64,
+}
+
+pub fn read_row(words: &[u64], j: usize) -> Row
+    requires { ⌜ j * row-words + row-words ≤ length (now words) ⌝ }
+    ensures { λ r. ⌜ r ≡ rowAt (now (words .entry)) j ⌝ }
+{
+    let p = j * ROW_WORDS;
+    Row {
+        test: words[p],
+        test_len: words[p + 1],
+        path: words[p + 2],
+        path_len: words[p + 3],
+        tag: words[p + TAG_WORD],
+        k1: words[p + 5],
+        k2: words[p + 6],
+        k3: words[p + 7],
+        count: words[p + 8],
+    }
+}
+
+pub fn write_row(words: &mut [u64], j: usize, row: Row)
+    requires { ⌜ j * row-words + row-words ≤ length (now words) ⌝ }
+    ensures { λ _. ⌜ Written (now (words .entry)) (now (words .exit)) j row ⌝ }
+{
+    let p = j * ROW_WORDS;
+    words[p] = row.test;
+    words[p + 1] = row.test_len;
+    words[p + 2] = row.path;
+    words[p + 3] = row.path_len;
+    words[p + TAG_WORD] = row.tag;
+    words[p + 5] = row.k1;
+    words[p + 6] = row.k2;
+    words[p + 7] = row.k3;
+    words[p + 8] = row.count;
+}
+
+// Copies n words in ascending order: the target starts no later than the source, or past its end.
+pub fn copy_forward(words: &mut [u64], from: usize, to: usize, n: usize)
+    requires { ⌜ (from + n ≤ length (now words)) × (to + n ≤ length (now words)) × ((to ≤ from) ⊎ (from + n ≤ to)) ⌝ }
+    ensures { λ _. ⌜ Moved (now (words .entry)) (now (words .exit)) from to n ⌝ }
+{
+    let mut i = 0;
+    while i < n {
+        words[to + i] = words[from + i];
+        i += 1;
+    }
+}
+
+// Copies n words in descending order: the target starts no earlier than the source.
+pub fn copy_backward(words: &mut [u64], from: usize, to: usize, n: usize)
+    requires { ⌜ (from ≤ to) × (to + n ≤ length (now words)) ⌝ }
+    ensures { λ _. ⌜ Moved (now (words .entry)) (now (words .exit)) from to n ⌝ }
+{
+    let mut i = n;
+    while 0 < i {
+        i -= 1;
+        words[to + i] = words[from + i];
+    }
+}
+
+// The i-th row in the index's order.
+pub fn get(words: &[u64], index: usize, used: usize, i: usize) -> Row
+    requires { ⌜ Store (now words) index used × (i < used) ⌝ }
+    ensures { λ r. ⌜ r ≡ row (now (words .entry)) index i ⌝ }
+{
+    let j = words[index + i] as usize;
+    read_row(words, j)
+}
+
+// One more row, the last in the index's order, whatever it holds.
+pub fn push_row(words: &mut [u64], index: usize, used: usize)
+    requires { ⌜ Store (now words) index used × ((used + 1) * row-words ≤ index) × (index + used < length (now words)) ⌝ }
+    ensures store { λ _. ⌜ Store (now (words .exit)) index (used + 1) ⌝ }
+    ensures rows { λ _. ⌜ Unchanged (row (now (words .entry)) index) (row (now (words .exit)) index) 0 used ⌝ }
+    ensures spare { λ _. ⌜ UnchangedOutside (now (words .entry)) (now (words .exit)) 0 (index + used + 1) ⌝ }
+{
+    words[index + used] = used as u64;
+}
+
+// The i-th row is replaced.
+pub fn put(words: &mut [u64], index: usize, used: usize, i: usize, new: Row)
+    requires { ⌜ Store (now words) index used × (i < used) ⌝ }
+    ensures store { λ _. ⌜ Store (now (words .exit)) index used ⌝ }
+    ensures rows { λ _. ⌜ Updated (row (now (words .entry)) index) (row (now (words .exit)) index) used i new ⌝ }
+    ensures spare { λ _. ⌜ UnchangedOutside (now (words .entry)) (now (words .exit)) 0 (index + used) ⌝ }
+{
+    let j = words[index + i] as usize;
+    write_row(words, j, new);
+}
+
+// The row at `from` comes to `to`, and those from there on go up by one.
+pub fn move_row(words: &mut [u64], index: usize, used: usize, to: usize, from: usize)
+    requires { ⌜ Store (now words) index used × (to ≤ from) × (from < used) ⌝ }
+    ensures store { λ _. ⌜ Store (now (words .exit)) index used ⌝ }
+    ensures rows { λ _. ⌜ RowsMoved (row (now (words .entry)) index) (row (now (words .exit)) index) used to from 1 ⌝ }
+    ensures spare { λ _. ⌜ UnchangedOutside (now (words .entry)) (now (words .exit)) 0 (index + used) ⌝ }
+{
+    let number = words[index + from];
+    copy_backward(words, index + to, index + to + 1, from - to);
+    words[index + to] = number;
+}
+
+// The n rows at `from` come to `to`, and those from there on go up by n. `spare` is where n free words start.
+pub fn move_block(
+    words: &mut [u64],
+    index: usize,
+    used: usize,
+    to: usize,
+    from: usize,
+    n: usize,
+    spare: usize,
+)
+    requires { ⌜ Store (now words) index used × (to ≤ from) × (from + n ≤ used) ⌝ }
+    requires { ⌜ (index + used ≤ spare) × (spare + n ≤ length (now words)) ⌝ }
+    ensures store { λ _. ⌜ Store (now (words .exit)) index used ⌝ }
+    ensures rows { λ _. ⌜ RowsMoved (row (now (words .entry)) index) (row (now (words .exit)) index) used to from n ⌝ }
+{
+    copy_forward(words, index + from, spare, n);
+    copy_backward(words, index + to, index + to + n, from - to);
+    copy_forward(words, spare, index + to, n);
+}
+
+// The n rows at `lo` and the n at `mid` change places, and those between stay. `spare` is where n free words start.
+pub fn swap_equal_blocks(
+    words: &mut [u64],
+    index: usize,
+    used: usize,
+    lo: usize,
+    mid: usize,
+    n: usize,
+    spare: usize,
+)
+    requires { ⌜ Store (now words) index used × (lo + n ≤ mid) × (mid + n ≤ used) ⌝ }
+    requires { ⌜ (index + used ≤ spare) × (spare + n ≤ length (now words)) ⌝ }
+    ensures store { λ _. ⌜ Store (now (words .exit)) index used ⌝ }
+    ensures rows { λ _. ⌜ BlocksSwapped (row (now (words .entry)) index) (row (now (words .exit)) index) used lo (lo + n) mid (mid + n) ⌝ }
+{
+    copy_forward(words, index + lo, spare, n);
+    copy_forward(words, index + mid, index + lo, n);
+    copy_forward(words, spare, index + mid, n);
+}
+
+// The blocks from lo, from hi and from mid, up to `end`, change places: the last comes first and the first last. Where these two are of one
+// size, the one between stays, however many it has.
+pub fn swap_blocks(
+    words: &mut [u64],
+    index: usize,
+    used: usize,
+    lo: usize,
+    hi: usize,
+    mid: usize,
+    end: usize,
+    spare: usize,
+)
+    requires { ⌜ Store (now words) index used × (lo ≤ hi) × (hi ≤ mid) × (mid ≤ end) × (end ≤ used) ⌝ }
+    requires { ⌜ (index + used ≤ spare) × (spare + end ≤ length (now words)) ⌝ }
+    ensures store { λ _. ⌜ Store (now (words .exit)) index used ⌝ }
+    ensures rows { λ _. ⌜ BlocksSwapped (row (now (words .entry)) index) (row (now (words .exit)) index) used lo hi mid end ⌝ }
+{
+    let third = end - mid;
+    if hi - lo == third {
+        swap_equal_blocks(words, index, used, lo, mid, third, spare);
+        return;
+    }
+    move_block(words, index, used, lo, mid, third, spare);
+    if lo < hi {
+        move_block(words, index, used, lo + third, hi + third, mid - hi, spare);
+    }
+}

@@ -1,0 +1,4 @@
+pub mod InterleavedLaws
+pub mod LoopLaws
+pub mod PositionLaws
+pub mod OrderLaws

@@ -1,0 +1,3 @@
+pub mod Items
+pub mod SortedItems
+pub mod Combining

@@ -1,0 +1,4 @@
+pub mod LiveLaws
+pub mod CountLaws
+pub mod MarkLaws
+pub mod CompactLaws

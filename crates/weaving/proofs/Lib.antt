@@ -1,4 +1,0 @@
-pub mod WovenLaws
-pub mod WeavingLaws
-pub mod SeatLaws
-pub mod OrderLaws
