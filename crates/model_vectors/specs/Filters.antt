@@ -1,4 +1,4 @@
--- One text filtered by pairs of lines. Made by host/vectors/make.py, with the answers of the Rust. Assumes nothing.
+-- One text filtered by pairs of lines. Made by tools/vectors/make.py, with the answers of the Rust. Assumes nothing.
 use mathlib.Core.Path.{refl}
 use mathlib.Core.List.{List, [], _∷_, _++_}
 use Rattle.model.specs.Bytes.{ascii}

@@ -1,4 +1,4 @@
--- One line: its record and the record printed. Made by host/vectors/make.py, with the answers of the Rust. Assumes nothing.
+-- One line: its record and the record printed. Made by tools/vectors/make.py, with the answers of the Rust. Assumes nothing.
 use mathlib.Core.Path.{refl}
 use mathlib.Core.List.{List, [], _∷_, _++_}
 use mathlib.Core.Option.{none, some}

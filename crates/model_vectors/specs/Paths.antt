@@ -1,4 +1,4 @@
--- Two paths compared. Made by host/vectors/make.py, with the answers of the Rust. Assumes nothing.
+-- Two paths compared. Made by tools/vectors/make.py, with the answers of the Rust. Assumes nothing.
 use mathlib.Core.Path.{refl}
 use mathlib.Core.List.{List, [], _∷_}
 use Rattle.model.specs.Bytes.{ascii}

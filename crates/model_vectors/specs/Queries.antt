@@ -1,4 +1,4 @@
--- Pairs of lines queried. Made by host/vectors/make.py, with the answers of the Rust. Assumes nothing.
+-- Pairs of lines queried. Made by tools/vectors/make.py, with the answers of the Rust. Assumes nothing.
 use mathlib.Core.Path.{refl}
 use mathlib.Core.List.{List, [], _∷_}
 use mathlib.Core.Bool.{true, false}

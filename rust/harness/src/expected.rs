@@ -1,0 +1,248 @@
+//! What the port must answer: the Rust's answer to a line, in the words of the C interface.
+
+use crate::interface::{
+    Words, EQUAL, FIELD, FIRST_NUMBER, GIVEN, GREATER, KIND, LEN, LESS, LINE, NEEDED, START, TEXT,
+    WORDS, WRITTEN,
+};
+use oracle::{Fault, Record, Refusal};
+use std::borrow::Cow;
+use std::cmp::Ordering;
+use std::ffi::OsStr;
+use std::os::unix::ffi::OsStrExt;
+use std::path::Path;
+
+/// A number and its words: 0 for an answer, or a refusal.
+#[derive(Debug, Clone, Copy, PartialEq, Eq)]
+pub struct Answer {
+    pub number: u32,
+    pub words: Words,
+}
+
+pub struct Expected {
+    /// What reading the line answers.
+    pub read: Answer,
+    /// The record's line with byte 10 after it; None where the line is refused.
+    pub printed: Option<Vec<u8>>,
+    /// The line is not UTF-8, so the Rust could only be asked about one that stands in for it.
+    pub outside: bool,
+}
+
+impl Expected {
+    pub fn of(line: &[u8]) -> Self {
+        let outside = std::str::from_utf8(line).is_err();
+        let asked = if outside {
+            Cow::Owned(stub(line))
+        } else {
+            Cow::Borrowed(line)
+        };
+        match oracle::read_line(&asked) {
+            Ok(record) => Expected {
+                read: read(&record, &asked),
+                printed: Some(printed(&record, line)),
+                outside,
+            },
+            Err(Fault::Refused(refusal)) => Expected {
+                read: refused(refusal),
+                printed: None,
+                outside,
+            },
+            Err(Fault::Outside) => unreachable!("a line that is UTF-8 can be asked"),
+        }
+    }
+
+    /// An empty text has no bytes to point at: any place in the line will do.
+    pub fn leaves_start_free(&self) -> bool {
+        self.read.number == 0 && self.read.words[START] != 0 && self.read.words[LEN] == 0
+    }
+}
+
+/// Document 01 reads bytes, and one past 127 is in no tag, no digit and nothing that parts fields. So it may be any such byte:
+/// numbers and places stay.
+fn stub(line: &[u8]) -> Vec<u8> {
+    line.iter()
+        .map(|&byte| if byte < 128 { byte } else { b'x' })
+        .collect()
+}
+
+// ---- reading
+
+fn read(record: &Record, line: &[u8]) -> Answer {
+    let mut words = [0; WORDS];
+    words[KIND] = record.kind() as u64 + 1;
+    for (place, number) in numbers(record).into_iter().enumerate() {
+        words[FIRST_NUMBER + place] = number;
+    }
+    words[GIVEN] = given(record).into();
+    if let Some(text) = text(record) {
+        let start = start_of_text(text.len(), line);
+        assert_eq!(text, &line[start..start + text.len()]);
+        words[START] = start as u64;
+        words[LEN] = text.len() as u64;
+    }
+    Answer { number: 0, words }
+}
+
+/// The numbers in the order of their fields; a taken count that is none counts as 0.
+fn numbers(record: &Record) -> Vec<u64> {
+    match *record {
+        Record::TestName { .. } | Record::SourceFile { .. } | Record::EndOfRecord => vec![],
+        Record::FunctionName { start_line, .. } => vec![start_line.into()],
+        Record::FunctionData { count, .. } => vec![count],
+        Record::FunctionsFound { found }
+        | Record::BranchesFound { found }
+        | Record::LinesFound { found } => vec![found.into()],
+        Record::FunctionsHit { hit } | Record::BranchesHit { hit } | Record::LinesHit { hit } => {
+            vec![hit.into()]
+        }
+        Record::BranchData {
+            line,
+            block,
+            branch,
+            taken,
+        } => vec![line.into(), block.into(), branch.into(), taken.unwrap_or(0)],
+        Record::LineData { line, count, .. } => vec![line.into(), count],
+    }
+}
+
+fn given(record: &Record) -> bool {
+    match record {
+        Record::BranchData { taken, .. } => taken.is_some(),
+        Record::LineData { checksum, .. } => checksum.is_some(),
+        _ => false,
+    }
+}
+
+fn text(record: &Record) -> Option<&[u8]> {
+    match record {
+        Record::TestName { name }
+        | Record::FunctionName { name, .. }
+        | Record::FunctionData { name, .. } => Some(name.as_bytes()),
+        Record::SourceFile { path } => Some(path.as_os_str().as_bytes()),
+        Record::LineData { checksum, .. } => checksum.as_ref().map(|text| text.as_bytes()),
+        _ => None,
+    }
+}
+
+/// The Rust hands out a copy. A text is always the last field, so it ends where the line does, bytes 10 and 13 dropped.
+fn start_of_text(len: usize, line: &[u8]) -> usize {
+    let dropped = line
+        .iter()
+        .rev()
+        .take_while(|&&byte| byte == b'\n' || byte == b'\r')
+        .count();
+    line.len() - dropped - len
+}
+
+pub fn refused(refusal: Refusal) -> Answer {
+    let mut words = [0; WORDS];
+    words[TEXT] = refusal.text as u64;
+    words[LINE] = refusal.line as u64;
+    words[FIELD] = refusal.field.into();
+    Answer {
+        number: refusal.number,
+        words,
+    }
+}
+
+// ---- printing
+
+/// The text is taken from the line itself, which the record may only stand in for.
+fn printed(record: &Record, line: &[u8]) -> Vec<u8> {
+    let mut printed = oracle::print_record(record);
+    if let Some(text) = text(record) {
+        let start = start_of_text(text.len(), line);
+        printed.truncate(printed.len() - text.len());
+        printed.extend_from_slice(&line[start..start + text.len()]);
+    }
+    printed.push(b'\n');
+    printed
+}
+
+pub fn written(len: usize) -> Answer {
+    let mut words = [0; WORDS];
+    words[WRITTEN] = len as u64;
+    Answer { number: 0, words }
+}
+
+pub fn too_short(needed: usize) -> Answer {
+    let mut words = [0; WORDS];
+    words[NEEDED] = needed as u64;
+    Answer {
+        number: crate::interface::OUTPUT_TOO_SHORT,
+        words,
+    }
+}
+
+// ---- paths
+
+/// Paths that are not UTF-8 are no keys of the Rust's; document 01 orders them as Unix `Path` all the same.
+pub fn path_order(a: &[u8], b: &[u8]) -> u32 {
+    let order = oracle::compare_paths(a, b)
+        .unwrap_or_else(|_| Path::new(OsStr::from_bytes(a)).cmp(Path::new(OsStr::from_bytes(b))));
+    match order {
+        Ordering::Less => LESS,
+        Ordering::Equal => EQUAL,
+        Ordering::Greater => GREATER,
+    }
+}
+
+#[cfg(test)]
+mod tests {
+    use super::*;
+
+    fn words(line: &[u8]) -> (u32, Words) {
+        let read = Expected::of(line).read;
+        (read.number, read.words)
+    }
+
+    #[test]
+    fn the_words_of_each_kind() {
+        assert_eq!(words(b"TN:a,b\n"), (0, [1, 0, 0, 0, 0, 0, 3, 3]));
+        assert_eq!(words(b"SF:/m.c\r\n"), (0, [2, 0, 0, 0, 0, 0, 3, 4]));
+        assert_eq!(words(b"FN:07,f"), (0, [3, 7, 0, 0, 0, 0, 6, 1]));
+        assert_eq!(words(b"FNDA:2,f,g"), (0, [4, 2, 0, 0, 0, 0, 7, 3]));
+        assert_eq!(words(b"FNF:3"), (0, [5, 3, 0, 0, 0, 0, 0, 0]));
+        assert_eq!(words(b"FNH:3"), (0, [6, 3, 0, 0, 0, 0, 0, 0]));
+        assert_eq!(words(b"BRDA:1,2,3,4"), (0, [7, 1, 2, 3, 4, 1, 0, 0]));
+        assert_eq!(words(b"BRDA:1,2,3,-"), (0, [7, 1, 2, 3, 0, 0, 0, 0]));
+        assert_eq!(words(b"BRF:3"), (0, [8, 3, 0, 0, 0, 0, 0, 0]));
+        assert_eq!(words(b"BRH:3"), (0, [9, 3, 0, 0, 0, 0, 0, 0]));
+        assert_eq!(words(b"DA:1,2"), (0, [10, 1, 2, 0, 0, 0, 0, 0]));
+        assert_eq!(words(b"DA:1,2,-"), (0, [10, 1, 2, 0, 0, 0, 0, 0]));
+        assert_eq!(words(b"DA:1,2,c="), (0, [10, 1, 2, 0, 0, 1, 7, 2]));
+        assert_eq!(words(b"DA:1,2,"), (0, [10, 1, 2, 0, 0, 1, 7, 0]));
+        assert_eq!(words(b"LF:3"), (0, [11, 3, 0, 0, 0, 0, 0, 0]));
+        assert_eq!(words(b"LH:3"), (0, [12, 3, 0, 0, 0, 0, 0, 0]));
+        assert_eq!(words(b"end_of_record:1"), (0, [13, 0, 0, 0, 0, 0, 0, 0]));
+    }
+
+    #[test]
+    fn the_words_of_a_refusal() {
+        assert_eq!(words(b"BRDA:1,0,0,"), (4, [0, 1, 4, 0, 0, 0, 0, 0]));
+        assert_eq!(words(b"LF:1,2"), (3, [0, 1, 0, 0, 0, 0, 0, 0]));
+    }
+
+    #[test]
+    fn bytes_that_are_not_utf_8_are_stood_in_for() {
+        let name = Expected::of(b"FN:07,\xff\xfe,\n");
+        assert!(name.outside);
+        assert_eq!(name.read.words, [3, 7, 0, 0, 0, 0, 6, 3]);
+        assert_eq!(name.printed.unwrap(), b"FN:7,\xff\xfe,\n");
+        assert_eq!(words(b"FN:7\xff,f"), (5, [0, 1, 1, 0, 0, 0, 0, 0]));
+        assert_eq!(words(b"TN\xff:a"), (1, [0, 1, 0, 0, 0, 0, 0, 0]));
+    }
+
+    #[test]
+    fn only_an_empty_text_may_start_anywhere() {
+        let free = |line: &[u8]| Expected::of(line).leaves_start_free();
+        assert!(free(b"TN") && free(b"SF:\n") && free(b"FN:1,") && free(b"DA:1,2,"));
+        assert!(!free(b"TN:a") && !free(b"DA:1,2") && !free(b"LF:1") && !free(b"LF:"));
+    }
+
+    #[test]
+    fn paths_are_ordered_by_components() {
+        assert_eq!(path_order(b"a/b", b"a-b"), LESS);
+        assert_eq!(path_order(b"a//b", b"a/./b"), EQUAL);
+        assert_eq!(path_order(b"\xff", b"a"), GREATER);
+    }
+}

@@ -1,0 +1,102 @@
+//! Words and bytes lent to the port. They are marked before the call, so that it is seen what was written and what was left alone.
+
+use crate::expected::Answer;
+use crate::interface::{START, WORDS};
+use crate::Rng;
+
+const MARK: u64 = 0xa5a5_a5a5_a5a5_a5a5;
+const BYTE_MARK: u8 = 0xa5;
+
+/// Words and bytes behind the lent slice, where a call that passes its end is seen.
+const GUARD: usize = 2;
+
+pub struct LentWords(Vec<u64>);
+
+impl LentWords {
+    pub fn new(lent: usize) -> Self {
+        LentWords(vec![MARK; lent + GUARD])
+    }
+
+    pub fn lend(&mut self) -> &mut [u64] {
+        let lent = self.0.len() - GUARD;
+        &mut self.0[..lent]
+    }
+
+    /// Whether this is the answer, all other words untouched. A free start need only lie within the length given with it.
+    pub fn holds(&self, number: u32, answer: &Answer, free_start: Option<usize>) -> bool {
+        let lent = self.0.len() - GUARD;
+        let told = if lent < WORDS { 0 } else { WORDS };
+        let (words, untouched) = self.0.split_at(told);
+        let is_free =
+            |place| place == START && free_start.is_some_and(|most| words[place] <= most as u64);
+        number == answer.number
+            && (0..told).all(|place| words[place] == answer.words[place] || is_free(place))
+            && untouched.iter().all(|&word| word == MARK)
+    }
+
+    pub fn word(&self, place: usize) -> u64 {
+        self.0[place]
+    }
+
+    pub fn shown(&self, number: u32) -> String {
+        let words: Vec<String> = self.0.iter().map(|&word| shown_word(word)).collect();
+        format!("{number} [{}]", words.join(", "))
+    }
+}
+
+fn shown_word(word: u64) -> String {
+    if word == MARK {
+        "untouched".to_owned()
+    } else {
+        word.to_string()
+    }
+}
+
+pub struct LentBytes(Vec<u8>);
+
+impl LentBytes {
+    pub fn new(lent: usize) -> Self {
+        LentBytes(vec![BYTE_MARK; lent + GUARD])
+    }
+
+    pub fn lend(&mut self) -> &mut [u8] {
+        let lent = self.0.len() - GUARD;
+        &mut self.0[..lent]
+    }
+
+    /// Whether these bytes were written, and no other.
+    pub fn holds(&self, written: &[u8]) -> bool {
+        let (begun, untouched) = self.0.split_at(written.len());
+        begun == written && untouched.iter().all(|&byte| byte == BYTE_MARK)
+    }
+
+    /// With what lies behind the slice.
+    pub fn all(&self) -> &[u8] {
+        &self.0
+    }
+}
+
+/// Scratch that is never cleaned: a call gets what earlier ones left, or noise.
+#[derive(Default)]
+pub struct LentScratch(Vec<u64>);
+
+/// Of how many calls one gets noise.
+const NOISE_ONE_IN: usize = 16;
+
+impl LentScratch {
+    pub fn lend(&mut self, lent: usize, rng: &mut Rng) -> &mut [u64] {
+        if self.0.len() < lent + GUARD {
+            self.0.resize(lent + GUARD, u64::MAX);
+        }
+        if rng.one_in(NOISE_ONE_IN) {
+            self.0[..lent].fill_with(|| rng.number());
+        }
+        self.0[lent..lent + GUARD].fill(MARK);
+        &mut self.0[..lent]
+    }
+
+    /// Whether the words behind the slice that was lent stayed.
+    pub fn kept_behind(&self, lent: usize) -> bool {
+        self.0[lent..lent + GUARD].iter().all(|&word| word == MARK)
+    }
+}

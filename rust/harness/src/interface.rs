@@ -1,0 +1,105 @@
+//! The port's calls, and the meaning of the eight words that they answer with.
+
+/// The calls of the port on lines and paths, in safe form.
+///
+/// A number is 0 for an answer and else document 01's refusal. The eight words are written where the slice holds them all; a shorter
+/// slice stays, and so do words past the eighth.
+pub trait Port {
+    fn read_line(&self, line: &[u8], answer: &mut [u64]) -> u32;
+
+    /// Reads a line and prints its record with byte 10 after it.
+    fn print_line(&self, line: &[u8], out: &mut [u8], answer: &mut [u64]) -> u32;
+
+    /// One of [`LESS`], [`EQUAL`] and [`GREATER`].
+    fn compare_paths(&self, a: &[u8], b: &[u8]) -> u32;
+}
+
+/// The calls on texts and bundles. They print a report to `out`, and leave it alone where they refuse; the scratch is free afterwards.
+pub trait Gatherer {
+    fn read_text(
+        &self,
+        text: &[u8],
+        scratch: &mut [u64],
+        out: &mut [u8],
+        answer: &mut [u64],
+    ) -> u32;
+
+    /// Checked, with [`INNER_WORDS`] of scratch inside.
+    fn gather(&self, bundle: &[u8], out: &mut [u8], answer: &mut [u64]) -> u32;
+
+    /// Checked.
+    fn gather_with(
+        &self,
+        bundle: &[u8],
+        scratch: &mut [u64],
+        out: &mut [u8],
+        answer: &mut [u64],
+    ) -> u32;
+
+    fn gather_lossy(
+        &self,
+        bundle: &[u8],
+        scratch: &mut [u64],
+        out: &mut [u8],
+        answer: &mut [u64],
+    ) -> u32;
+
+    /// Reads a text and keeps what the first `used` pairs hold.
+    fn filter_text(
+        &self,
+        text: &[u8],
+        pairs: &[[u32; 2]],
+        used: usize,
+        scratch: &mut [u64],
+        out: &mut [u8],
+        answer: &mut [u64],
+    ) -> u32;
+}
+
+/// The calls on lists of ranges: a slice of pairs, each a start and an end, of which the first `used` count.
+pub trait Ranges {
+    fn insert_range(
+        &self,
+        pairs: &mut [[u32; 2]],
+        used: usize,
+        start: u32,
+        end: u32,
+        answer: &mut [u64],
+    ) -> u32;
+
+    fn query_range(
+        &self,
+        pairs: &[[u32; 2]],
+        used: usize,
+        start: u32,
+        end: u32,
+        answer: &mut [u64],
+    ) -> u32;
+
+    /// The start and the end of the range that `a..b` is.
+    fn half_open(&self, a: u32, b: u32, answer: &mut [u64]);
+}
+
+pub use lcov_sys::{EQUAL, GREATER, LESS, MAX_ENTRIES, OUTPUT_TOO_SHORT, WORDS, WORDS_PER_ENTRY};
+
+/// The scratch inside [`Gatherer::gather`].
+pub const INNER_WORDS: usize = 8192;
+
+pub type Words = [u64; WORDS];
+
+// The words of a line that is read. A kind is its place from 1 in `RecordKind`; what a kind does not have is 0.
+pub const KIND: usize = 0;
+pub const FIRST_NUMBER: usize = 1;
+pub const NUMBERS: usize = 4;
+pub const GIVEN: usize = 5;
+pub const START: usize = 6;
+pub const LEN: usize = 7;
+
+// The word of what is printed: a line or a report.
+pub const WRITTEN: usize = 0;
+
+// The words of a refusal.
+pub const TEXT: usize = 0;
+pub const LINE: usize = 1;
+pub const FIELD: usize = 2;
+pub const NEEDED: usize = 3;

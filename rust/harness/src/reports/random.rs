@@ -1,0 +1,416 @@
+//! Random texts and bundles, from few names, so that keys meet.
+
+use super::bundles;
+use crate::ranges::{self, List};
+use crate::Rng;
+
+const TESTS: [&str; 6] = ["", "a", "ab", "b", "é", "a,b"];
+
+/// Some are the same path spelled otherwise, and some only look so.
+#[rustfmt::skip]
+const PATHS: [&str; 14] = [
+    "a/b", "a//b", "a/./b", "a/b/", "a", "a/", "./a", "a-b", "/a", "//a/.", "", "..", ".", "名/x",
+];
+const NAMES: [&str; 8] = ["f", "g", "fg", "f,1", "", "-", "né", "G"];
+const LINES: [&str; 8] = ["1", "2", "3", "0", "007", "+10", "4294967295", "20"];
+const COUNTS: [&str; 6] = ["0", "1", "2", "+7", "0012", "99"];
+const LARGE: [&str; 5] = [
+    "18446744073709551615",
+    "18446744073709551614",
+    "9223372036854775808",
+    "9223372036854775807",
+    "1",
+];
+const CHECKSUMS: [&str; 4] = ["c1", "c2", "", "-"];
+const OTHER_TAGS: [&str; 6] = ["FNF", "FNH", "BRF", "BRH", "LF", "LH"];
+
+/// How texts of one question are made: what is rare in all is common in some.
+#[derive(Clone, Copy)]
+pub struct Habit {
+    /// Counts near 2^64.
+    large: bool,
+    /// Start lines and checksums of a key mostly agree.
+    agreeing: bool,
+    /// Lines and branches have any number, so that there are many of them.
+    spread: bool,
+    sections: usize,
+    items: usize,
+    /// How many of the test names, paths and function names are used: the fewer, the more keys meet.
+    tests: usize,
+    paths: usize,
+    names: usize,
+}
+
+impl Habit {
+    pub fn random(rng: &mut Rng) -> Self {
+        let spread = rng.one_in(6);
+        Habit {
+            large: rng.one_in(4),
+            agreeing: !rng.one_in(3),
+            spread,
+            sections: 1 + rng.below(3),
+            items: if spread { 24 } else { 10 },
+            tests: 1 + rng.below(TESTS.len()),
+            paths: 1 + rng.below(PATHS.len()),
+            names: 1 + rng.below(NAMES.len()),
+        }
+    }
+}
+
+// ---- texts
+
+pub fn text(rng: &mut Rng, habit: Habit) -> Vec<u8> {
+    let mut lines = Vec::new();
+    for _ in 0..rng.below(habit.sections + 1) {
+        section(rng, habit, &mut lines);
+    }
+    if rng.one_in(6) {
+        test_names(rng, habit, &mut lines);
+    }
+    if rng.one_in(6) {
+        damage(rng, &mut lines);
+    }
+    let mut text = joined(rng, &lines);
+    if rng.one_in(24) {
+        change_a_byte(rng, &mut text);
+    }
+    text
+}
+
+fn section(rng: &mut Rng, habit: Habit, lines: &mut Vec<String>) {
+    if !rng.one_in(5) {
+        test_names(rng, habit, lines);
+    }
+    let items = if rng.one_in(8) {
+        0
+    } else {
+        rng.below(habit.items)
+    };
+    if !rng.one_in(6) {
+        lines.push(source_file(rng, habit));
+    }
+    for _ in 0..items {
+        lines.push(item(rng, habit));
+    }
+    if rng.one_in(8) {
+        lines.push(source_file(rng, habit));
+    }
+    lines.push("end_of_record".to_owned());
+}
+
+fn test_names(rng: &mut Rng, habit: Habit, lines: &mut Vec<String>) {
+    for _ in 0..1 + rng.below(6) / 5 {
+        lines.push(format!("TN:{}", few(rng, &TESTS[..habit.tests])));
+    }
+}
+
+fn source_file(rng: &mut Rng, habit: Habit) -> String {
+    format!("SF:{}", few(rng, &PATHS[..habit.paths]))
+}
+
+/// The first ones come more often than the others.
+fn few(rng: &mut Rng, among: &[&'static str]) -> &'static str {
+    let past = 1 + rng.below(among.len());
+    among[rng.below(past)]
+}
+
+fn item(rng: &mut Rng, habit: Habit) -> String {
+    match rng.below(12) {
+        0..3 => function(rng, habit),
+        3..5 => calls(rng, habit),
+        5..7 => branch(rng, habit),
+        7..11 => line(rng, habit),
+        _ => format!("{}:{}", rng.pick(&OTHER_TAGS), rng.below(9)),
+    }
+}
+
+fn name(rng: &mut Rng, habit: Habit) -> String {
+    if habit.spread {
+        format!("{}{}", rng.pick(&NAMES), rng.below(20))
+    } else {
+        few(rng, &NAMES[..habit.names]).to_owned()
+    }
+}
+
+fn function(rng: &mut Rng, habit: Habit) -> String {
+    let name = name(rng, habit);
+    // of few starts, so that some are those of other names
+    let start = if habit.agreeing && !rng.one_in(40) {
+        name.len() % 3
+    } else {
+        rng.below(3)
+    };
+    format!("FN:{start},{name}")
+}
+
+fn calls(rng: &mut Rng, habit: Habit) -> String {
+    let count = count(rng, habit);
+    format!("FNDA:{count},{}", name(rng, habit))
+}
+
+fn branch(rng: &mut Rng, habit: Habit) -> String {
+    let place = line_number(rng, habit);
+    let (block, branch) = (rng.below(2), rng.below(3));
+    let taken = if rng.one_in(3) {
+        "-"
+    } else {
+        count(rng, habit)
+    };
+    format!("BRDA:{place},{block},{branch},{taken}")
+}
+
+fn line(rng: &mut Rng, habit: Habit) -> String {
+    let place = line_number(rng, habit);
+    let count = count(rng, habit);
+    let checksum = match rng.below(5) {
+        0..3 => return format!("DA:{place},{count}"),
+        _ if habit.agreeing && !rng.one_in(40) => CHECKSUMS[place.len() % 3],
+        _ => rng.pick(&CHECKSUMS),
+    };
+    format!("DA:{place},{count},{checksum}")
+}
+
+fn line_number(rng: &mut Rng, habit: Habit) -> String {
+    if habit.spread {
+        rng.below(60).to_string()
+    } else {
+        few(rng, &LINES).to_owned()
+    }
+}
+
+fn count(rng: &mut Rng, habit: Habit) -> &'static str {
+    if habit.large && rng.one_in(3) {
+        few(rng, &LARGE)
+    } else {
+        rng.pick(&COUNTS)
+    }
+}
+
+fn joined(rng: &mut Rng, lines: &[String]) -> Vec<u8> {
+    let end = if rng.one_in(10) { "\r\n" } else { "\n" };
+    let mut text = Vec::new();
+    for line in lines {
+        text.extend_from_slice(line.as_bytes());
+        text.extend_from_slice(end.as_bytes());
+    }
+    if rng.one_in(8) {
+        text.pop();
+    }
+    text
+}
+
+// ---- damage
+
+fn damage(rng: &mut Rng, lines: &mut Vec<String>) {
+    if lines.is_empty() {
+        return;
+    }
+    let place = rng.below(lines.len());
+    let other = rng.below(lines.len());
+    match rng.below(8) {
+        0 => drop(lines.remove(place)),
+        1 => lines.insert(other, lines[place].clone()),
+        2 => lines.swap(place, other),
+        3 => lines.truncate(place),
+        _ => damage_line(rng, &mut lines[place]),
+    }
+}
+
+fn damage_line(rng: &mut Rng, line: &mut String) {
+    let comma = line.rfind(',');
+    match (rng.below(5), comma) {
+        (0, Some(comma)) => line.truncate(comma),
+        (1, Some(comma)) => line.truncate(comma + 1),
+        (2, _) => line.push_str(rng.pick(&[",", ",1", "x", " ", ":"])),
+        (3, _) => {
+            let colon = line.find(':').map_or(0, |colon| colon + 1);
+            line.insert_str(colon, rng.pick(&[",", "x", "-", "+", "4294967296"]));
+        }
+        _ => line.push_str("99999999999999999999"),
+    }
+}
+
+/// Few of them are then not UTF-8: the Rust can't be asked about those.
+fn change_a_byte(rng: &mut Rng, text: &mut [u8]) {
+    if text.is_empty() {
+        return;
+    }
+    let place = rng.below(text.len());
+    text[place] = if rng.one_in(6) {
+        rng.byte()
+    } else {
+        rng.pick(b":,-+019 \n\rTNSFDABRHx")
+    };
+}
+
+// ---- lines to be kept
+
+/// A few ranges; now and then the list is not well formed.
+pub fn lines_kept(rng: &mut Rng) -> List {
+    let mut list = ranges::random::empty_list(rng);
+    for _ in 0..rng.below(4) {
+        let (start, end) = ranges::random::range(rng);
+        let (answer, pairs) = ranges::expected::insert(&list, start, end);
+        if answer.number == 0 {
+            list = List {
+                pairs,
+                used: answer.words[0] as usize,
+            };
+        }
+    }
+    if rng.one_in(12) {
+        ranges::random::damage(rng, &mut list);
+    }
+    list
+}
+
+// ---- bundles
+
+/// Texts of which some come twice.
+pub fn texts(rng: &mut Rng) -> Vec<Vec<u8>> {
+    let habit = Habit::random(rng);
+    let mut texts: Vec<Vec<u8>> = Vec::new();
+    for _ in 0..rng.below(6) {
+        let text = if !texts.is_empty() && rng.one_in(4) {
+            texts[rng.below(texts.len())].clone()
+        } else {
+            text(rng, habit)
+        };
+        texts.push(text);
+    }
+    texts
+}
+
+pub fn bundle(rng: &mut Rng) -> Vec<u8> {
+    match rng.below(40) {
+        0..24 => bundles::of(&texts(rng)),
+        24..32 => overlapping(rng),
+        32..39 => with_damaged_head(rng),
+        _ => many(rng),
+    }
+}
+
+/// A bundle of three texts in each order of them.
+pub fn in_all_orders(rng: &mut Rng) -> Vec<Vec<u8>> {
+    const ORDERS: [[usize; 3]; 6] = [
+        [0, 1, 2],
+        [0, 2, 1],
+        [1, 0, 2],
+        [1, 2, 0],
+        [2, 0, 1],
+        [2, 1, 0],
+    ];
+    let habit = Habit::random(rng);
+    let texts = [(); 3].map(|()| text(rng, habit));
+    ORDERS
+        .iter()
+        .map(|order| bundles::of(&order.map(|place| &texts[place])))
+        .collect()
+}
+
+/// Texts that begin and end at lines of one stretch of bytes, or anywhere in it.
+fn overlapping(rng: &mut Rng) -> Vec<u8> {
+    let bytes = texts(rng).concat();
+    let places = places_to_cut(&bytes);
+    let named: Vec<(usize, usize)> = (0..rng.below(5))
+        .map(|_| {
+            let (a, b) = if rng.one_in(20) {
+                (rng.below(bytes.len() + 1), rng.below(bytes.len() + 1))
+            } else {
+                (rng.pick(&places), rng.pick(&places))
+            };
+            (a.min(b), a.abs_diff(b))
+        })
+        .collect();
+    bundles::encoded(&bytes, &named)
+}
+
+/// Both ends, and where sections end.
+fn places_to_cut(bytes: &[u8]) -> Vec<usize> {
+    const END: &[u8] = b"end_of_record\n";
+    let mut places = vec![0, bytes.len()];
+    places.extend((END.len()..bytes.len()).filter(|&place| bytes[..place].ends_with(END)));
+    places
+}
+
+fn with_damaged_head(rng: &mut Rng) -> Vec<u8> {
+    let texts = texts(rng);
+    let mut bundle = bundles::of(&texts);
+    match rng.below(6) {
+        0 => bundle.truncate(rng.below(bundle.len())),
+        1 => bundle.push(rng.byte() & 0x7f),
+        2 => bundle.insert(0, 0),
+        3 => bundle.clear(),
+        _ => {
+            let place = rng.below(bundles::head_len(texts.len()));
+            bundle[place] = match rng.below(3) {
+                0 => bundle[place].wrapping_add(1),
+                1 => bundle[place].wrapping_sub(1),
+                _ => rng.byte(),
+            };
+        }
+    }
+    bundle
+}
+
+/// As many texts as a bundle may name, one fewer or one more, most of them the same few.
+fn many(rng: &mut Rng) -> Vec<u8> {
+    let bytes = texts(rng).concat();
+    let places = places_to_cut(&bytes);
+    let texts = bundles::MAX_TEXTS - 1 + rng.below(3);
+    let named: Vec<(usize, usize)> = (0..texts)
+        .map(|_| {
+            let start = rng.pick(&places);
+            (start, bytes.len() - start)
+        })
+        .collect();
+    bundles::encoded(&bytes, &named)
+}
+
+#[cfg(test)]
+mod tests {
+    use super::*;
+    use crate::reports::expected::{Expected, NOT_WELL_FORMED, RANGES_NOT_WELL_FORMED};
+    use crate::reports::Asked;
+    use oracle::Mode;
+    use std::collections::HashSet;
+
+    /// The numbers that are answered to many questions, made from a seed.
+    fn numbers(ask: impl Fn(&mut Rng) -> Option<Expected>) -> HashSet<u32> {
+        oracle::hush_overflow();
+        let mut rng = Rng::new(5);
+        (0..20_000)
+            .filter_map(|_| ask(&mut rng))
+            .map(|expected| expected.told.map_or_else(|refusal| refusal.number, |_| 0))
+            .collect()
+    }
+
+    #[test]
+    fn texts_meet_every_refusal_of_a_reading() {
+        let met = numbers(|rng| {
+            let habit = Habit::random(rng);
+            Expected::of(Asked::Text(&text(rng, habit)))
+        });
+        assert_eq!(met, HashSet::from_iter(0..=9));
+    }
+
+    #[test]
+    fn filters_meet_every_refusal_of_a_filter() {
+        let met = numbers(|rng| {
+            let habit = Habit::random(rng);
+            let text = text(rng, habit);
+            Expected::of(Asked::Filter(&text, &lines_kept(rng)))
+        });
+        let mut all = HashSet::from_iter(0..=9);
+        all.insert(RANGES_NOT_WELL_FORMED);
+        assert_eq!(met, all);
+    }
+
+    #[test]
+    fn bundles_meet_every_refusal_of_a_gather() {
+        let met = numbers(|rng| Expected::of(Asked::Bundle(Mode::Checked, &bundle(rng))));
+        let mut all = HashSet::from_iter((0..=9).chain(11..=13));
+        all.insert(NOT_WELL_FORMED);
+        assert_eq!(met, all);
+    }
+}

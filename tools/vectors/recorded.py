@@ -1,0 +1,95 @@
+#!/usr/bin/env python3
+"""Records texts with the Rust's answers, which the program `test_texts` replays where there is no Rust.
+
+    recorded.py             writes crates/test_texts/stdin and stdout
+    recorded.py --check     writes nothing, and fails if a file is not what would be written
+
+The texts are those of cases.py and chosen ones for the entry limit, whose refusals no Rust gives: there line k brings the k-th entry,
+so a limit of E is passed at line E + 1.
+"""
+
+import argparse
+import struct
+import sys
+
+import make
+import cases
+
+ROOT = make.ROOT
+
+
+def told(answer):
+    """What a program prints for an answer of the oracle."""
+    word, _, rest = answer.partition(" ")
+    if word == "ok":
+        return b"" if rest in ("", "-") else bytes.fromhex(rest)
+    assert word == "refused", answer
+    return f"refused {rest}\n".encode()
+
+
+# ---- texts
+
+
+def limited():
+    """Texts at the limits that the port adds, with what they give: 10 at the line that passes the entry limit, or the report; and 9."""
+    lines = ["SF:a\n"] + [f"DA:{k},1\n" for k in range(1, 4)]
+    for entries in range(len(lines)):
+        yield "".join(lines) + "end_of_record\n", entries, f"refused 10 0 {entries + 1} 0\n".encode()
+    whole = "".join(lines) + "end_of_record\n"
+    yield whole, len(lines), make_report(whole)
+    yield "", 0, b""
+    yield "TN:a\n", 0, b""
+    yield "end_of_record\n", 0, b""
+    # the Rust's sum overflows here
+    yield "SF:a\nFNDA:18446744073709551615,f\nFNDA:1,f\n", 256, b"refused 9 0 3 0\n"
+    # a section that will replace a kept one counts beside it while it is open
+    yield whole * 2, len(lines), b"refused 10 0 6 0\n"
+
+
+def make_report(text):
+    return told(make.ask([f"text {make.hexed(text)}"])[0])
+
+
+CHOSEN_TEXTS = [
+    # replaced, with another spelling; and dropped, since it is empty
+    "SF:a//b\nDA:1,1\nend_of_record\nSF:a/b\nDA:2,5\nend_of_record\n",
+    "SF:a\nend_of_record\nSF:b\nFN:1,f\nend_of_record\n",
+    # TN at the end, and twice before a section
+    "TN:x\nTN:y\nSF:a\nDA:1,1\nend_of_record\nTN:z\n",
+    # a repeated DA and BRDA replace; FNDA adds; FN after FNDA sets the count to 0
+    "SF:a\nDA:1,1\nDA:1,2\nBRDA:1,0,0,3\nBRDA:1,0,0,-\nend_of_record\n",
+    "SF:a\nFNDA:2,f\nFN:3,f\nFNDA:1,g\nFNDA:4,g\nend_of_record\n",
+]
+
+
+def recorded_texts():
+    asked = list(dict.fromkeys(CHOSEN_TEXTS + [text for text in cases.texts()]))
+    answers = make.ask([f"text {make.hexed(text)}" for text in asked])
+    recorded = [(text, 256, told(answer)) for text, answer in zip(asked, answers) if answer != "outside"]
+    recorded += list(limited())
+    stdin = b"".join(struct.pack("<HH", entries, len(text.encode())) + text.encode() for text, entries, _ in recorded)
+    return stdin, b"".join(out for _, _, out in recorded)
+
+
+def files():
+    stdin, stdout = recorded_texts()
+    yield ROOT / "crates/test_texts/stdin", stdin
+    yield ROOT / "crates/test_texts/stdout", stdout
+
+
+def main():
+    parser = argparse.ArgumentParser(description=__doc__, formatter_class=argparse.RawDescriptionHelpFormatter)
+    parser.add_argument("--check", action="store_true")
+    check = parser.parse_args().check
+    wrong = []
+    for file, made in files():
+        if not check:
+            file.write_bytes(made)
+        elif not file.exists() or file.read_bytes() != made:
+            wrong.append(str(file.relative_to(ROOT)))
+    if wrong:
+        sys.exit("not what the Rust answers: " + ", ".join(wrong))
+
+
+if __name__ == "__main__":
+    main()
