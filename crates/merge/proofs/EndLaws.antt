@@ -13,7 +13,7 @@ use Rattle.table.proofs.PlaceLaws.{by-lt}
 use Rattle.table.proofs.TabulateLaws.{length-tabulate}
 use Rattle.table_interleave.specs.Interleaved.{Ascending}
 use Rattle.table_interleave.proofs.InterleavedLaws.{interleaved-each}
-use Rattle.table_interleave.proofs.PositionLaws.{sorted-tabulate, positions-rising, woven-adds}
+use Rattle.table_interleave.proofs.PositionLaws.{sorted-tabulate, positions-rising, interleaved-adds}
 use Rattle.ordmap.proofs.Results.{not-accepted, bind-accepted}
 use Rattle.model.specs.declared.Fault.{Fault}
 use Rattle.model.specs.declared.Fault.the-variants.{TooManyEntries}
@@ -88,9 +88,9 @@ module _ {text words₀ : List ℕ} (words : List ℕ) {base index limit n used 
     abbrev joined : Report
     joined = entriesAt text front index both
 
-    settled-joins : all mode (newsAt text ws index (walk .main) (walk .delta)) (entriesAt text ws index (walk .main)) ≡ accepted joined
-    settled-joins =
-        woven-adds (entryOf text) (σ .rows)
+    merged-combined : all mode (newsAt text ws index (walk .main) (walk .delta)) (entriesAt text ws index (walk .main)) ≡ accepted joined
+    merged-combined =
+        interleaved-adds (entryOf text) (σ .rows)
         (λ i l. ap (entryOf text) (sym (same-row i (omega arith)) ∙ ap (row earlier index) (sym (zero-add i))))
         (λ j l. ap (entryOf text)
         (sym (same-row (walk .main + j) (omega arith)) ∙ ap (row earlier index) (let z : walk .main + j ≡ 0 + walk .main + j = omega arith in z)))
@@ -99,7 +99,7 @@ module _ {text words₀ : List ℕ} (words : List ℕ) {base index limit n used 
         (sorted-tabulate entryKey compareKeys (newAt text ws index (walk .main)) (walk .delta) (ω .joined .ascend))
 
     fitting : walk .full ≡ false → accepted joined ≡ answer text words₀ base index limit n m mode
-    fitting e = standing-fits last joined e settled-joins (rw (length-tabulate (entryAt text front index) both) (ω .joined .most))
+    fitting e = standing-fits last joined e merged-combined (rw (length-tabulate (entryAt text front index) both) (ω .joined .most))
 
     -- what is joined is the model's report, which is valid
     report : walk .full ≡ false → merge mode (entriesAt text (take base words₀) index n) (entriesAt text (drop base words₀) index m) ≡ accepted joined

@@ -74,8 +74,8 @@ module _ {text ws : List ℕ} {index used n : ℕ} (key : Row) (ρ : EntriesAsce
       (λ q. ap isLess (keys-order .trans (sorted-at entryKey compareKeys (entryAt text ws index) n (ρ .sorted) k j (omega arith) h) (is-lt _ t)))
 
   module _ {lo hi : ℕ} (σ : GallopBounds (Before text ws index key) n lo hi) where
-    pub span-halved : SearchBounds (Before text ws index key) n lo hi
-    span-halved = record {
+    pub span-bounds : SearchBounds (Before text ws index key) n lo hi
+    span-bounds = record {
       ends = σ .ends;
       most = σ .most;
       past = σ .past;
@@ -114,7 +114,7 @@ spans text ws index n key lo hi a b p s = record { ends = a; most = b; past = pa
 -- the entry before a place comes before the key, and the one there does not
 module _ {text ws : List ℕ} {index used n : ℕ} (key : Row) (ρ : EntriesAscending text ws index used n) (at : ℕ) (h : 0 < at) (l : at < n) where
   pub partition-here : Before text ws index key at ≡ false → Before text ws index key (at - 1) ≡ true → PartitionPoint (Before text ws index key) n at
-  partition-here f t = bounds-done (span-halved key ρ (spans text ws index n key at at (omega arith) (omega arith) passed (λ g. f))) (omega arith)
+  partition-here f t = bounds-done (span-bounds key ρ (spans text ws index n key at at (omega arith) (omega arith) passed (λ g. f))) (omega arith)
     where
       passed : Passed text ws index key at
       passed = let z : at - 1 + 1 ≡ at = omega arith in rw z at (passed-up key ρ (at - 1) (omega arith) t)

@@ -35,18 +35,18 @@ module _ (text ws ws′ : List ℕ) (index limit from at number : ℕ) (st : Sta
       record { is = sym t ∙ p .left; held = tt }
 
   module _ (st′ : State) (next : ℕ) (e : got ≡ L.Next st′ next) where
-    turned : AfterLine text ws′ index limit at number (leftAt text ws index limit at number st) (L.Next st′ next)
-    turned = rw e at (done .after)
+    flipped : AfterLine text ws′ index limit at number (leftAt text ws index limit at number st) (L.Next st′ next)
+    flipped = rw e at (done .after)
 
     pub text-next : Progress text ws′ index limit from next (number + 1) st′
-    text-next = record { valid = turned .0; left = turned .1 ∙ p .left; few = omega (arith, p .few, turned .2) }
+    text-next = record { valid = flipped .0; left = flipped .1 ∙ p .left; few = omega (arith, p .few, flipped .2) }
 
     -- less of the text is left
     pub text-less : length text + 1 - next < length text + 1 - at
-    text-less = omega (arith, turned .2, turned .3)
+    text-less = omega (arith, flipped .2, flipped .3)
 
     pub text-most : next ≤ length text + 1
-    text-most = turned .3
+    text-most = flipped .3
 
 -- a line's number fits a word
 pub number-fits : (text ws : List ℕ) (index limit from at number : ℕ) (st : State) → Progress text ws index limit from at number st → at < length text

@@ -114,10 +114,10 @@ module _ {text ws : List ℕ} {index limit : ℕ} {st : State} (ζ : HoldsState 
     others : Unchanged (row ws index) (row ws′ index) 0 (st .kept)
     others j p q = φ .others j p (omega arith) ∙ ε .others j p (omega arith)
 
-    pub entered-next : endOf (st .kept + 1) t ≤ limit + st .tombstones → length ws′ ≡ length ws
+    pub added-next : endOf (st .kept + 1) t ≤ limit + st .tombstones → length ws′ ≡ length ws
         → StepOf text ws′ index limit answer (Next (withOpen st (st .used) t (st .path)))
     unfolding open-section
-    entered-next m len =
+    added-next m len =
         let l = itemsOf text ws′ index (st .kept + 1) t in
         record {
           is =
@@ -142,8 +142,8 @@ module _ {text ws : List ℕ} {index limit : ℕ} {st : State} (ζ : HoldsState 
           };
         }
 
-    pub entered-past : limit + st .tombstones < endOf (st .kept + 1) t → StepOf text ws′ index limit answer (Refused TooManyEntries)
-    entered-past m =
+    pub added-past : limit + st .tombstones < endOf (st .kept + 1) t → StepOf text ws′ index limit answer (Refused TooManyEntries)
+    added-past m =
         let l = itemsOf text ws′ index (st .kept + 1) t in
         record { is = sym (answer-accepted l items-are ∙ within-past limit (number l) (open-section S (S .path) l) (past (φ .exact))); valid = tt }
       where
@@ -216,11 +216,11 @@ module _ {text ws ws₁ : List ℕ} {index limit own : ℕ} {st : State} (ζ : H
     there : HoldsState text ws₂ index limit (withUsed st used)
     there = more-valid (more-valid ζ ρ len) ρ′ len′
 
-    own-there : st .kept < used
-    own-there = omega (arith, ρ′ .more)
+    header-there : st .kept < used
+    header-there = omega (arith, ρ′ .more)
 
     pub line-open : OpenSection text ws₂ index used (index + capacity limit) (st .kept + 1) (st .sizes)
-    line-open = there .open-items own-there
+    line-open = there .open-items header-there
 
     module _ (r : Row) (adds : Bool) where
       same-answer : counted limit (enterItem (combineOf adds) (itemOf text r) (stateOf text ws₂ index (withUsed st used)))
@@ -234,14 +234,14 @@ module _ {text ws ws₁ : List ℕ} {index limit own : ℕ} {st : State} (ζ : H
         pub line-next : endOf (st .kept + 1) t ≤ limit + st .tombstones → length ws₄ ≡ length ws₂
             → StepOf text ws₄ index limit (counted limit (enterItem (combineOf adds) (itemOf text r) (stateOf text ws index st)))
             (Next (withOpen st used t (st .path)))
-        line-next m len″ = step-as same-answer (entered-next there own-there r adds ε φ m len″)
+        line-next m len″ = step-as same-answer (added-next there header-there r adds ε φ m len″)
 
         pub line-past : limit + st .tombstones < endOf (st .kept + 1) t
             → StepOf text ws₄ index limit (counted limit (enterItem (combineOf adds) (itemOf text r) (stateOf text ws index st)))
             (Refused TooManyEntries)
-        line-past m = step-as same-answer (entered-past there own-there r adds ε φ m)
+        line-past m = step-as same-answer (added-past there header-there r adds ε φ m)
 
       pub line-refused : {ws₃ : List ℕ} (fault : Fault)
           → RowAdded text ws₂ ws₃ index used (index + capacity limit) (st .kept + 1) (st .sizes) r adds (NotEntered fault)
           → StepOf text ws₃ index limit (counted limit (enterItem (combineOf adds) (itemOf text r) (stateOf text ws index st))) (Refused fault)
-      line-refused fault ε = step-as same-answer (added-refused there own-there r adds fault ε (ρ′ .free))
+      line-refused fault ε = step-as same-answer (added-refused there header-there r adds fault ε (ρ′ .free))

@@ -191,14 +191,14 @@ module _ {text ws : List ℕ} {index limit : ℕ} {st : State} (ζ : HoldsState 
     older : Unchanged (row ws index) (row ws₁ index) 0 (st .kept)
     older k p q = ς .others k p (omega arith)
 
-    pub settled-sections : KeptSections text ws₁ index (st .used) (keptSizesOf st)
-    settled-sections = same-sections ws₁ ζ older (st .used) (ς .still .store) (ζ .space .kept)
+    pub all-sections : KeptSections text ws₁ index (st .used) (keptSizesOf st)
+    all-sections = same-sections ws₁ ζ older (st .used) (ς .still .store) (ζ .space .kept)
 
     first : mainOf st + st .delta + 1 ≡ st .kept + 1
     first = omega (arith, kept-rows ζ)
 
-    pub settled-open : {q : KeptSizes} → q ≡ keptSizesOf st → SortedItems text ws₁ index (st .used) (q .main + q .delta + 1) n
-    settled-open e = rw e (rw first (ς .still))
+    pub main-open : {q : KeptSizes} → q ≡ keptSizesOf st → SortedItems text ws₁ index (st .used) (q .main + q .delta + 1) n
+    main-open e = rw e (rw first (ς .still))
 
     abbrev S₀ : ModelState
     S₀ = stateOf text ws index st

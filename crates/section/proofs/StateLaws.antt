@@ -19,7 +19,7 @@ use Rattle.section_upsert.specs.MainDelta.{mergeItems}
 use Rattle.section_upsert.proofs.UpsertLaws.{parted-none}
 use Rattle.section_tail.specs.declared.OpenSizes.{OpenSizes}
 use Rattle.section_tail.specs.Tail.{insertAll, rowsOf, endOf, itemsOf, OpenSection, TailFlushed}
-use Rattle.section_tail.proofs.ItemLaws.{same-held, same-queued}
+use Rattle.section_tail.proofs.ItemLaws.{same-held, same-inserted}
 use Rattle.section_tail.proofs.UpsertLaws.{none-open as none-settled}
 use Rattle.section.specs.declared.State.{State}
 use Rattle.section.specs.declared.Step.{Step}
@@ -177,7 +177,7 @@ module _ {text ws ws′ : List ℕ} {index limit place r : ℕ} {st : State} (ζ
         };
         sections = same-sections ws′ ζ (λ k p q. ρ .rows k p (omega (arith, ζ .space .kept))) r (ρ .store) (omega (arith, ζ .space .kept, ρ .more));
         open-items = λ h. by-inside ζ
-            (λ o. same-queued text ws ws′ index (st .kept + 1) (st .sizes) (λ k p q. ρ .rows k p (omega (arith, items-below o))) r (ζ .open-items o) (ρ .store)
+            (λ o. same-inserted text ws ws′ index (st .kept + 1) (st .sizes) (λ k p q. ρ .rows k p (omega (arith, items-below o))) r (ζ .open-items o) (ρ .store)
             (omega (arith, items-below o, ρ .more)) (ρ .spare))
             (λ z e. none-open (ρ .store) (omega arith) z);
         opened = still (st .inside) (ζ .opened);

@@ -27,7 +27,7 @@ use Rattle.model.proofs.KeyOrder.{sections-order}
 use Rattle.table_item.specs.Items.{kindOf}
 use Rattle.table_interleave.specs.Interleaved.{Ascending, Interleaved, InsertPositions}
 use Rattle.table_interleave.proofs.InterleavedLaws.{interleaved-as, interleaved-each, interleaved-pairs}
-use Rattle.table_interleave.proofs.PositionLaws.{woven-pass}
+use Rattle.table_interleave.proofs.PositionLaws.{interleaved-pass}
 use Rattle.table_tombstone.specs.Live.{isLive}
 use Rattle.table_section.specs.Sections.{entryOf, keyOf, RowInBounds, rowsFrom, SectionsFrom, isPast, PastRow}
 use Rattle.table_section.proofs.RangeLaws.{goes-greater}
@@ -197,8 +197,8 @@ module _ {text ws ws₁ : List ℕ} {index used spare settled late dead : ℕ} (
     room : 0 + settled + late ≤ used
     room = omega (arith, π .delta .room)
 
-    woven : Interleaved (row ws index) (row ws₂ index) position used 0 settled late
-    woven = interleaved-as room (λ k l. behind-rows (π .main .store) (ν .kept) b k (omega arith) l) (λ k l. refl) ω
+    interleaved : Interleaved (row ws index) (row ws₂ index) position used 0 settled late
+    interleaved = interleaved-as room (λ k l. behind-rows (π .main .store) (ν .kept) b k (omega arith) l) (λ k l. refl) ω
 
     second : (j : ℕ) → row ws index (0 + settled + j) ≡ row ws index (settled + j)
     second j = ap (row ws index) (let e : 0 + settled + j ≡ settled + j = omega arith in e)
@@ -206,7 +206,7 @@ module _ {text ws ws₁ : List ℕ} {index used spare settled late dead : ℕ} (
     -- the rows after are those of both parts
     mixed : tabulate z (settled + late) ≡ mergeSorted (markOf text) compareMarks (tabulate x settled) (tabulate y late)
     mixed =
-        accepted-inj (sym (woven-pass (λ (r : Row). r) woven {x = x} {y = y} {z = z} (λ i l. refl) (λ j l. sym (second j)) (λ k l. refl)
+        accepted-inj (sym (interleaved-pass (λ (r : Row). r) interleaved {x = x} {y = y} {z = z} (λ i l. refl) (λ j l. sym (second j)) (λ k l. refl)
         (markOf text) compareMarks (λ e f. accepted e) marks-order positions cached-rising)
         ∙ pass-merge (markOf text) compareMarks (tabulate x settled) (tabulate y late))
 
@@ -226,7 +226,7 @@ module _ {text ws ws₁ : List ℕ} {index used spare settled late dead : ℕ} (
         (λ z. let e : settled + (m - settled) ≡ m = omega arith in rw e at (π .delta .rows .whole (m - settled) (omega arith)))
 
     ordered : (k l : ℕ) → k < l → l < settled + late → InOrder (z k) (z l)
-    ordered = interleaved-pairs cached-rising woven InOrder (π .main .rows .ordered)
+    ordered = interleaved-pairs cached-rising interleaved InOrder (π .main .rows .ordered)
         (λ i j l h. rw (second i, second j) (π .delta .rows .ordered i j l h))
         (λ i j l h. rw (second j) (less-not-greater (past j i l h)))
         (λ i j l h m. rw (second j) (rest j i l h m))
@@ -236,7 +236,7 @@ module _ {text ws ws₁ : List ℕ} {index used spare settled late dead : ℕ} (
     LivesToo a b = compareSections (keyOf text a) (keyOf text b) ≡ Ordering·eq → isLive b ≡ true → isLive a ≡ true
 
     fronts : (k l : ℕ) → k < l → l < settled + late → LivesToo (z k) (z l)
-    fronts = interleaved-pairs cached-rising woven LivesToo (π .front)
+    fronts = interleaved-pairs cached-rising interleaved LivesToo (π .front)
         (λ i j l h e a. rw (second i) (π .live i (omega arith)))
         (λ i j l h. rw (second j) (λ e a. let q : Ordering·lt ≡ Ordering·eq = sym (past j i l h) ∙ e in impossible cc))
         (λ i j l h m e a. rw (second j) (π .live j l))
@@ -246,14 +246,14 @@ module _ {text ws ws₁ : List ℕ} {index used spare settled late dead : ℕ} (
       store = σ;
       room = omega (arith, room);
       rows = record {
-        whole = λ k l. interleaved-each cached-rising woven (RowInBounds text) whole (0 + k) (omega arith) (omega arith);
+        whole = λ k l. interleaved-each cached-rising interleaved (RowInBounds text) whole (0 + k) (omega arith) (omega arith);
         ordered = ordered;
       };
     }
 
-    pub settled-all : SameReport text ws ws₂ index used (record { main = settled; delta = late; tombstones = dead })
+    pub main-all : SameReport text ws ws₂ index used (record { main = settled; delta = late; tombstones = dead })
         (record { main = settled + late; delta = 0; tombstones = dead })
-    settled-all = record {
+    main-all = record {
       report = kept-main text ws₂ index (settled + late) ∙ report;
       held = none-delta sections fronts (omega (arith, live-entries-length text z (settled + late), ap length report, kept-length π));
     }

@@ -93,8 +93,8 @@ module _ {text ws : List ℕ} {index used settled late dead n lo₀ hi₀ : ℕ}
     none-here : livesIn text E lo₀ hi₀ ≡ []
     none-here = none-live-entries text E lo₀ hi₀ (λ k p q a. foreign k (omega (arith, ρ₀ .high .most)) a (range-in ρ₀ k p q))
 
-    early-none : liveEntriesOf text E settled ≡ livesLow text E lo₀ ++ livesHigh text E settled lo₀ hi₀
-    early-none = main-parts ∙ ap (λ (l : Report). livesLow text E lo₀ ++ (l ++ livesHigh text E settled lo₀ hi₀)) none-here
+    main-none : liveEntriesOf text E settled ≡ livesLow text E lo₀ ++ livesHigh text E settled lo₀ hi₀
+    main-none = main-parts ∙ ap (λ (l : Report). livesLow text E lo₀ ++ (l ++ livesHigh text E settled lo₀ hi₀)) none-here
 
     spliced : Spliced F (rowsFrom ws₁ index settled) late late n lo₁ hi₁ (withPosition key lo₀)
     spliced = rw placed at ς
@@ -102,24 +102,24 @@ module _ {text ws : List ℕ} {index used settled late dead n lo₀ hi₀ : ℕ}
     named : NamesInBounds text (withPosition key lo₀)
     named = record { test = ν .test; path = ν .path }
 
-    first-living : lo₁ < hi₁ → F lo₁ .tag ≢ tombstone-tag
-    first-living h t = let x : true ≡ false = sym (π .live lo₁ (omega (arith, ρ₁ .high .most))) ∙ tag-deleted (F lo₁) t in impossible cc
+    first-live : lo₁ < hi₁ → F lo₁ .tag ≢ tombstone-tag
+    first-live h t = let x : true ≡ false = sym (π .live lo₁ (omega (arith, ρ₁ .high .most))) ∙ tag-deleted (F lo₁) t in impossible cc
 
-    own-said : HeaderAs text (withPosition key lo₀) (spellingOf (pathOf text key) (runAt text F lo₁ hi₁)) (rowsFrom ws₁ index settled lo₁)
-    own-said = header-entry (π .delta .rows) named tag ρ₁ first-living (spliced .header)
+    header-said : HeaderAs text (withPosition key lo₀) (spellingOf (pathOf text key) (runAt text F lo₁ hi₁)) (rowsFrom ws₁ index settled lo₁)
+    header-said = header-entry (π .delta .rows) named tag ρ₁ first-live (spliced .header)
 
-    pub closed-late : {r : ℕ} → r ≡ lo₁ + (n + 1) + (late - hi₁) → Committed text ws ws₁ index used (three settled late dead) n key (three settled r dead)
-    closed-late count = rw count (record {
+    pub committed-delta : {r : ℕ} → r ≡ lo₁ + (n + 1) + (late - hi₁) → Committed text ws ws₁ index used (three settled late dead) n key (three settled r dead)
+    committed-delta count = rw count (record {
       report =
-          delta-report π (ο .inner) (ο .room) named tag foreign (ρ₀ .low) refl ρ₁ spliced below σ own-said
+          delta-report π (ο .inner) (ο .room) named tag foreign (ρ₀ .low) refl ρ₁ spliced below σ header-said
           ∙ ap (λ (l : Report). mergeReports l (lowerAt text F lo₁
           ++ (map (inSection (keyOf text key)) (sectionItem (spellingOf (pathOf text key) (runAt text F lo₁ hi₁)) ∷ its) ++ higherAt text F late lo₁ hi₁)))
-          early-none
+          main-none
           ∙ second-by-second (testOf text key) (pathOf text key) its (livesLow text E lo₀) [] (livesHigh text E settled lo₀ hi₀) (lowerAt text F lo₁)
           (runAt text F lo₁ hi₁) (higherAt text F late lo₁ hi₁) (low-live-entries ρ₀) tt (high-live-entries ρ₀) (lower-all ρ₁) (range-all ρ₁) (higher-all ρ₁)
           ∙ sym (kept-some (keptAt text ws index settled late)
-          ∙ ap (replaceSection (testOf text key) (pathOf text key) its) (ap₂ mergeReports early-none (parts ρ₁)));
-      held = delta-held π (ο .inner) (ο .room) named tag foreign (ρ₀ .low) refl ρ₁ spliced below σ own-said;
+          ∙ ap (replaceSection (testOf text key) (pathOf text key) its) (ap₂ mergeReports main-none (parts ρ₁)));
+      held = delta-held π (ο .inner) (ο .room) named tag foreign (ρ₀ .low) refl ρ₁ spliced below σ header-said;
     })
 
   -- ---- the spelling, where settled entries have the key
@@ -184,18 +184,18 @@ module _ {text ws : List ℕ} {index used settled late dead n lo₀ hi₀ : ℕ}
       same-items = tabulate-cong (itemFrom text ws′ index (settled + late + 1)) (itemFrom text ws index (settled + late + 1)) n
           (λ k l. ap (itemOf text) (item-row k l))
 
-      late-none : entriesFrom text ws index settled late ≡ lowerAt text F place ++ higherAt text F late place place
-      late-none = parts-none ρ₁ (omega arith)
+      delta-none : entriesFrom text ws index settled late ≡ lowerAt text F place ++ higherAt text F late place place
+      delta-none = parts-none ρ₁ (omega arith)
 
       -- a cut by the key, among rows of the same keys
-      cut-again : (own : Row) (f g : ℕ → Row) {m r : ℕ} (b : Bool) → keyOf text own ≡ keyOf text key
+      partition-again : (own : Row) (f g : ℕ → Row) {m r : ℕ} (b : Bool) → keyOf text own ≡ keyOf text key
           → ((k : ℕ) → k < m → keyOf text (g k) ≡ keyOf text (f k)) → PartitionPoint (PastRow b text f (keyOf text key)) m r → PartitionPoint (PastRow b text g (keyOf text own)) m r
-      cut-again own f g b e keys c = partition-as (λ k l. ap₂ (λ (x y : SectionKey). isPast b (compareSections x y)) e (keys k l)) c
+      partition-again own f g b e keys c = partition-as (λ k l. ap₂ (λ (x y : SectionKey). isPast b (compareSections x y)) e (keys k l)) c
 
       before : keptAt text ws index settled late
           ≡ mergeReports (livesLow text E lo₀ ++ (livesIn text E lo₀ hi₀ ++ livesHigh text E settled lo₀ hi₀))
           (lowerAt text F place ++ higherAt text F late place place)
-      before = ap₂ mergeReports main-parts late-none
+      before = ap₂ mergeReports main-parts delta-none
 
       abbrev new : Report
       new = map (inSection (keyOf text key)) (sectionItem (spellingOf (pathOf text key) (livesIn text E lo₀ hi₀)) ∷ its)
@@ -208,8 +208,8 @@ module _ {text ws : List ℕ} {index used settled late dead n lo₀ hi₀ : ℕ}
       module _ (ws₁ : List ℕ) {own : Row} (placed : own ≡ withPosition spelled lo₀)
           (ς : Spliced F′ (rowsFrom ws₁ index settled) late late n place place own) (below : Unchanged (row ws′ index) (row ws₁ index) 0 settled)
           (σ : Store ws₁ index used) where
-        abbrev noted-row : Row
-        noted-row = withPosition spelled lo₀
+        abbrev cached-row : Row
+        cached-row = withPosition spelled lo₀
 
         spliced₁ : Spliced F′ (rowsFrom ws₁ index settled) late late n place place (withPosition spelled lo₀)
         spliced₁ = rw placed at ς
@@ -219,15 +219,15 @@ module _ {text ws : List ℕ} {index used settled late dead n lo₀ hi₀ : ℕ}
 
         run₁ : IsEqualRange text F′ late (keyOf text (withPosition spelled lo₀)) place place
         run₁ = record {
-          low = cut-again (withPosition spelled lo₀) F F′ false spelled-key (λ k l. ap (keyOf text) (behind k l)) (ρ₁ .low);
-          high = cut-again (withPosition spelled lo₀) F F′ true spelled-key (λ k l. ap (keyOf text) (behind k l)) (ρ₁ .high);
+          low = partition-again (withPosition spelled lo₀) F F′ false spelled-key (λ k l. ap (keyOf text) (behind k l)) (ρ₁ .low);
+          high = partition-again (withPosition spelled lo₀) F F′ true spelled-key (λ k l. ap (keyOf text) (behind k l)) (ρ₁ .high);
         }
 
-        own-there : rowsFrom ws₁ index settled place ≡ withPosition spelled lo₀
-        own-there = spliced₁ .header .new (omega arith)
+        header-there : rowsFrom ws₁ index settled place ≡ withPosition spelled lo₀
+        header-there = spliced₁ .header .new (omega arith)
 
-        own-said₁ : HeaderAs text (withPosition spelled lo₀) (spellingOf (pathOf text key) (livesIn text E lo₀ hi₀)) (rowsFrom ws₁ index settled place)
-        own-said₁ = rw own-there (record {
+        header-said₁ : HeaderAs text (withPosition spelled lo₀) (spellingOf (pathOf text key) (livesIn text E lo₀ hi₀)) (rowsFrom ws₁ index settled place)
+        header-said₁ = rw header-there (record {
           whole = record { named = named₁; good = omega (arith, spelled-tag) };
           is = ap (inSection (keyOf text (withPosition spelled lo₀))) (section-item text (withPosition spelled lo₀) (omega (arith, spelled-tag)) ∙ spelled-path);
         })
@@ -236,7 +236,7 @@ module _ {text ws : List ℕ} {index used settled late dead n lo₀ hi₀ : ℕ}
         foreign₁ i l a q = marked-foreign π ρ₀ σ′ β i l a (sym (ap₂ compareSections spelled-key (marked-keys π ρ₀ σ′ β i l)) ∙ q)
 
         place₁ : PartitionPoint (PastRow false text E′ (keyOf text (withPosition spelled lo₀))) settled lo₀
-        place₁ = cut-again (withPosition spelled lo₀) E E′ false spelled-key (marked-keys π ρ₀ σ′ β) (ρ₀ .low)
+        place₁ = partition-again (withPosition spelled lo₀) E E′ false spelled-key (marked-keys π ρ₀ σ′ β) (ρ₀ .low)
 
         lower-same : lowerAt text F′ place ≡ lowerAt text F place
         lower-same = tabulate-cong (λ k. entryOf text (F′ k)) (λ k. entryOf text (F k)) place
@@ -246,16 +246,16 @@ module _ {text ws : List ℕ} {index used settled late dead n lo₀ hi₀ : ℕ}
         higher-same = tabulate-cong (λ k. entryOf text (F′ (place + (place - place + k)))) (λ k. entryOf text (F (place + (place - place + k)))) (late - place)
             (λ k l. ap (entryOf text) (behind (place + (place - place + k)) (omega arith)))
 
-        pub closed-moved : {r : ℕ} → r ≡ place + (n + 1) + (late - place)
+        pub committed-moved : {r : ℕ} → r ≡ place + (n + 1) + (late - place)
             → Committed text ws ws₁ index used (three settled late dead) n key (three settled r (dead + buried))
-        closed-moved count = rw count (record {
+        committed-moved count = rw count (record {
           report =
-              delta-report π′ ι′ (ο .room) named₁ spelled-tag foreign₁ place₁ refl run₁ spliced₁ below σ own-said₁
+              delta-report π′ ι′ (ο .room) named₁ spelled-tag foreign₁ place₁ refl run₁ spliced₁ below σ header-said₁
               ∙ ap₂ mergeReports (marked-live-entries π ρ₀ σ′ β) (ap₂ _++_ lower-same (ap₂ _++_ (new-as (withPosition spelled lo₀) spelled-key) higher-same))
               ∙ first-by-second (testOf text key) (pathOf text key) its (livesLow text E lo₀) (livesIn text E lo₀ hi₀) (livesHigh text E settled lo₀ hi₀)
               (lowerAt text F place) [] (higherAt text F late place place) (low-live-entries ρ₀) (in-live-entries ρ₀) (high-live-entries ρ₀) (lower-all ρ₁) tt (higher-all ρ₁)
               ∙ sym (kept-some (keptAt text ws index settled late) ∙ ap (replaceSection (testOf text key) (pathOf text key) its) before);
-          held = delta-held π′ ι′ (ο .room) named₁ spelled-tag foreign₁ place₁ refl run₁ spliced₁ below σ own-said₁;
+          held = delta-held π′ ι′ (ο .room) named₁ spelled-tag foreign₁ place₁ refl run₁ spliced₁ below σ header-said₁;
         })
 
       -- the section comes in place of some of them
@@ -266,12 +266,12 @@ module _ {text ws : List ℕ} {index used settled late dead n lo₀ hi₀ : ℕ}
 
         run₂ : IsEqualRange text E′ settled (keyOf text spelled) lo₀ hi₀
         run₂ = record {
-          low = cut-again spelled E E′ false spelled-key (marked-keys π ρ₀ σ′ β) (ρ₀ .low);
-          high = cut-again spelled E E′ true spelled-key (marked-keys π ρ₀ σ′ β) (ρ₀ .high);
+          low = partition-again spelled E E′ false spelled-key (marked-keys π ρ₀ σ′ β) (ρ₀ .low);
+          high = partition-again spelled E E′ true spelled-key (marked-keys π ρ₀ σ′ β) (ρ₀ .high);
         }
 
-        dies : (k : ℕ) → lo₀ ≤ k → k < hi₀ → isLive (E′ k) ≡ false
-        dies k l h = tag-deleted (E′ k) (marked-deleted π ρ₀ σ′ β k l h)
+        deleted : (k : ℕ) → lo₀ ≤ k → k < hi₀ → isLive (E′ k) ≡ false
+        deleted k l h = tag-deleted (E′ k) (marked-deleted π ρ₀ σ′ β k l h)
 
         foreign₂ : (j : ℕ) → j < late → compareSections (keyOf text spelled) (keyOf text (F′ j)) ≢ Ordering·eq
         foreign₂ j l q =
@@ -281,17 +281,17 @@ module _ {text ws : List ℕ} {index used settled late dead n lo₀ hi₀ : ℕ}
             (λ h. let x : Ordering·gt ≡ Ordering·eq = sym (range-before ρ₁ j h) ∙ e in impossible cc)
             (λ h. let x : Ordering·lt ≡ Ordering·eq = sym (range-behind ρ₁ j h l) ∙ e in impossible cc)
 
-        own-here : rowsFrom ws₁ index 0 lo₀ ≡ spelled
-        own-here = ς .header .other (omega arith) (omega (arith, marked-deleted π ρ₀ σ′ β lo₀ (let x : lo₀ ≤ lo₀ = omega arith in x) (let x : lo₀ < hi₀ = omega arith in x)))
+        header-here : rowsFrom ws₁ index 0 lo₀ ≡ spelled
+        header-here = ς .header .other (omega arith) (omega (arith, marked-deleted π ρ₀ σ′ β lo₀ (let x : lo₀ ≤ lo₀ = omega arith in x) (let x : lo₀ < hi₀ = omega arith in x)))
 
-        own-said₂ : HeaderAs text spelled (spellingOf (pathOf text key) (livesIn text E lo₀ hi₀)) (rowsFrom ws₁ index 0 lo₀)
-        own-said₂ = rw own-here (record {
+        header-said₂ : HeaderAs text spelled (spellingOf (pathOf text key) (livesIn text E lo₀ hi₀)) (rowsFrom ws₁ index 0 lo₀)
+        header-said₂ = rw header-here (record {
           whole = spelled-as .whole;
           is = ap (inSection (keyOf text spelled)) (section-item text spelled (omega (arith, spelled-tag)) ∙ spelled-path);
         })
 
-        pub enough : n + 1 ≤ dead + buried
-        enough = deleted-room π′ ι′ named₂ spelled-tag run₂ fits dies foreign₂ ς σ own-said₂
+        pub room : n + 1 ≤ dead + buried
+        room = deleted-room π′ ι′ named₂ spelled-tag run₂ fits deleted foreign₂ ς σ header-said₂
 
         low-same : livesLow text E′ lo₀ ≡ livesLow text E lo₀
         low-same = ap (map (entryOf text)) (live-cong E′ E lo₀ (λ k l. β .below (0 + k) (omega arith) (omega arith)))
@@ -300,18 +300,18 @@ module _ {text ws : List ℕ} {index used settled late dead n lo₀ hi₀ : ℕ}
         high-same = ap (map (entryOf text)) (live-cong (λ k. E′ (lo₀ + (hi₀ - lo₀ + k))) (λ k. E (lo₀ + (hi₀ - lo₀ + k))) (settled - hi₀)
             (λ k l. β .above (0 + (lo₀ + (hi₀ - lo₀ + k))) (omega (arith, range-ends ρ₀)) (omega (arith, range-ends ρ₀, π .main .room))))
 
-        late-same : entriesFrom text ws′ index settled late ≡ lowerAt text F place ++ higherAt text F late place place
-        late-same = tabulate-cong (λ k. entryOf text (F′ k)) (λ k. entryOf text (F k)) late (λ k l. ap (entryOf text) (behind k l)) ∙ late-none
+        delta-same : entriesFrom text ws′ index settled late ≡ lowerAt text F place ++ higherAt text F late place place
+        delta-same = tabulate-cong (λ k. entryOf text (F′ k)) (λ k. entryOf text (F k)) late (λ k l. ap (entryOf text) (behind k l)) ∙ delta-none
 
-        pub closed-placed : Committed text ws ws₁ index used (three settled late dead) n key (three settled late (dead + buried - (n + 1)))
-        closed-placed = record {
+        pub committed-placed : Committed text ws ws₁ index used (three settled late dead) n key (three settled late (dead + buried - (n + 1)))
+        committed-placed = record {
           report =
-              placed-report π′ ι′ named₂ spelled-tag run₂ fits dies foreign₂ ς σ own-said₂
-              ∙ ap₂ mergeReports (ap₂ _++_ low-same (ap₂ _++_ (new-as spelled spelled-key) high-same)) late-same
+              placed-report π′ ι′ named₂ spelled-tag run₂ fits deleted foreign₂ ς σ header-said₂
+              ∙ ap₂ mergeReports (ap₂ _++_ low-same (ap₂ _++_ (new-as spelled spelled-key) high-same)) delta-same
               ∙ first-by-first (testOf text key) (pathOf text key) its (livesLow text E lo₀) (livesIn text E lo₀ hi₀) (livesHigh text E settled lo₀ hi₀)
               (lowerAt text F place) [] (higherAt text F late place place) (low-live-entries ρ₀) (in-live-entries ρ₀) (high-live-entries ρ₀) (lower-all ρ₁) tt (higher-all ρ₁)
               ∙ sym (kept-some (keptAt text ws index settled late) ∙ ap (replaceSection (testOf text key) (pathOf text key) its) before);
-          held = placed-held π′ ι′ named₂ spelled-tag run₂ fits dies foreign₂ ς σ own-said₂;
+          held = placed-held π′ ι′ named₂ spelled-tag run₂ fits deleted foreign₂ ς σ header-said₂;
         }
 
 -- ---- what the calls of `commit` ask

@@ -145,8 +145,8 @@ module _ (key : SectionKey) where
         split A B C (M ++ D) a (from-greater B b) c (from-key M D m d) ∙ ap (λ (l : Report). mergeReports A C ++ l) (first B M D b m)
 
     -- a section of the first report, whose key no section of the second has
-    around-own : (M : Report) → Compared key Ordering·eq M → mergeReports (A ++ (M ++ B)) (C ++ D) ≡ mergeReports A C ++ (M ++ mergeReports B D)
-    around-own M m =
+    around-header : (M : Report) → Compared key Ordering·eq M → mergeReports (A ++ (M ++ B)) (C ++ D) ≡ mergeReports A C ++ (M ++ mergeReports B D)
+    around-header M m =
         split A (M ++ B) C D a (from-key M B m b) c (from-greater D d) ∙ ap (λ (l : Report). mergeReports A C ++ l) (first-header M B D m d)
 
   header-key : (items : List Item) → Compared key Ordering·eq (map (inSection key) items)
@@ -175,7 +175,7 @@ module _ (test path : Bytes) (items : List Item) (A S B C T D : Report) (a : Com
 
   -- or into the first
   pub in-first : (M : Report) → Compared key Ordering·eq M → mergeReports (A ++ (anew M ++ B)) (C ++ D) ≡ mergeReports A C ++ (anew M ++ mergeReports B D)
-  in-first M m = around-own key A B C D a b c d (anew M) (header-key key (sectionItem (spellingOf path M) ∷ items))
+  in-first M m = around-header key A B C D a b c d (anew M) (header-key key (sectionItem (spellingOf path M) ∷ items))
 
   -- one of the second report is replaced there
   pub second-by-second : mergeReports (A ++ B) (C ++ (anew T ++ D)) ≡ replaceSection test path items (mergeReports (A ++ B) (C ++ (T ++ D)))
@@ -185,11 +185,11 @@ module _ (test path : Bytes) (items : List Item) (A S B C T D : Report) (a : Com
   -- one of the first is replaced there, or in the second
   pub first-by-first : mergeReports (A ++ (anew S ++ B)) (C ++ D) ≡ replaceSection test path items (mergeReports (A ++ (S ++ B)) (C ++ D))
   first-by-first =
-      in-first S s ∙ sym (ap (replaceSection test path items) (around-own key A B C D a b c d S s) ∙ replaced-around S s)
+      in-first S s ∙ sym (ap (replaceSection test path items) (around-header key A B C D a b c d S s) ∙ replaced-around S s)
 
   pub first-by-second : mergeReports (A ++ B) (C ++ (anew S ++ D)) ≡ replaceSection test path items (mergeReports (A ++ (S ++ B)) (C ++ D))
   first-by-second =
-      in-second S s ∙ sym (ap (replaceSection test path items) (around-own key A B C D a b c d S s) ∙ replaced-around S s)
+      in-second S s ∙ sym (ap (replaceSection test path items) (around-header key A B C D a b c d S s) ∙ replaced-around S s)
 
 -- ---- as one pass
 

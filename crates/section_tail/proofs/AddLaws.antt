@@ -35,7 +35,7 @@ use Rattle.section_tail.specs.declared.Outcome.the-variants.{Items, Refu
 use Rattle.section_tail.specs.Tail.{insertAll, endOf, itemsOf, OpenSection, TailFlushed}
 use Rattle.section_tail.specs.RowAdded.{RowAdded}
 use Rattle.section_tail.proofs.TailLaws.{insert-added, inserted-last}
-use Rattle.section_tail.proofs.ItemLaws.{held-length, none-inserted, inserted-none, items-last, same-held, same-queued}
+use Rattle.section_tail.proofs.ItemLaws.{held-length, none-inserted, inserted-none, items-last, same-held, same-inserted}
 
 module _ {text ws : List ℕ} {index used spare at : ℕ} {s : OpenSizes} (r : Row) (adds : Bool) (κ : OpenSection text ws index used spare at s) where
   abbrev e : Item
@@ -93,7 +93,7 @@ module _ {text ws : List ℕ} {index used spare at : ℕ} {s : OpenSizes} (r : R
       same k p q = π .others k (omega arith) (omega arith)
 
       κ₀ : OpenSection text ws′ index used spare at s
-      κ₀ = same-queued text ws ws′ index at s same used κ σ (omega arith) (kept-wider kept (omega arith) w)
+      κ₀ = same-inserted text ws ws′ index at s same used κ σ (omega arith) (kept-wider kept (omega arith) w)
 
       s′ : OpenSizes
       s′ = record { main = s .main; delta = s .delta; tail = s .tail + 1; flushes = turns }

@@ -109,9 +109,9 @@ module _ (text ws ws′ : List ℕ) (index : ℕ) where
         ap₂ insertAll (same-all at (z .main) (z .delta) (λ k a b. s k a (omega arith)))
         (same-items text ws ws′ index (at + z .main + z .delta) (z .tail) (λ k a b. s k (omega arith) b))
 
-    pub same-queued : {used spare : ℕ} (used′ : ℕ) → OpenSection text ws index used spare at z → Store ws′ index used′ → endOf at z ≤ used′
+    pub same-inserted : {used spare : ℕ} (used′ : ℕ) → OpenSection text ws index used spare at z → Store ws′ index used′ → endOf at z ≤ used′
         → UnchangedOutside ws ws′ 0 spare → OpenSection text ws′ index used′ spare at z
-    same-queued used′ κ σ l kept = record {
+    same-inserted used′ κ σ l kept = record {
       parts = same-parts used′ at (z .main) (z .delta) (κ .parts) σ (omega arith) (λ k a b. s k a (omega arith)) kept;
       alone = κ .alone;
       room = l;

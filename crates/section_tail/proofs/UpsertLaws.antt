@@ -159,8 +159,8 @@ module _ {text ws : List ℕ} {index used spare at m : ℕ} {s : OpenSizes} (κ 
   tail-inner l k h = all-inner κ (κ .alone q) k (omega arith)
 
   module _ {ws₁ : List ℕ} (ρ : Presorted text ws ws₁ index used at m) where
-    pub reordered-inner : m ≤ s .main + s .tail → (k : ℕ) → k < m → ItemRow text (row ws₁ index (at + k))
-    reordered-inner l k h = go (ρ .each k h)
+    pub presorted-inner : m ≤ s .main + s .tail → (k : ℕ) → k < m → ItemRow text (row ws₁ index (at + k))
+    presorted-inner l k h = go (ρ .each k h)
       where
         go : (j : ℕ) × (j < m) × (row ws₁ index (at + k) ≡ row ws index (at + j)) → ItemRow text (row ws₁ index (at + k))
         go (j, i, e) = rw e (tail-inner l j i)

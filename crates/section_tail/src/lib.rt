@@ -65,12 +65,12 @@ fn upsert_next(
         row,
         false,
     );
-    let UpsertOutcome::Items(settled, recent) = got else {
+    let UpsertOutcome::Items(main, delta) = got else {
         return sizes;
     };
     OpenSizes {
-        main: settled,
-        delta: recent,
+        main: main,
+        delta: delta,
         tail: 0,
         flushes: sizes.flushes,
     }
@@ -206,10 +206,10 @@ fn upsert_row(
     let n = sizes.main;
     let p = sizes.delta;
     match section_upsert::upsert(text, words, index, used, spare, at, n, p, row, accumulate) {
-        UpsertOutcome::Items(settled, recent) => {
+        UpsertOutcome::Items(main, delta) => {
             return Outcome::Items(OpenSizes {
-                main: settled,
-                delta: recent,
+                main: main,
+                delta: delta,
                 tail: 0,
                 flushes: sizes.flushes,
             });

@@ -223,11 +223,11 @@ module _ (combine : Item → Item → Answer Item) where
     -- ---- the settled and the recent items
 
     -- e is added to the settled
-    pub add-settled : (e : Item) (xs ys : List Item) → Absent e ys → adding e (mergeItems xs ys) ≡ mapAccepted (λ l. mergeItems l ys) (adding e xs)
+    pub add-main : (e : Item) (xs ys : List Item) → Absent e ys → adding e (mergeItems xs ys) ≡ mapAccepted (λ l. mergeItems l ys) (adding e xs)
     unfolding mergeItems
-    add-settled e xs [] a = map-all (λ l. l) (adding e xs) (λ l. refl)
-    add-settled e xs (y ∷ ys) a =
-        add-other e y (mergeItems xs ys) (a .0) ∙ ap (mapAccepted (insert y)) (add-settled e xs ys (a .1))
+    add-main e xs [] a = map-all (λ l. l) (adding e xs) (λ l. refl)
+    add-main e xs (y ∷ ys) a =
+        add-other e y (mergeItems xs ys) (a .0) ∙ ap (mapAccepted (insert y)) (add-main e xs ys (a .1))
         ∙ map-one (insert y) (λ l. mergeItems l ys) (λ l. insert y (mergeItems l ys)) (adding e xs) (λ l m. refl)
 
 -- no item of ys has the key of one of xs
@@ -275,7 +275,7 @@ module _ (xs : List Item) where
 
 insert-union : (y : Item) (xs ys : List Item) → Absent y xs → Absent y ys → mergeItems (insert y xs) ys ≡ insert y (mergeItems xs ys)
 insert-union y xs ys a b =
-    accepted-inj (sym (ap (mapAccepted (λ l. mergeItems l ys)) (add-absent replace y xs a)) ∙ sym (add-settled replace replace-keyed y xs ys b)
+    accepted-inj (sym (ap (mapAccepted (λ l. mergeItems l ys)) (add-absent replace y xs a)) ∙ sym (add-main replace replace-keyed y xs ys b)
     ∙ add-absent replace y (mergeItems xs ys) (union-absent y xs ys a b))
 
 insert-apart : (y : Item) (xs ys : List Item) → Above itemKey compareBytes (itemKey y) ys → Apart xs ys → Apart (insert y xs) ys

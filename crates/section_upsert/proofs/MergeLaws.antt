@@ -10,7 +10,7 @@ use Rattle.table.specs.Store.{row, Store}
 use Rattle.table.proofs.PlaceLaws.{by-lt}
 use Rattle.table_interleave.specs.Interleaved.{Ascending, Interleaved, InsertPositions}
 use Rattle.table_interleave.proofs.InterleavedLaws.{interleaved-each}
-use Rattle.table_interleave.proofs.PositionLaws.{positions-rising, woven-adds, woven-sorted}
+use Rattle.table_interleave.proofs.PositionLaws.{positions-rising, interleaved-adds, interleaved-sorted}
 use Rattle.ordmap.proofs.Results.{accepted-inj}
 use Rattle.model.specs.Bytes.{compareBytes}
 use Rattle.model.specs.Report.{Item, itemKey, compareItems}
@@ -60,13 +60,13 @@ module _ {text ws : List ℕ} {index used spare at n p : ℕ} (π : MainDelta te
       → DeltaMerged text ws ws′ index used at n p
   main-now {ws′} σ ω = record {
     items =
-        accepted-inj (sym (woven-adds (itemOf text) ω (λ i l. refl) (λ j l. refl) (λ k l. refl) itemKey compareBytes replace bytes-order replace-keyed insert-positions rising (π .main .sorted) (π .delta .sorted))
+        accepted-inj (sym (interleaved-adds (itemOf text) ω (λ i l. refl) (λ j l. refl) (λ k l. refl) itemKey compareBytes replace bytes-order replace-keyed insert-positions rising (π .main .sorted) (π .delta .sorted))
         ∙ union-added (itemsAt text ws index at n) (itemsAt text ws index (at + n) p) parts-apart (π .delta .sorted));
     still = record {
       store = σ;
       room = omega (arith, π .delta .room);
       inner = λ k l. interleaved-each rising ω (λ (r : Row). ItemRow text r) each (at + k) (omega arith) (omega arith);
-      sorted = woven-sorted (itemOf text) ω (λ i l. refl) (λ j l. refl) (λ k l. refl) itemKey compareBytes replace bytes-order replace-keyed insert-positions rising (π .main .sorted) (π .delta .sorted);
+      sorted = interleaved-sorted (itemOf text) ω (λ i l. refl) (λ j l. refl) (λ k l. refl) itemKey compareBytes replace bytes-order replace-keyed insert-positions rising (π .main .sorted) (π .delta .sorted);
     };
     others = ω .below;
   }

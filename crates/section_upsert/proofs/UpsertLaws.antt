@@ -28,7 +28,7 @@ use Rattle.table_item.specs.Combining.{combineOf}
 use Rattle.section_upsert.specs.declared.UpsertOutcome.the-variants.{Items, Refused}
 use Rattle.section_upsert.specs.MainDelta.{insert, mergeItems, allAt, MainDelta, InsertedAt, DeltaInserted}
 use Rattle.section_upsert.specs.Upserted.{RowCombined, Upserted}
-use Rattle.section_upsert.proofs.ItemLaws.{same-key, key-same, Absent, union-absent, length-insert, length-union, add-absent, add-settled, add-delta}
+use Rattle.section_upsert.proofs.ItemLaws.{same-key, key-same, Absent, union-absent, length-insert, length-union, add-absent, add-main, add-delta}
 use Rattle.section_upsert.proofs.PlaceLaws.{between, between-absent, placed-key, place-keys, absent-tabulate}
 use Rattle.section_upsert.proofs.MergeLaws.{parts-between, parts-apart, main-now}
 use Rattle.section_upsert.proofs.RangeLaws.{keyed, same-items, same-open, run-at, replaced-added, replaced-keys, replaced-open, inserted-added, inserted-open}
@@ -115,8 +115,8 @@ module _ (text ws : List ℕ) (index used spare at n p : ℕ) (r : Row) (adds : 
   -- ---- the key stands at place i of the settled
 
   module _ (i : ℕ) (i<n : i < n) (q : At i ≡ place e main) where
-    not-recent : Absent e delta
-    not-recent = absent-tabulate e h p (λ j l x. go j l (key-same (h j) (f i) (sym (same-key e (h j) x) ∙ same-key e (f i) (placed-key e f n i (sym q)))))
+    not-delta : Absent e delta
+    not-delta = absent-tabulate e h p (λ j l x. go j l (key-same (h j) (f i) (sym (same-key e (h j) x) ∙ same-key e (f i) (placed-key e f n i (sym q)))))
       where
         go : (j : ℕ) → j < p → compareItems (h j) (f i) ≡ Ordering·eq → ⊥
         go j l x =
@@ -124,11 +124,11 @@ module _ (text ws : List ℕ) (index used spare at n p : ℕ) (r : Row) (adds : 
             (λ m. let z : Ordering·gt ≡ Ordering·eq = sym (parts-between π j l .below i m) ∙ x in impossible cc)
             (λ m. let z : Ordering·lt ≡ Ordering·eq = sym (parts-between π j l .above i m i<n) ∙ x in impossible cc)
 
-    pub entered-settled : {ws′ : List ℕ} {both : Row} → ItemRow text r → RowCombined ws ws′ index used (at + i) r adds (One both) → index + used ≤ spare
+    pub upserted-main : {ws′ : List ℕ} {both : Row} → ItemRow text r → RowCombined ws ws′ index used (at + i) r adds (One both) → index + used ≤ spare
         → Upserted text ws ws′ index used spare at n p r adds (Items n p)
-    entered-settled {ws′} {both} inner χ b =
+    upserted-main {ws′} {both} inner χ b =
         upserted ws′ n p
-        (add-settled (combineOf adds) (keyed adds) e main delta not-recent
+        (add-main (combineOf adds) (keyed adds) e main delta not-delta
         ∙ ap (mapAccepted (λ l. mergeItems l delta)) (replaced-added text ws index used at n r adds (π .main) i i<n q ws′ both (χ .item text) (χ .rows))
         ∙ ap (λ (l : List Item). accepted (mergeItems (itemsAt text ws′ index at n) l)) (sym (same-items text ws ws′ index (at + n) p same)))
         (record {
@@ -144,9 +144,9 @@ module _ (text ws : List ℕ) (index used spare at n p : ℕ) (r : Row) (adds : 
         same : Unchanged (row ws index) (row ws′ index) (at + n) (at + n + p)
         same k x y = χ .rows .others k (omega (arith, π .delta .room)) (omega arith)
 
-    pub overflow-settled : {ws′ : List ℕ} → RowCombined ws ws′ index used (at + i) r adds Overflow → Upserted text ws ws′ index used spare at n p r adds (Refused CallOverflow)
-    overflow-settled χ = record {
-      items = sym (ap counted (add-settled (combineOf adds) (keyed adds) e main delta not-recent
+    pub overflow-main : {ws′ : List ℕ} → RowCombined ws ws′ index used (at + i) r adds Overflow → Upserted text ws ws′ index used spare at n p r adds (Refused CallOverflow)
+    overflow-main χ = record {
+      items = sym (ap counted (add-main (combineOf adds) (keyed adds) e main delta not-delta
           ∙ ap (mapAccepted (λ l. mergeItems l delta)) (run-at text ws index used at n r adds (π .main) i i<n q ∙ ap (λ (a : Answer Item). mapAccepted (λ y. set main i y) a) (sym (χ .item text)))));
       still = tt;
       others = λ k x y. χ .rows k x (omega (arith, π .main .room));
@@ -156,19 +156,19 @@ module _ (text ws : List ℕ) (index used spare at n p : ℕ) (r : Row) (adds : 
   -- ---- the key is not among the settled, and goes to place i of them
 
   module _ (i : ℕ) (a : Insert i ≡ place e main) where
-    pub not-settled : Absent (itemOf text r) (itemsAt text ws index at n)
-    not-settled = between-absent (between e f n i (π .main .sorted) (sym a))
+    pub not-main : Absent (itemOf text r) (itemsAt text ws index at n)
+    not-main = between-absent (between e f n i (π .main .sorted) (sym a))
 
-    to-recent : adding whole ≡ mapAccepted (mergeItems main) (adding delta)
-    to-recent = add-delta main (combineOf adds) (keyed adds) e delta not-settled (π .delta .sorted)
+    to-delta : adding whole ≡ mapAccepted (mergeItems main) (adding delta)
+    to-delta = add-delta main (combineOf adds) (keyed adds) e delta not-main (π .delta .sorted)
 
     -- it stands at place k of the recent ones
     module _ (k : ℕ) (k<p : k < p) (q : At k ≡ place e delta) where
-      pub entered-recent : {ws′ : List ℕ} {both : Row} → ItemRow text r → RowCombined ws ws′ index used (at + n + k) r adds (One both) → index + used ≤ spare
+      pub upserted-delta : {ws′ : List ℕ} {both : Row} → ItemRow text r → RowCombined ws ws′ index used (at + n + k) r adds (One both) → index + used ≤ spare
           → Upserted text ws ws′ index used spare at n p r adds (Items n p)
-      entered-recent {ws′} {both} inner χ b =
+      upserted-delta {ws′} {both} inner χ b =
           upserted ws′ n p
-          (to-recent ∙ ap (mapAccepted (mergeItems main)) (replaced-added text ws index used (at + n) p r adds (π .delta) k k<p q ws′ both (χ .item text) (χ .rows))
+          (to-delta ∙ ap (mapAccepted (mergeItems main)) (replaced-added text ws index used (at + n) p r adds (π .delta) k k<p q ws′ both (χ .item text) (χ .rows))
           ∙ ap (λ (l : List Item). accepted (mergeItems l (itemsAt text ws′ index (at + n) p))) (sym (same-items text ws ws′ index at n same)))
           (record {
             main = same-open text ws ws′ index at n same used (π .main) (χ .store) (π .main .room);
@@ -183,9 +183,9 @@ module _ (text ws : List ℕ) (index used spare at n p : ℕ) (r : Row) (adds : 
           same : Unchanged (row ws index) (row ws′ index) at (at + n)
           same o x y = χ .rows .others o (omega (arith, π .main .room)) (omega arith)
 
-      pub overflow-recent : {ws′ : List ℕ} → RowCombined ws ws′ index used (at + n + k) r adds Overflow → Upserted text ws ws′ index used spare at n p r adds (Refused CallOverflow)
-      overflow-recent χ = record {
-        items = sym (ap counted (to-recent ∙ ap (mapAccepted (mergeItems main)) (run-at text ws index used (at + n) p r adds (π .delta) k k<p q ∙ ap (λ (x : Answer Item). mapAccepted (λ y. set delta k y) x) (sym (χ .item text)))));
+      pub overflow-delta : {ws′ : List ℕ} → RowCombined ws ws′ index used (at + n + k) r adds Overflow → Upserted text ws ws′ index used spare at n p r adds (Refused CallOverflow)
+      overflow-delta χ = record {
+        items = sym (ap counted (to-delta ∙ ap (mapAccepted (mergeItems main)) (run-at text ws index used (at + n) p r adds (π .delta) k k<p q ∙ ap (λ (x : Answer Item). mapAccepted (λ y. set delta k y) x) (sym (χ .item text)))));
         still = tt;
         others = λ o x y. χ .rows o x (omega (arith, π .main .room));
         behind = λ o x y. χ .rows o (omega arith) y;
@@ -193,14 +193,14 @@ module _ (text ws : List ℕ) (index used spare at n p : ℕ) (r : Row) (adds : 
 
     -- it is to go to place k of the recent ones
     module _ (k : ℕ) (k≤p : k ≤ p) (q : Insert k ≡ place e delta) where
-      pub recent-full : used ≤ at + n + p → Upserted text ws ws index used spare at n p r adds (Refused TooManyEntries)
-      recent-full l = upserted-full ws (λ o x y. refl) not-settled (between-absent (between e h p k (π .delta .sorted) (sym q))) l
+      pub delta-full : used ≤ at + n + p → Upserted text ws ws index used spare at n p r adds (Refused TooManyEntries)
+      delta-full l = upserted-full ws (λ o x y. refl) not-main (between-absent (between e h p k (π .delta .sorted) (sym q))) l
 
-      pub entered-noted : (ws′ : List ℕ) → at + n + p < used → ItemRow text r → DeltaInserted ws ws′ index used spare (at + n) p k i r
+      pub upserted-inserted : (ws′ : List ℕ) → at + n + p < used → ItemRow text r → DeltaInserted ws ws′ index used spare (at + n) p k i r
           → Upserted text ws ws′ index used spare at n p r adds (Items n (p + 1))
-      entered-noted ws′ l ι ν =
+      upserted-inserted ws′ l ι ν =
           upserted ws′ n (p + 1)
-          (to-recent ∙ ap (mapAccepted (mergeItems main)) (inserted-added text ws index used (at + n) p r adds (π .delta) k k≤p q ws′ (ν .rows))
+          (to-delta ∙ ap (mapAccepted (mergeItems main)) (inserted-added text ws index used (at + n) p r adds (π .delta) k k≤p q ws′ (ν .rows))
           ∙ ap (λ (x : List Item). accepted (mergeItems x (itemsAt text ws′ index (at + n) (p + 1)))) (sym items))
           (record {
             main = same-open text ws ws′ index at n same used (π .main) (ν .store) (π .main .room);
@@ -231,7 +231,7 @@ module _ (text ws : List ℕ) (index used spare at n p : ℕ) (r : Row) (adds : 
   -- ---- the key comes after all, and nothing is recent
 
   pub last-full : p ≡ 0 → Insert n ≡ place (itemOf text r) (itemsAt text ws index at n) → used ≤ at + n → Upserted text ws ws index used spare at n p r adds (Refused TooManyEntries)
-  last-full z a l = upserted-full ws (λ o x y. refl) (not-settled n a) (absent-tabulate e h p (λ j m. absurd (omega arith))) (omega arith)
+  last-full z a l = upserted-full ws (λ o x y. refl) (not-main n a) (absent-tabulate e h p (λ j m. absurd (omega arith))) (omega arith)
 
   pub upserted-last : (ws′ : List ℕ) → p ≡ 0 → Insert n ≡ place (itemOf text r) (itemsAt text ws index at n) → at + n < used → ItemRow text r
       → Store ws′ index used → Updated (row ws index) (row ws′ index) used (at + n) r → Upserted text ws ws′ index used spare at n p r adds (Items (n + 1) 0)

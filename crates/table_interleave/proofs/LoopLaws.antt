@@ -105,11 +105,11 @@ module _ {ws₀ ws : List ℕ} {index used at n p spare : ℕ} (φ : Fits ws₀ 
           ∙ η .saved j l
 
       -- the rank of one that stands behind the j-th of the p is above j
-      above-rank : (i c : ℕ) → place ≤ i → CountBefore (λ k. word ws₀ (spare + k)) p i c → j < c
-      above-rank i c a r = by-lt j c (λ z. z) (λ z. absurd (omega (arith, is-place, r .rest j z l)))
+      above-count : (i c : ℕ) → place ≤ i → CountBefore (λ k. word ws₀ (spare + k)) p i c → j < c
+      above-count i c a r = by-lt j c (λ z. z) (λ z. absurd (omega (arith, is-place, r .rest j z l)))
 
-      pub weaving-next : Interleaving ws₀ ws₂ index used at n p spare j place
-      weaving-next = record {
+      pub interleaving-next : Interleaving ws₀ ws₂ index used at n p spare j place
+      interleaving-next = record {
         size = simp length-set (size₁ ∙ η .size);
         most = omega arith;
         top = omega (arith, place-low, η .top);
@@ -123,7 +123,7 @@ module _ {ws₀ ws : List ℕ} {index used at n p spare : ℕ} (φ : Fits ws₀ 
             (λ z. higher (index + (at + word ws₀ (spare + k) + k)) (omega (arith, η .high k (omega arith) b)) ∙ η .new k (omega arith) b);
         old = λ i c a b r. by-lt i hi
             (λ z. let y : c ≡ j + 1 = one-rank i c a z r in rw y (up i a z))
-            (λ z. higher (index + (at + i + c)) (omega (arith, above-rank i c a r)) ∙ η .old i c z b r);
+            (λ z. higher (index + (at + i + c)) (omega (arith, above-count i c a r)) ∙ η .old i c z b r);
         above = λ k a b. higher (index + k) (omega (arith, η .top)) ∙ η .above k a b;
         behind = λ k a. higher k (omega (arith, η .top, φ .rows, φ .behind)) ∙ η .behind k a;
       }
@@ -132,11 +132,11 @@ module _ {ws₀ ws : List ℕ} {index used at n p spare : ℕ} (φ : Fits ws₀ 
           one-rank : (i c : ℕ) → place ≤ i → i < hi → CountBefore (λ k. word ws₀ (spare + k)) p i c → c ≡ j + 1
           one-rank i c a b r = by-lt (j + 1) c
               (λ z. absurd (omega (arith, r .past (j + 1) z, η .high (j + 1) (omega arith) (omega (arith, r .most)))))
-              (λ z. omega (arith, above-rank i c a r))
+              (λ z. omega (arith, above-count i c a r))
 
   module _ {j hi : ℕ} (done : j ≤ 0) (η : Interleaving ws₀ ws index used at n p spare j hi) where
-    saved-woven : Interleaved (number ws₀ index) (number ws index) (λ k. word ws₀ (spare + k)) used at n p
-    saved-woven = record {
+    saved-interleaved : Interleaved (number ws₀ index) (number ws index) (λ k. word ws₀ (spare + k)) used at n p
+    saved-interleaved = record {
       below = λ k l m. η .below (index + k) (omega arith);
       new = λ k l. η .new k (omega arith) l;
       old = λ i c l r. by-lt i hi
@@ -154,7 +154,7 @@ module _ {ws ws₀ ws′ : List ℕ} {index used at n p spare j hi : ℕ} (σ : 
     (e : length ws₀ ≡ length ws)
     (μ : Moved ws ws₀ (index + at + n) (spare + p) p) (done : j ≤ 0) (η : Interleaving ws₀ ws′ index used at n p spare j hi) where
   numbers-interleaved : Interleaved (number ws index) (number ws′ index) (λ k. word ws (spare + k)) used at n p
-  numbers-interleaved = interleaved-as (φ .rows) (same-numbers φ e μ) (same-places φ e μ) (saved-woven (saved-fits φ e μ) done η)
+  numbers-interleaved = interleaved-as (φ .rows) (same-numbers φ e μ) (same-places φ e μ) (saved-interleaved (saved-fits φ e μ) done η)
 
   pub interleaving-store : Store ws′ index used
   interleaving-store = interleaved-store σ (φ .rising) (φ .rows) numbers-interleaved (η .size ∙ e)

@@ -191,14 +191,14 @@ module _ {A E : Type 0} {f g : ℕ → A} (read : A → E) {place : ℕ → ℕ}
     }
 
     -- what stands there is one pass over both
-    pub woven-pass : onePass key cmp combine (tabulate x n) (tabulate y p) ≡ accepted (tabulate z (n + p))
-    woven-pass = mixed-pass key cmp combine L x y z place n p mixed
+    pub interleaved-pass : onePass key cmp combine (tabulate x n) (tabulate y p) ≡ accepted (tabulate z (n + p))
+    interleaved-pass = mixed-pass key cmp combine L x y z place n p mixed
 
   module _ {R K : Type 0} (key : E → K) (cmp : K → K → Ordering) (combine : E → E → Result R E) (L : Order cmp) (C : Keyed key cmp combine)
       (σ : InsertPositions key cmp x y place n p) (ρ : Ascending place n p) (s : Sorted key cmp (tabulate x n)) (t : Sorted key cmp (tabulate y p)) where
     -- what stands there is the map with all of the p added
-    pub woven-adds : addAll key cmp combine (tabulate y p) (tabulate x n) ≡ accepted (tabulate z (n + p))
-    woven-adds = sym (onePass-adds key cmp combine L C (tabulate x n) (tabulate y p) s t) ∙ woven-pass key cmp combine L σ ρ
+    pub interleaved-adds : addAll key cmp combine (tabulate y p) (tabulate x n) ≡ accepted (tabulate z (n + p))
+    interleaved-adds = sym (onePass-adds key cmp combine L C (tabulate x n) (tabulate y p) s t) ∙ interleaved-pass key cmp combine L σ ρ
 
-    pub woven-sorted : Sorted key cmp (tabulate z (n + p))
-    woven-sorted = addAll-sorted key cmp combine L C (tabulate y p) (tabulate x n) (tabulate z (n + p)) s woven-adds
+    pub interleaved-sorted : Sorted key cmp (tabulate z (n + p))
+    interleaved-sorted = addAll-sorted key cmp combine L C (tabulate y p) (tabulate x n) (tabulate z (n + p)) s interleaved-adds

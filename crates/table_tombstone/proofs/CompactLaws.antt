@@ -138,12 +138,12 @@ module _ {ws₀ ws : List ℕ} {index used n spare i v : ℕ} (φ : Fits ws₀ i
     same-number = η .rest i (omega arith) (omega (arith, φ .rows))
 
     -- where the tag stands
-    pub sifting-room : number ws index i * row-words + tag-word < index
-    sifting-room = omega (arith, same-number, tag-room i (φ .store) (omega (arith, φ .rows)))
+    pub compacting-room : number ws index i * row-words + tag-word < index
+    compacting-room = omega (arith, same-number, tag-room i (φ .store) (omega (arith, φ .rows)))
 
     same-tag : word ws (number ws index i * row-words + tag-word) ≡ row ws₀ index i .tag
     unfolding row
-    same-tag = η .kept .below (number ws index i * row-words + tag-word) sifting-room ∙ ap (λ (j : ℕ). word ws₀ (j * row-words + tag-word)) same-number
+    same-tag = η .kept .below (number ws index i * row-words + tag-word) compacting-room ∙ ap (λ (j : ℕ). word ws₀ (j * row-words + tag-word)) same-number
 
     -- the number goes to both, of which one is free still
     abbrev ws₁ : List ℕ
@@ -166,8 +166,8 @@ module _ {ws₀ ws : List ℕ} {index used n spare i v : ℕ} (φ : Fits ws₀ i
           ∙ getD-set-same ws (spare + (i - v)) (number ws index i) 0 (omega (arith, η .size, φ .room))
           ∙ same-number
 
-      pub sifting-next : Compacting ws₀ ws₂ index used n spare (i + 1) (v + s)
-      sifting-next = record {
+      pub compacting-next : Compacting ws₀ ws₂ index used n spare (i + 1) (v + s)
+      compacting-next = record {
         size = simp length-set (η .size);
         most = omega arith;
         count =
@@ -198,8 +198,8 @@ module _ {ws₀ ws : List ℕ} {index used n spare i v : ℕ} (φ : Fits ws₀ i
     all : i ≡ n
     all = omega (arith, η .most)
 
-    sifted : Partitioned (row ws₀ index) (number ws₀ index) (number ws′ index) used n
-    sifted = record {
+    compacted : Partitioned (row ws₀ index) (number ws₀ index) (number ws′ index) used n
+    compacted = record {
       live = λ k l t.
           μ .kept .below (index + live-count (row ws₀ index) k) (omega (arith, all, η .count, live-count-past (row ws₀ index) k i (omega (arith, all)) t))
           ∙ η .live k (omega (arith, all)) t;
@@ -213,11 +213,11 @@ module _ {ws₀ ws : List ℕ} {index used n spare i v : ℕ} (φ : Fits ws₀ i
       over = λ k l m. μ .kept .above (index + k) (omega (arith, compacting-most, all)) ∙ η .rest k (omega (arith, all)) m;
     }
 
-    pub sifted-store : Store ws′ index used
-    sifted-store = parted-store (φ .store) (φ .rows) sifted (e ∙ η .size)
+    pub compacted-store : Store ws′ index used
+    compacted-store = parted-store (φ .store) (φ .rows) compacted (e ∙ η .size)
 
-    pub sifted-rows : Compacted (row ws₀ index) (row ws′ index) n v
-    sifted-rows = parted-rows (φ .store) (φ .rows) sifted kept (η .count ∙ ap (live-count (row ws₀ index)) all)
+    pub compacted-rows : Compacted (row ws₀ index) (row ws′ index) n v
+    compacted-rows = parted-rows (φ .store) (φ .rows) compacted kept (η .count ∙ ap (live-count (row ws₀ index)) all)
       where
         kept : UnchangedOutside ws₀ ws′ index (spare + n)
         kept = record {

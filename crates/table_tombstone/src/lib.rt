@@ -14,7 +14,7 @@ ghost use Rattle.table_item.specs.Items.{tombstone-tag};
 ghost use Rattle.table_tombstone.specs.Live.{isLive, oneFor, MarkedDeleted, Compacted};
 
 // One for a living row's tag, none for a dead one's: a number to add, so that the loop of `compact` has no branch that can't be foretold.
-fn is_live(tag: u64) -> usize
+fn count_live(tag: u64) -> usize
     ensures told { λ r. ⌜ r ≡ oneFor (not (eqb tag tombstone-tag)) ⌝ }
     ensures most { λ r. ⌜ r ≤ 1 ⌝ }
 {
@@ -62,7 +62,7 @@ pub fn compact(words: &mut [u64], index: usize, used: usize, n: usize, spare: us
         let tag = words[(number as usize) * ROW_WORDS + TAG_WORD];
         words[spare + (i - living)] = number;
         words[index + living] = number;
-        living += is_live(tag);
+        living += count_live(tag);
         i += 1;
     }
     table::copy_forward(words, spare, index + living, n - living);

@@ -4,7 +4,7 @@ use Prim.Native.Nat.{ℕ, _+_, _/_, _-_}
 use Rattle.table.specs.Places.{SearchBounds}
 use Rattle.table.proofs.BinarySearch.{bounds-up, bounds-down, bounds-done}
 use Rattle.merge_search.specs.Search.{Before}
-use Rattle.merge_search.proofs.SearchLaws.{before-falls, span-halved}
+use Rattle.merge_search.proofs.SearchLaws.{before-falls, span-bounds}
 use borrow.Author.Needs.{needs}
 use Rattle.merge_search.proofs.lower_bound_entry.Statement.{statement}
 use Rattle.merge_search.proofs.lower_bound_entry.Tie as tie
@@ -28,7 +28,7 @@ lower-bound-entry-spec =
     Inv-loop
     μ-loop
     (λ c κs. search needs)
-    (λ c. let s = c .before .before .before in span-halved (s .args .key) (s .pre .0) (c .gallop .ensures))
+    (λ c. let s = c .before .before .before in span-bounds (s .args .key) (s .pre .0) (c .gallop .ensures))
     (λ c. omega arith)
     (λ c. omega arith)
     (λ c κs. let l = c .before in (start l .pre .0, start l .pre .1, omega arith))

@@ -6,7 +6,7 @@ use native.Mathlib.Omega.{arith}
 use Rattle.section_commit.specs.declared.KeptSizes.{KeptSizes}
 use Rattle.section_tail.specs.Tail.{rowsOf}
 use Rattle.section.proofs.StateLaws.{by-inside, next-as, open-as, held-as}
-use Rattle.section.proofs.OtherLaws.{items-inside, end-empty, settled-sections, settled-open, end-kept}
+use Rattle.section.proofs.OtherLaws.{items-inside, end-empty, all-sections, main-open, end-kept}
 use borrow.Author.Needs.{needs}
 use Rattle.section.proofs.on_end_of_record.Statement.{statement}
 use Rattle.section.proofs.on_end_of_record.Tie as tie
@@ -48,7 +48,7 @@ on-end-of-record-spec =
     let ζ = start (spare w .before) .pre in
     let ς = w .flush-all .ensures in
     let rows = spare w .capacity .ensures in (
-      (held-as p (settled-sections ζ ς), settled-open ζ ς p),
+      (held-as p (all-sections ζ ς), main-open ζ ς p),
       (
         (
           record { test = ζ .test; path = ζ .path },

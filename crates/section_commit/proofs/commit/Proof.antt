@@ -1,7 +1,7 @@
 -- `section_commit::commit` meets its contract: in place of a settled section, or among the late ones. Assumes nothing.
 use native.Mathlib.Omega.{arith}
 use Rattle.table_section.proofs.RangeLaws.{range-ends}
-use Rattle.section_commit.proofs.KeptLaws.{range-at, closed-late}
+use Rattle.section_commit.proofs.KeptLaws.{range-at, committed-delta}
 use borrow.Author.Needs.{needs}
 use Rattle.section_commit.proofs.commit.Statement.{statement}
 use Rattle.section_commit.proofs.commit.Tie as tie
@@ -42,5 +42,5 @@ commit-spec =
     let w = p .before .before in
     let f = found w in
     let s = begun f in
-    closed-late (s .pre .0 .0) (s .pre .0 .1) (s .pre .0 .2) (s .pre .1 .1 .0) (s .pre .1 .1 .1) (s .pre .1 .0) _ (f .equal-range .ensures) (λ h. omega arith)
+    committed-delta (s .pre .0 .0) (s .pre .0 .1) (s .pre .0 .2) (s .pre .1 .1 .0) (s .pre .1 .1 .1) (s .pre .1 .0) _ (f .equal-range .ensures) (λ h. omega arith)
     (w .with-position .ensures) (p .splice .ensures .1 .0) (p .splice .ensures .1 .1 .0) (p .splice .ensures .0) (p .splice .ensures .1 .1 .1)))

@@ -1,7 +1,7 @@
 -- `section_commit::commit_delta` meets its contract: the rows of its key die, and the section comes among the late ones. Assumes nothing.
 use native.Mathlib.Omega.{arith}
 use Rattle.table_section.proofs.RangeLaws.{range-ends}
-use Rattle.section_commit.proofs.KeptLaws.{bounds, range-front, closed-moved}
+use Rattle.section_commit.proofs.KeptLaws.{bounds, range-front, committed-moved}
 use borrow.Author.Needs.{needs}
 use Rattle.section_commit.proofs.commit_delta.Statement.{statement}
 use Rattle.section_commit.proofs.commit_delta.Tie as tie
@@ -38,6 +38,6 @@ commit-delta-spec =
     let w = p .before .before in
     let b = buried w in
     let s = begun b in
-    closed-moved (s .pre .0 .0) (s .pre .0 .1) (s .pre .0 .2) (s .pre .1 .1 .1 .0) (s .pre .1 .1 .1 .1) (s .pre .1 .0) (b .before .before .header-row .ensures)
+    committed-moved (s .pre .0 .0) (s .pre .0 .1) (s .pre .0 .2) (s .pre .1 .1 .1 .0) (s .pre .1 .1 .1 .1) (s .pre .1 .0) (b .before .before .header-row .ensures)
     (b .mark-deleted .ensures .0) (b .mark-deleted .ensures .1) (s .pre .1 .1 .0) _ (w .with-position .ensures) (p .splice .ensures .1 .0) (p .splice .ensures .1 .1 .0)
     (p .splice .ensures .0) (p .splice .ensures .1 .1 .1)))

@@ -1,7 +1,7 @@
 -- `section_commit::commit_in_place` meets its contract: the rows of its key die, and the section comes in place of some of them. Assumes nothing.
 use native.Mathlib.Omega.{arith}
 use Rattle.table_section.proofs.RangeLaws.{range-ends}
-use Rattle.section_commit.proofs.KeptLaws.{bounds, range-front, none-delta-has, enough, closed-placed}
+use Rattle.section_commit.proofs.KeptLaws.{bounds, range-front, none-delta-has, room, committed-placed}
 use borrow.Author.Needs.{needs}
 use Rattle.section_commit.proofs.commit_in_place.Statement.{statement}
 use Rattle.section_commit.proofs.commit_in_place.Tie as tie
@@ -41,7 +41,7 @@ commit-in-place-spec =
     let s = begun b in
     let π = s .pre .0 .0 in
     let ρ = s .pre .1 .0 .0 in
-    enough π (s .pre .0 .1) (s .pre .0 .2) (s .pre .1 .1 .0 .0) (s .pre .1 .1 .0 .1) ρ (b .before .before .header-row .ensures) (b .mark-deleted .ensures .0)
+    room π (s .pre .0 .1) (s .pre .0 .2) (s .pre .1 .1 .0 .0) (s .pre .1 .1 .0 .1) ρ (b .before .before .header-row .ensures) (b .mark-deleted .ensures .0)
     (b .mark-deleted .ensures .1) (none-delta-has π ρ (omega (arith, s .pre .1 .0 .1)) (s .pre .1 .1 .1) .1) _ (s .pre .1 .0 .1) (p .splice .ensures .1 .0)
     (p .splice .ensures .0))
     (λ c. search needs)
@@ -50,6 +50,6 @@ commit-in-place-spec =
     let s = begun b in
     let π = s .pre .0 .0 in
     let ρ = s .pre .1 .0 .0 in
-    closed-placed π (s .pre .0 .1) (s .pre .0 .2) (s .pre .1 .1 .0 .0) (s .pre .1 .1 .0 .1) ρ (b .before .before .header-row .ensures) (b .mark-deleted .ensures .0)
+    committed-placed π (s .pre .0 .1) (s .pre .0 .2) (s .pre .1 .1 .0 .0) (s .pre .1 .1 .0 .1) ρ (b .before .before .header-row .ensures) (b .mark-deleted .ensures .0)
     (b .mark-deleted .ensures .1) (none-delta-has π ρ (omega (arith, s .pre .1 .0 .1)) (s .pre .1 .1 .1) .1) _ (s .pre .1 .0 .1) (p .splice .ensures .1 .0)
     (p .splice .ensures .0)))

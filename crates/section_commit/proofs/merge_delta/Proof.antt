@@ -2,7 +2,7 @@
 use mathlib.Core.Path.{refl}
 use native.Mathlib.Omega.{arith}
 use Rattle.table.proofs.StoreLaws.{behind-store}
-use Rattle.section_commit.proofs.DeltaLaws.{cached-rising, settled-all}
+use Rattle.section_commit.proofs.DeltaLaws.{cached-rising, main-all}
 use borrow.Author.Needs.{needs}
 use Rattle.section_commit.proofs.merge_delta.Statement.{statement}
 use Rattle.section_commit.proofs.merge_delta.Tie as tie
@@ -25,4 +25,4 @@ merge-delta-spec =
     (λ c. let w = c .before .before .before in
     let n = w .before .before .before .before in
     let s = start n in
-    (settled-all (s .pre .0) (n .write-positions .ensures) (s .pre .1) (w .interleave .ensures .0) (w .interleave .ensures .1), (refl, refl))))
+    (main-all (s .pre .0) (n .write-positions .ensures) (s .pre .1) (w .interleave .ensures .0) (w .interleave .ensures .1), (refl, refl))))

@@ -1,7 +1,7 @@
 -- `section_tail::flush_tail` meets its contract. Assumes nothing.
 use mathlib.Core.Logic.{_≢_}
 use native.Mathlib.Omega.{arith}
-use Rattle.section_tail.proofs.UpsertLaws.{emptied-already, tail-inner, reordered-inner, emptied, as-they-came}
+use Rattle.section_tail.proofs.UpsertLaws.{emptied-already, tail-inner, presorted-inner, emptied, as-they-came}
 use borrow.Author.Needs.{needs}
 use Rattle.section_tail.proofs.flush_tail.Statement.{statement}
 use Rattle.section_tail.proofs.flush_tail.Tie as tie
@@ -40,12 +40,12 @@ flush-tail-spec =
     (λ c κs. let r = c .before .before .before in
     let κ = start (r .before) .pre .0 in
     let z = κ .alone (some (r .before)) in
-    (r .presort .ensures .store, omega (arith, κ .room), reordered-inner κ (some (r .before)) (r .presort .ensures) (omega arith)))
+    (r .presort .ensures .store, omega (arith, κ .room), presorted-inner κ (some (r .before)) (r .presort .ensures) (omega arith)))
     (λ c κs. let r = reordered c in
     let s = start (r .before) in
     let κ = s .pre .0 in
     let z = κ .alone (some (r .before)) in (
-      (c .before .sorted-prefix-len .ensures .0, c .before .sorted-prefix-len .ensures .1, omega (arith, κ .room), reordered-inner κ (some (r .before)) (r .presort .ensures) (omega arith)),
+      (c .before .sorted-prefix-len .ensures .0, c .before .sorted-prefix-len .ensures .1, omega (arith, κ .room), presorted-inner κ (some (r .before)) (r .presort .ensures) (omega arith)),
       (s .pre .1, omega (arith, s .pre .2, r .presort .kept .1 .0)),
     ))
     (λ c. search needs)

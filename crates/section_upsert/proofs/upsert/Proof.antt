@@ -11,7 +11,7 @@ use Rattle.table_item.specs.Items.{itemOf}
 use Rattle.table_item.specs.SortedItems.{FoundPlace}
 use Rattle.table_item.proofs.SearchLaws.{placed-as}
 use Rattle.section_upsert.proofs.InsertLaws.{replacing-as}
-use Rattle.section_upsert.proofs.UpsertLaws.{entered-settled, overflow-settled, last-full, upserted-last}
+use Rattle.section_upsert.proofs.UpsertLaws.{upserted-main, overflow-main, last-full, upserted-last}
 use Rattle.section_upsert.proofs.upsert.Statement.{statement}
 use Rattle.section_upsert.proofs.upsert.Tie as tie
 
@@ -64,13 +64,13 @@ upsert-spec =
     (λ c. let m = c .before .before .before .before .before in
     let a = here m in
     let s = start (found a) in
-    entered-settled _ _ _ _ _ _ _ _ _ _ (s .pre .0 .0) (i a) (known a .within) (known a .is) (s .pre .0 .1) (replacing-as (c .before .-both .given .1) (m .combine-at .ensures)) (s .pre .1 .0))
+    upserted-main _ _ _ _ _ _ _ _ _ _ (s .pre .0 .0) (i a) (known a .within) (known a .is) (s .pre .0 .1) (replacing-as (c .before .-both .given .1) (m .combine-at .ensures)) (s .pre .1 .0))
     (λ c. search needs)
     (λ c. search needs)
     (λ c. let m = c .before .before .before .before in
     let a = here m in
     let s = start (found a) in
-    overflow-settled _ _ _ _ _ _ _ _ _ _ (s .pre .0 .0) (i a) (known a .within) (known a .is) (replacing-as (c .enum-told .given .1) (m .combine-at .ensures)))
+    overflow-main _ _ _ _ _ _ _ _ _ _ (s .pre .0 .0) (i a) (known a .within) (known a .is) (replacing-as (c .enum-told .given .1) (m .combine-at .ensures)))
     (λ c. search needs)
     (λ c. search needs)
     (λ c. search needs)

@@ -12,7 +12,7 @@ use Rattle.table_item.specs.SortedItems.{FoundPlace}
 use Rattle.table_item.proofs.SearchLaws.{placed-as}
 use Rattle.section_upsert.proofs.MergeLaws.{parts-rising}
 use Rattle.section_upsert.proofs.InsertLaws.{replacing-as}
-use Rattle.section_upsert.proofs.UpsertLaws.{entered-recent, overflow-recent, recent-full, entered-noted, upserted-interleaved}
+use Rattle.section_upsert.proofs.UpsertLaws.{upserted-delta, overflow-delta, delta-full, upserted-inserted, upserted-interleaved}
 use Rattle.section_upsert.proofs.upsert_delta.Statement.{statement}
 use Rattle.section_upsert.proofs.upsert_delta.Tie as tie
 
@@ -88,14 +88,14 @@ upsert-delta-spec =
     (λ c. let m = c .before .before .before .before .before in
     let a = here m in
     let s = start (found a) in
-    entered-recent _ _ _ _ _ _ _ _ _ _ (s .pre .0 .0) (s .args .i) (s .pre .1 .2 .is) (k a) (known a .within) (known a .is) (s .pre .0 .1)
+    upserted-delta _ _ _ _ _ _ _ _ _ _ (s .pre .0 .0) (s .args .i) (s .pre .1 .2 .is) (k a) (known a .within) (known a .is) (s .pre .0 .1)
     (replacing-as (c .before .-both .given .1) (m .combine-at .ensures)) (s .pre .1 .0))
     (λ c. search needs)
     (λ c. search needs)
     (λ c. let m = c .before .before .before .before in
     let a = here m in
     let s = start (found a) in
-    overflow-recent _ _ _ _ _ _ _ _ _ _ (s .pre .0 .0) (s .args .i) (s .pre .1 .2 .is) (k a) (known a .within) (known a .is)
+    overflow-delta _ _ _ _ _ _ _ _ _ _ (s .pre .0 .0) (s .args .i) (s .pre .1 .2 .is) (k a) (known a .within) (known a .is)
     (replacing-as (c .enum-told .given .1) (m .combine-at .ensures)))
     (λ c. search needs)
     (λ c. search needs)
@@ -103,7 +103,7 @@ upsert-delta-spec =
     (λ c. search needs)
     (λ c. let a = c .before .before in
     let s = start (found₂ a) in
-    recent-full _ _ _ _ _ _ _ _ _ _ (s .pre .0 .0) (s .args .i) (s .pre .1 .2 .is) (j a) (gap a .within) (gap a .is) (c .if1 .taken))
+    delta-full _ _ _ _ _ _ _ _ _ _ (s .pre .0 .0) (s .args .i) (s .pre .1 .2 .is) (j a) (gap a .within) (gap a .is) (c .if1 .taken))
     (λ c. search needs)
     (λ c κs. let a = c .before .before .before in
     let p = places (found₂ a) in
@@ -115,13 +115,13 @@ upsert-delta-spec =
     let a = free q in
     let s = start (found₂ a) in
     let l = places (found₂ a) in
-    entered-noted _ _ _ _ _ _ _ _ _ _ (s .pre .0 .0) (s .args .i) (s .pre .1 .2 .is) (j a) (gap a .within) (gap a .is) _ (omega arith) (s .pre .0 .1) (q .insert-delta .ensures))
+    upserted-inserted _ _ _ _ _ _ _ _ _ _ (s .pre .0 .0) (s .args .i) (s .pre .1 .2 .is) (j a) (gap a .within) (gap a .is) _ (omega arith) (s .pre .0 .1) (q .insert-delta .ensures))
     (λ c. search needs)
     (λ c κs. let q = c .before .before .before .before in
     let a = free q in
     let s = start (found₂ a) in
     let l = places (found₂ a) in
-    let ε = entered-noted _ _ _ _ _ _ _ _ _ (s .args .accumulate) (s .pre .0 .0) (s .args .i) (s .pre .1 .2 .is) (j a) (gap a .within) (gap a .is) _ (omega arith) (s .pre .0 .1) (q .insert-delta .ensures) in
+    let ε = upserted-inserted _ _ _ _ _ _ _ _ _ (s .args .accumulate) (s .pre .0 .0) (s .args .i) (s .pre .1 .2 .is) (j a) (gap a .within) (gap a .is) _ (omega arith) (s .pre .0 .1) (q .insert-delta .ensures) in
     ((ε .still .main .store, omega arith), (l .index, omega (arith, q .insert-delta .kept .0), parts-rising (ε .still) _ (omega arith))))
     (λ c. search needs)
     (λ c. search needs)
@@ -131,5 +131,5 @@ upsert-delta-spec =
     let a = free q in
     let s = start (found₂ a) in
     let l = places (found₂ a) in
-    let ε = entered-noted _ _ _ _ _ _ _ _ _ (s .args .accumulate) (s .pre .0 .0) (s .args .i) (s .pre .1 .2 .is) (j a) (gap a .within) (gap a .is) _ (omega arith) (s .pre .0 .1) (q .insert-delta .ensures) in
+    let ε = upserted-inserted _ _ _ _ _ _ _ _ _ (s .args .accumulate) (s .pre .0 .0) (s .args .i) (s .pre .1 .2 .is) (j a) (gap a .within) (gap a .is) _ (omega arith) (s .pre .0 .1) (q .insert-delta .ensures) in
     upserted-interleaved (s .args .n) (s .args .p + 1) (omega arith) ε (w .interleave .ensures .0) (w .interleave .ensures .1)))

@@ -7,7 +7,7 @@ use lib.ListN.{length}
 use Rattle.table.specs.Rows.{word}
 use denote.Ref.{now}
 use borrow.Author.Needs.{needs}
-use Rattle.table_interleave.proofs.LoopLaws.{Fits, Interleaving, saved-fits, interleaving-start, weaving-next, place-low, interleaving-store, interleaving-rows}
+use Rattle.table_interleave.proofs.LoopLaws.{Fits, Interleaving, saved-fits, interleaving-start, interleaving-next, place-low, interleaving-store, interleaving-rows}
 use Rattle.table_interleave.proofs.interleave.Statement.{statement}
 use Rattle.table_interleave.proofs.interleave.Tie as tie
 
@@ -86,7 +86,7 @@ interleave-spec =
     (λ c. let m = c .before .before .before in
     let i = turn m in
     let (φ, η) = i .before .loop .inv in
-    (φ, weaving-next φ (i .before .loop .j - 1) (place i) (omega arith) η refl (m .copy-backward .kept .0) (m .copy-backward .ensures)))
+    (φ, interleaving-next φ (i .before .loop .j - 1) (place i) (omega arith) η refl (m .copy-backward .kept .0) (m .copy-backward .ensures)))
     (λ c. let l = c .before in l .loop .inv .1 .size ∙ l .before .before .before .copy-forward .kept .0)
     (λ c. let l = c .before in
     let m = l .before .before .before in

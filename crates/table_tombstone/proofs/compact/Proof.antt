@@ -7,7 +7,7 @@ use lib.ListN.{length, length-set}
 use denote.Ref.{now}
 use Rattle.table.specs.Rows.{tag-word, row-words}
 use Rattle.table.specs.Store.{number}
-use Rattle.table_tombstone.proofs.CompactLaws.{Fits, Compacting, compacting-start, compacting-most, sifting-room, sifting-next, sifted-store, sifted-rows}
+use Rattle.table_tombstone.proofs.CompactLaws.{Fits, Compacting, compacting-start, compacting-most, compacting-room, compacting-next, compacted-store, compacted-rows}
 use Rattle.table_tombstone.proofs.compact.Statement.{statement}
 use Rattle.table_tombstone.proofs.compact.Tie as tie
 
@@ -43,7 +43,7 @@ record Tag (c : tie.In-loop Inv-loop μ-loop) : Type 0 where
   room : number (c .before .loop .words) (start (c .before) .args .index) (c .before .loop .i) * row-words + tag-word < start (c .before) .args .index
 
 tag : (c : tie.In-loop Inv-loop μ-loop) → Tag c
-tag c = record { room = sifting-room (fits (start (c .before))) (c .before .loop .inv) (c .loop-test .taken) }
+tag c = record { room = compacting-room (fits (start (c .before))) (c .before .loop .inv) (c .loop-test .taken) }
 
 pub compact-spec : {M : Type 1} → statement M
 compact-spec =
@@ -71,7 +71,7 @@ compact-spec =
     (λ c. let b = bounds (c .before .before .before .before) in omega arith)
     (λ c. omega arith)
     (λ c. let i = c .before .before .before in
-    sifting-next (fits (start (i .before))) (i .before .loop .inv) (i .loop-test .taken) (c .is-live .ensures .0))
+    compacting-next (fits (start (i .before))) (i .before .loop .inv) (i .loop-test .taken) (c .count-live .ensures .0))
     (λ c. let b = bounds (c .before .before) in omega arith)
     (λ c. let b = bounds (c .before .before) in omega arith)
     (λ c κs. let b = bounds (c .before .before) in (omega arith, omega arith, inl (omega arith)))
@@ -80,6 +80,6 @@ compact-spec =
     let a = m .before .before in
     let φ = fits (start (a .before)) in
     let η = a .before .loop .inv in (
-      sifted-store φ η (a .loop-test .left) (m .copy-forward .kept .0) (m .copy-forward .ensures),
-      sifted-rows φ η (a .loop-test .left) (m .copy-forward .kept .0) (m .copy-forward .ensures),
+      compacted-store φ η (a .loop-test .left) (m .copy-forward .kept .0) (m .copy-forward .ensures),
+      compacted-rows φ η (a .loop-test .left) (m .copy-forward .kept .0) (m .copy-forward .ensures),
     )))
