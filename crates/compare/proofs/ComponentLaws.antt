@@ -60,7 +60,7 @@ named-append ((b ∷ bs) ∷ ps) m = go (sameBytes (b ∷ bs) (ascii ".")) (same
     go false true ih = ap (λ (p : Path). parent ∷ p) ih
     go false false ih = ap (λ (p : Path). name (b ∷ bs) ∷ p) ih
 
--- what a path begins with is decided by what stands before a slash
+-- the components at the front of a path are decided by what comes before a slash
 pub leading-append : (l m : List Bytes) → l ≢ [] → m ≢ [] → leading (l ++ m) ≡ leading (l ++ ([] ∷ []))
 unfolding leading
 leading-append [] m h k = absurd (h refl)

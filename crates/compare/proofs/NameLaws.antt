@@ -36,7 +36,7 @@ last-cut (b ∷ bs) = go (last-cut bs) (eqb b slash) refl
     go (whole f) true q = behind [] bs (ap (λ (x : ℕ). x ∷ bs) (eqb-true b slash q)) f
     go (whole f) false q = whole (q, f)
 
--- ---- the piece in which a byte stands
+-- ---- the piece that contains a byte
 
 record Piece (u : Bytes) (c : ℕ) (ys : Bytes) : Type 0 where
   end : Bytes

@@ -87,7 +87,7 @@ module _ {a b : Bytes} {from p q : ℕ} {x y : Piece} (ε : Level a b from p q) 
 
 -- ---- what both spell alike
 
--- the components before a slash that stands behind xs
+-- the components before a slash that follows xs
 abbrev upTo : Bytes → Path
 upTo xs = leading (split slash xs ++ ([] ∷ [])) ++ named (split slash xs)
 

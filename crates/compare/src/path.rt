@@ -145,7 +145,7 @@ fn compare_from(a: &[u8], b: &[u8], from: usize) -> Order
     }
 }
 
-// Whether a byte can stand in names only.
+// Whether a byte occurs in names only.
 fn in_name(byte: u8) -> bool
     ensures { λ r. ⌜ (r ≡ true → InName byte) ⌝ }
 {

@@ -19,14 +19,14 @@ use Rattle.filter.specs.declared.Kept.{Kept}
 use Rattle.filter.specs.Filtered.{keptLines}
 
 -- the lines are to be printed at a place, with room for them
-pub record Begun (write : Bool) (text ws out : List ℕ) (own : Row) (numbers at : ℕ) (kept : Kept) : Type 0 where
-  pub room : RoomFor write out at (keptLines text ws own numbers kept)
+pub record Begun (write : Bool) (text ws out : List ℕ) (header : Row) (numbers at : ℕ) (kept : Kept) : Type 0 where
+  pub room : RoomFor write out at (keptLines text ws header numbers kept)
   pub few : length out * 1 < 2 ^ 63
   pub place : at ≤ u64-max
 
-module _ {write : Bool} {text ws out : List ℕ} {own : Row} {numbers at : ℕ} {kept : Kept} (β : Begun write text ws out own numbers at kept) where
+module _ {write : Bool} {text ws out : List ℕ} {header : Row} {numbers at : ℕ} {kept : Kept} (β : Begun write text ws out header numbers at kept) where
   abbrev head : Bytes
-  head = headLines text own
+  head = headLines text header
 
   abbrev functions : Bytes
   functions = functionLines (itemsBy text ws numbers (kept .functions))
@@ -41,7 +41,7 @@ module _ {write : Bool} {text ws out : List ℕ} {own : Row} {numbers at : ℕ} 
   end = printRecords defaultTag (endOfRecord ∷ [])
 
   abbrev all : Bytes
-  all = keptLines text ws own numbers kept
+  all = keptLines text ws header numbers kept
 
   at-head : Going write out out at at all all
   at-head = going-start (β .room) (β .few) (β .place)

@@ -80,7 +80,7 @@ module _ {text ws ws₁ : List ℕ} {index used from n spare : ℕ} (φ : Functi
     pub functions-spared : UnchangedBefore ws ws₃ spare
     functions-spared = spared-both (order-spared φ ρ e) (spared-both (χ .spared) (ψ .spared))
 
--- ---- the rows of a run
+-- ---- the rows of a kind's range
 
 -- numbers as the index has them
 index-behind : {text ws : List ℕ} {index used n : ℕ} → Table text ws index used n → (from end : ℕ) → from ≤ end → end ≤ n

@@ -162,10 +162,10 @@ module _ (ranges : List Range) (its fs bs ls : List Item) (F : filter isFunction
 
 -- ---- the section at a place
 
-module _ {text ws ws′ : List ℕ} {index used n lo spare : ℕ} {own : Row} {r : KindRanges} {kept : Kept} (π : PrintableTable text ws index used n spare)
-    (more : lo < n) (kind : kindOf (row ws index lo) ≡ 0) (is : own ≡ row ws index lo) (ρ : AreKindRanges ws index n (lo + 1) r) (ranges : List Range)
+module _ {text ws ws′ : List ℕ} {index used n lo spare : ℕ} {header : Row} {r : KindRanges} {kept : Kept} (π : PrintableTable text ws index used n spare)
+    (more : lo < n) (kind : kindOf (row ws index lo) ≡ 0) (is : header ≡ row ws index lo) (ρ : AreKindRanges ws index n (lo + 1) r) (ranges : List Range)
     (κ : KeptRows ranges text ws ws′ index (lo + 1) spare r kept) where
-  pub section-ready : SectionPrintable text ws′ own spare kept
+  pub section-ready : SectionPrintable text ws′ header spare kept
   section-ready = record {
     named = rw is (π .table .whole lo more .named);
     functions = κ .functions .rows .printable;
@@ -190,7 +190,7 @@ module _ {text ws ws′ : List ℕ} {index used n lo spare : ℕ} {own : Row} {r
   rest = filteredFrom ranges text index n ws (r .lines)
 
   lines-of-items : filteredFrom ranges text index n ws lo
-      ≡ headLines text own
+      ≡ headLines text header
       ++ (functionLines (functionsLeft ranges fs)
       ++ (groupLines branch-kind (filter (isHeld ranges) bs) ++ (groupLines line-kind (filter (isHeld ranges) ls) ++ (end ++ rest))))
   lines-of-items =
@@ -217,32 +217,32 @@ module _ {text ws ws′ : List ℕ} {index used n lo spare : ℕ} {own : Row} {r
   regroup : (a b c d e f : Bytes) → a ++ (b ++ (c ++ (d ++ (e ++ f)))) ≡ (a ++ (b ++ (c ++ (d ++ e)))) ++ f
   regroup a b c d e f = simp append-assoc
 
-  kept-is : keptLines text ws′ own spare kept
-      ≡ headLines text own
+  kept-is : keptLines text ws′ header spare kept
+      ≡ headLines text header
       ++ (functionLines (functionsLeft ranges fs)
       ++ (groupLines branch-kind (filter (isHeld ranges) bs) ++ (groupLines line-kind (filter (isHeld ranges) ls) ++ end)))
   kept-is = rw (κ .functions .are, κ .branches .are, κ .lines .are)
 
-  pub section-first : filteredFrom ranges text index n ws lo ≡ keptLines text ws′ own spare kept ++ rest
+  pub section-first : filteredFrom ranges text index n ws lo ≡ keptLines text ws′ header spare kept ++ rest
   section-first =
       lines-of-items
-      ∙ regroup (headLines text own) (functionLines (functionsLeft ranges fs)) (groupLines branch-kind (filter (isHeld ranges) bs))
+      ∙ regroup (headLines text header) (functionLines (functionsLeft ranges fs)) (groupLines branch-kind (filter (isHeld ranges) bs))
       (groupLines line-kind (filter (isHeld ranges) ls)) end rest
       ∙ ap (λ (t : Bytes). t ++ rest) (sym kept-is)
 
   pub section-room : (write : Bool) (out : Bytes) (at : ℕ) → RoomFor write out at (filteredFrom ranges text index n ws lo)
-      → RoomFor write out at (keptLines text ws′ own spare kept)
-  section-room write out at h = room-first write out at (keptLines text ws′ own spare kept) rest (rw section-first at h)
+      → RoomFor write out at (keptLines text ws′ header spare kept)
+  section-room write out at h = room-first write out at (keptLines text ws′ header spare kept) rest (rw section-first at h)
 
-  pub section-done : {write : Bool} {out out′ : Bytes} {at e : ℕ} → Emitted write out out′ at (keptLines text ws′ own spare kept) e
+  pub section-done : {write : Bool} {out out′ : Bytes} {at e : ℕ} → Emitted write out out′ at (keptLines text ws′ header spare kept) e
       → SectionPrinted (filteredFrom ranges text index n) write ws ws′ out out′ index n lo spare at (record { next = r .lines; at = e })
   section-done ε = record {
-    lines = keptLines text ws′ own spare kept;
+    lines = keptLines text ws′ header spare kept;
     first = section-first;
     emitted = ε;
     more = omega (arith, ρ .functions .least, ρ .branches .least, ρ .lines .least);
     most = ρ .lines .most;
-    own = next-header (π .table) (omega arith) (ρ .functions) (ρ .branches) (ρ .lines);
+    header = next-header (π .table) (omega arith) (ρ .functions) (ρ .branches) (ρ .lines);
     spared = κ .spared;
   }
 

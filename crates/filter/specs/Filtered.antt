@@ -26,7 +26,7 @@ use Rattle.filter.specs.Keeping.{Behind}
 abbrev pub filteredFrom : List Range → Bytes → ℕ → ℕ → List ℕ → ℕ → Bytes
 filteredFrom ranges text index n ws lo = printSections defaultTag (map (filterSection ranges) (sections (entriesFrom text ws index n lo)))
 
--- the n rows whose numbers stand from word `numbers` on are the items
+-- the n rows whose numbers are at word `numbers` on are the items
 pub record Holding (text ws : List ℕ) (numbers n : ℕ) (items : List Item) : Type 0 where
   pub rows : Behind text ws numbers n
   pub are : itemsBy text ws numbers n ≡ items
@@ -36,7 +36,8 @@ pub record Holding (text ws : List ℕ) (numbers n : ℕ) (items : List Item) : 
 abbrev pub functionsLeft : List Range → List Item → List Item
 functionsLeft ranges items = heldFunctions ranges (filter hasStart (sort comparePrinted items))
 
--- what stays of the runs of a section's functions, branches and lines: numbers in the spare words, one run behind the other
+-- what stays of the ranges of a section's functions, branches and lines: numbers in the spare words, one range behind
+-- the other
 pub record KeptRows (ranges : List Range) (text ws ws′ : List ℕ) (index from spare : ℕ) (runs : KindRanges) (r : Kept) : Type 0 where
   pub functions : Holding text ws′ spare (r .functions) (functionsLeft ranges (itemsAt text ws index from (runs .functions - from)))
   pub branches : Holding text ws′ (spare + r .functions) (r .branches)
@@ -45,9 +46,9 @@ pub record KeptRows (ranges : List Range) (text ws ws′ : List ℕ) (index from
       (filter (isHeld ranges) (itemsAt text ws index (runs .branches) (runs .lines - runs .branches)))
   pub spared : UnchangedBefore ws ws′ spare
 
--- a section's own row, and the rows of what stays, can be printed
-pub record SectionPrintable (text ws : List ℕ) (own : Row) (numbers : ℕ) (r : Kept) : Type 0 where
-  pub named : NamesInBounds text own
+-- a section's header row, and the rows of what stays, can be printed
+pub record SectionPrintable (text ws : List ℕ) (header : Row) (numbers : ℕ) (r : Kept) : Type 0 where
+  pub named : NamesInBounds text header
   pub functions : Printable text ws numbers (r .functions)
   pub branches : Printable text ws (numbers + r .functions) (r .branches)
   pub lines : Printable text ws (numbers + r .functions + r .branches) (r .lines)
@@ -55,8 +56,8 @@ pub record SectionPrintable (text ws : List ℕ) (own : Row) (numbers : ℕ) (r 
 
 -- the lines of what stays
 abbrev pub keptLines : Bytes → List ℕ → Row → ℕ → Kept → Bytes
-keptLines text ws own numbers r =
-    headLines text own
+keptLines text ws header numbers r =
+    headLines text header
     ++ (functionLines (itemsBy text ws numbers (r .functions))
     ++ (groupLines branch-kind (itemsBy text ws (numbers + r .functions) (r .branches))
     ++ (groupLines line-kind (itemsBy text ws (numbers + r .functions + r .branches) (r .lines)) ++ printRecords defaultTag (endOfRecord ∷ []))))

@@ -28,12 +28,13 @@ keeps Started ranges item behind = hasStart item
 keeps Held ranges item behind = isHeld ranges item
 keeps UntilNext ranges item behind = holds ranges (startLine item) (endBefore behind)
 
--- the n rows whose numbers stand from word `numbers` on can be printed, and stand before that word
+-- the n rows whose numbers are at word `numbers` on can be printed, and are before that word
 pub record Behind (text ws : List ℕ) (numbers n : ℕ) : Type 0 where
   pub printable : Printable text ws numbers n
   pub before : (k : ℕ) → k < n → word ws (numbers + k) * row-words + row-words ≤ numbers
 
--- of the n rows whose numbers stand from word `from` on, r are chosen: their numbers stand from word `to` on, and the words before stay
+-- of the n rows whose numbers are at word `from` on, r are chosen: their numbers are at word `to` on, and the words
+-- before are unchanged
 pub record Chosen (choose : List Item → List Item) (ws ws′ : List ℕ) (from n to r : ℕ) : Type 0 where
   pub most : r ≤ n
   pub spared : UnchangedBefore ws ws′ to

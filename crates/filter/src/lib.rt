@@ -66,8 +66,8 @@ fn line_of(row: Row) -> u32
     row.k1 as u32
 }
 
-// "a function ends one before the next start (0 stays 0), the last at 2^32 − 1": the end of the function before the n whose row numbers
-// stand from word `next` on.
+// "a function ends one before the next start (0 stays 0), the last at 2^32 − 1": the end of the function before the n
+// whose row numbers are at word `next` on.
 fn end_before(words: &[u64], next: usize, n: usize) -> u32
     requires { ⌜ ((text : List ℕ) × Printable text (now words) next n) ⌝ }
     ensures { λ r. ⌜ ((text : List ℕ) → r ≡ endBefore (itemsBy text (now (words .entry)) next n)) ⌝ }
@@ -83,7 +83,7 @@ fn end_before(words: &[u64], next: usize, n: usize) -> u32
     start - 1
 }
 
-// Whether the first of the n rows whose numbers stand from word `at` on stays.
+// Whether the first of the n rows whose numbers are at word `at` on stays.
 fn stays(words: &[u64], pairs: &[[u32; 2]], count: usize, at: usize, n: usize, rule: Rule) -> bool
     requires { ⌜ ((text : List ℕ) × Printable text (now words) at n) ⌝ }
     requires { ⌜ (0 < n) × (wellFormedRanges (rangesIn (now pairs)) count ≡ true) ⌝ }
@@ -104,7 +104,7 @@ fn stays(words: &[u64], pairs: &[[u32; 2]], count: usize, at: usize, n: usize, r
     }
 }
 
-// Of the n rows whose numbers stand from word `numbers` on, those that stay: their numbers come to stand there, in the same order.
+// Of the n rows whose numbers are at word `numbers` on, moves the numbers of those that stay to the front, in order.
 fn keep(
     words: &mut [u64],
     pairs: &[[u32; 2]],
@@ -223,23 +223,23 @@ fn keep_rows(
 fn print_kept(
     text: &[u8],
     words: &[u64],
-    own: Row,
+    header: Row,
     numbers: usize,
     kept: Kept,
     out: &mut [u8],
     at: usize,
     write: bool,
 ) -> usize
-    requires { ⌜ SectionPrintable (now text) (now words) own numbers kept ⌝ }
-    requires { ⌜ RoomFor write (now out) at (keptLines (now text) (now words) own numbers kept) ⌝ }
-    ensures { λ r. ⌜ Emitted write (now (out .entry)) (now (out .exit)) at (keptLines (now (text .entry)) (now (words .entry)) own numbers kept) r ⌝ }
+    requires { ⌜ SectionPrintable (now text) (now words) header numbers kept ⌝ }
+    requires { ⌜ RoomFor write (now out) at (keptLines (now text) (now words) header numbers kept) ⌝ }
+    ensures { λ r. ⌜ Emitted write (now (out .entry)) (now (out .exit)) at (keptLines (now (text .entry)) (now (words .entry)) header numbers kept) r ⌝ }
 {
     let f = kept.functions;
     let b = kept.branches;
     let l = kept.lines;
     let first = numbers + f;
     let then = first + b;
-    let start = print_rows::emit_head(text, own, out, at, write);
+    let start = print_rows::emit_head(text, header, out, at, write);
     let functions = print_report::print_numbered(text, words, numbers, f, out, start, write);
     let branches = print_rows::emit_group(
         text,
@@ -264,7 +264,7 @@ fn print_kept(
     print_rows::emit_end(text, out, lines, write)
 }
 
-// The section whose own row stands at place lo.
+// Filters the section whose header row is at position lo.
 fn filter_section(
     text: &[u8],
     words: &mut [u64],
@@ -283,7 +283,7 @@ fn filter_section(
     requires { ⌜ (wellFormedRanges (rangesIn (now pairs)) count ≡ true) × RoomFor write (now out) at (filteredFrom (take count (rangesIn (now pairs))) (now text) index n (now words) lo) ⌝ }
     ensures { λ r. ⌜ SectionPrinted (filteredFrom (take count (rangesIn (now (pairs .entry)))) (now (text .entry)) index n) write (now (words .entry)) (now (words .exit)) (now (out .entry)) (now (out .exit)) index n lo spare at r ⌝ }
 {
-    let own = table::get(words, index, used, lo);
+    let header = table::get(words, index, used, lo);
     let runs = print_report::find_kind_ranges(words, index, used, n, lo + 1);
     let next = runs.lines;
     let kept = keep_rows(
@@ -298,7 +298,7 @@ fn filter_section(
         runs,
         spare,
     );
-    let end = print_kept(text, words, own, spare, kept, out, at, write);
+    let end = print_kept(text, words, header, spare, kept, out, at, write);
     Printed { next, at: end }
 }
 

@@ -177,7 +177,7 @@ decimal-next : (v : ℕ) → 10 ≤ v → v < 2 ^ 64 → decimal v ≡ decimal (
 unfolding decimal
 decimal-next v h small = digits-next 18 v h (lt-of-lt-of-le small (lit≤ tt))
 
--- v stands at the front of an output, n bytes of it
+-- v is written at the front of an output, in n bytes
 pub record Shown (v : ℕ) (old out : Bytes) (n : ℕ) : Type 0 where
   pub long : n ≡ length (decimal v)
   pub held : out ≡ over (decimal v) old

@@ -1,4 +1,4 @@
--- Bytes written after those that stand at the front of an output. Assumes nothing.
+-- Bytes written behind those at the front of an output. Assumes nothing.
 use Prim.Native.Nat.{ℕ, _+_, _-_, _^_, _≤_, _<_}
 use mathlib.Core.Path.{_≡_, refl, sym, ap, _∙_}
 use mathlib.Core.List.{[], _∷_, _++_, append-assoc, append-nil}
@@ -18,7 +18,7 @@ use Rattle.scan.proofs.ByteLaws.{drop-end, drop-next}
 pub to-end : (s : Bytes) (a : ℕ) → take (length s - a) (drop a s) ≡ drop a s
 to-end s a = take-all (length s - a) (drop a s) (simp length-drop (omega arith))
 
--- bytes are written after those that stand at the front: the part from there is lent and comes back
+-- bytes are written behind those at the front: the part from there is lent and comes back
 module _ (old out done ys t : Bytes) (at : ℕ) where
   pub over-more : out ≡ over done old → at ≡ length done → ys ≡ over t (take (length out - at) (drop at out)) → take at out ++ (ys ++ drop (length out - at) (drop at out)) ≡ over (done ++ t) old
   unfolding outputAfter
@@ -101,7 +101,7 @@ module _ (s done t old : Bytes) (is : s ≡ done ++ t) (room : length s ≤ leng
 pub over-at : (old out done : Bytes) (at : ℕ) → out ≡ over done old → at ≡ length done → length done ≤ length old → at ≤ length out
 over-at old out done at e a h = omega (arith, over-size old out done [] [] at e h)
 
--- one byte after those that stand at the front
+-- one byte behind those at the front
 module _ (old out done : Bytes) (n b : ℕ) (held : out ≡ over done old) (upTo : n ≡ length done) (room : n < length old) where
   last-size : length out ≡ length old
   last-size = over-size old out done [] [] n held (omega arith)

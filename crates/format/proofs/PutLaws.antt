@@ -36,7 +36,7 @@ module _ (s old : Bytes) where
   pub fits-out : (out : Bytes) → length s ≤ length old → out ≡ over s old → out ≡ outputAfter (written (length old) s) old
   fits-out out h e = rw (written-fits s (length old) h) e
 
--- one by one: the first i stand at the front, and the rest is as it was
+-- one by one: the first i are written at the front, and the rest is unchanged
 pub record Putting (s old out : Bytes) (i : ℕ) : Type 0 where
   pub within : i ≤ length s
   pub held : out ≡ take i s ++ drop i old

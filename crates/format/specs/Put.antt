@@ -1,4 +1,4 @@
--- What the writing functions of this crate promise, told by the model's definitions. Assumes nothing.
+-- What the writing functions of this crate promise, in the model's definitions. Assumes nothing.
 use Prim.Native.Nat.{ℕ}
 use mathlib.Core.List.{_∷_, _++_}
 use lib.ListN.{length}

@@ -1,4 +1,4 @@
--- What the program prints for an answer stands at the front of its output. Assumes nothing.
+-- What the program prints for an answer is at the front of its output. Assumes nothing.
 use Prim.Native.Nat.{ℕ, _≤_, _<_}
 use mathlib.Core.Path.{_≡_, refl, sym, ap, _∙_}
 use mathlib.Core.List.{_++_}

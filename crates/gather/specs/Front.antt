@@ -1,4 +1,4 @@
--- What stands at the front of a buffer. Assumes nothing.
+-- The front of a buffer. Assumes nothing.
 use Prim.Native.Nat.{ℕ, _≤_}
 use mathlib.Core.Path.{_≡_}
 use lib.ListN.{length, take}

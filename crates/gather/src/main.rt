@@ -29,7 +29,7 @@ fn gather(bundle: &[u8], scratch: &mut [u64], out: &mut [u8]) -> usize
     }
 }
 
-// The same for any input: one that is too long is no bundle.
+// Gathers any input; one that is too long is no bundle.
 fn answer(input: &[u8], scratch: &mut [u64], out: &mut [u8]) -> usize
     requires { ⌜ (length (now scratch) ≡ program-words) × (length (now out) ≡ program-output) ⌝ }
     ensures { λ r. ⌜ Fronts r (now (out .exit)) (gatherProgram (now (input .entry))) ⌝ }

@@ -1,5 +1,5 @@
--- The scratch of the calls that read texts, counted in rows, which are more than the entries within the limit: rows that are joined, their
--- index and twice as many spare words; then the same for the text that is read. Assumes nothing.
+-- The layout of the scratch: the joined table (rows, index, two spare words a row), then such a table for the text that is read. There are
+-- more rows than entries within the limit. Assumes nothing.
 use Prim.Native.Nat.{ℕ, _+_, _*_, _≤_}
 use mathlib.Core.List.{List}
 use lib.ListN.{length}
@@ -7,15 +7,15 @@ use Rattle.table.specs.Rows.{row-words}
 use Rattle.model.specs.Limits.{words-per-entry, max-entries}
 use Rattle.section.specs.Reading.{capacity}
 
--- where an index starts, behind its rows
+-- the offset of the index, behind the rows
 abbrev pub index-at : ℕ → ℕ
 index-at limit = capacity limit * row-words
 
--- where the spare words start, behind the index
+-- the offset of the spare words, behind the index
 abbrev pub spare-at : ℕ → ℕ
 spare-at limit = index-at limit + capacity limit
 
--- where the words for the text that is read start
+-- the offset of the table for the text that is read
 abbrev pub base-at : ℕ → ℕ
 base-at limit = spare-at limit + capacity limit + capacity limit
 

@@ -52,7 +52,7 @@ fn entry_limit(words: usize) -> usize
     MAX_ENTRIES
 }
 
-// Where an index starts: `index-at` in specs/Layout.antt.
+// The offset of the index: `index-at` in specs/Layout.antt.
 fn index_at(limit: usize) -> usize
     requires { ⌜ limit ≤ max-entries ⌝ }
     ensures { λ r. ⌜ r ≡ index-at limit ⌝ }
@@ -60,7 +60,7 @@ fn index_at(limit: usize) -> usize
     section::capacity(limit) * table::ROW_WORDS
 }
 
-// Where spare words start, behind the index: `spare-at`.
+// The offset of the spare words, behind the index: `spare-at`.
 fn spare_at(limit: usize) -> usize
     requires { ⌜ limit ≤ max-entries ⌝ }
     ensures { λ r. ⌜ r ≡ spare-at limit ⌝ }
@@ -68,7 +68,7 @@ fn spare_at(limit: usize) -> usize
     index_at(limit) + section::capacity(limit)
 }
 
-// Where the words for the text that is read start: `base-at`.
+// The offset of the table for the text that is read: `base-at`.
 fn base_at(limit: usize) -> usize
     requires { ⌜ limit ≤ max-entries ⌝ }
     ensures { λ r. ⌜ r ≡ base-at limit ⌝ }
@@ -98,7 +98,7 @@ enum Gathered {
     Refused(Refusal),
 }
 
-// The i-th text, read where it lies in the bundle.
+// Reads the i-th text where it lies in the bundle.
 fn read_one(bundle: &[u8], words: &mut [u64], limit: usize, i: usize) -> TextAnswer
     requires { ⌜ (wellFormed (now bundle) ≡ true) × (i < textCount (now bundle)) × (limit ≤ max-entries) × SectionRoom (now words) (index-at limit) limit ⌝ }
     ensures { λ r. ⌜ ReadOne (now (bundle .entry)) (now (words .exit)) limit i r ⌝ }
@@ -110,7 +110,7 @@ fn read_one(bundle: &[u8], words: &mut [u64], limit: usize, i: usize) -> TextAns
     report_parser::read_lines(&bundle[..end], start, words, index, limit)
 }
 
-// The same, into the words behind the joined table.
+// Reads the i-th text into the area behind the joined table.
 fn read_behind(bundle: &[u8], scratch: &mut [u64], limit: usize, i: usize) -> TextAnswer
     requires { ⌜ (wellFormed (now bundle) ≡ true) × (i < textCount (now bundle)) × ScratchRoom (now scratch) limit ⌝ }
     ensures { λ r. ⌜ ReadBehind (now (bundle .entry)) (now (scratch .entry)) (now (scratch .exit)) limit i r ⌝ }
@@ -119,7 +119,7 @@ fn read_behind(bundle: &[u8], scratch: &mut [u64], limit: usize, i: usize) -> Te
     read_one(bundle, &mut scratch[base..], limit, i)
 }
 
-// The i-th text is read behind the joined table and merged into that.
+// Reads the i-th text behind the joined table and merges it.
 fn gather_behind(
     bundle: &[u8],
     scratch: &mut [u64],
@@ -144,8 +144,9 @@ fn gather_behind(
     }
 }
 
-// "for each text in turn, reads it and merges it [..] Then E is tested on what is joined so far". Where nothing is joined yet, the text is
-// read to where the joined table is to be, and is that table if none of its rows is free; else it is read again.
+// "for each text in turn, reads it and merges it [..] Then E is tested on what is joined so far". The first text is
+// read into the joined table's area and is the joined table if all its rows are entries; otherwise it is read again
+// behind it and merged.
 fn gather_text(
     bundle: &[u8],
     scratch: &mut [u64],

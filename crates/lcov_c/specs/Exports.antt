@@ -1,4 +1,4 @@
--- What the exported calls answer and leave in the lent slices, told by the model's definitions. Assumes nothing.
+-- What the exported calls answer and leave in the lent slices, in the model's definitions. Assumes nothing.
 use Prim.Native.Nat.{ℕ, Ordering, Ordering·lt, Ordering·eq, Ordering·gt}
 use mathlib.Core.Path.{_≡_}
 use mathlib.Core.Bool.{Bool}
@@ -14,7 +14,8 @@ use Rattle.model.specs.Ranges.{sliceAfter}
 use Rattle.model.specs.Calls.{lineRead, writeAnswer, insertAnswer, queryAnswer}
 use Rattle.lcov_c_words.specs.Words.{eight, lineWords, lineNumber, writeWords, writeNumber, insertWords, insertNumber, queryWords, queryNumber, withPrefix}
 
--- a line read: the number and the words of an answer that is the model's. Parts are told by their place, which the answer chooses
+-- a line read: the number and the words of an answer that is the model's. A part is given by its position, which the
+-- answer chooses
 pub record ReadLine (line : Bytes) (slice slice′ : List ℕ) (number : ℕ) : Type 0 where
   pub answer : LineAnswer
   pub is : lineRead line answer ≡ readLine defaultTag line

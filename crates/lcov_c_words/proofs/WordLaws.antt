@@ -36,7 +36,7 @@ module _ (words : List ℕ) where
   pub query-is : (a b : QueryAnswer) → a ≡ b → words ≡ queryWords b → words ≡ queryWords a
   query-is a b e h = rw e h
 
--- words told are those of the answer
+-- the stored words are those of the answer
 pub tell-words : (got : WriteAnswer) (words slice slice′ : List ℕ) → words ≡ writeWords got → slice′ ≡ withPrefix words slice → slice′ ≡ withPrefix (writeWords got) slice
 tell-words got words slice slice′ w e = rw w at e
 

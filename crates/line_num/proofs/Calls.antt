@@ -33,7 +33,7 @@ use Rattle.line_num.specs.declared.Scan.{Scan}
 use Rattle.line_num.specs.declared.Plan.{Plan}
 use Rattle.line_num.specs.declared.Put.{Put}
 use Rattle.line_num.specs.Scans.{scanStart, scannedBy, scanOf}
-use Rattle.line_num.specs.Turns.{readAt, putAt}
+use Rattle.line_num.specs.Steps.{readAt, putAt}
 use Rattle.line_num.proofs.Scan as S
 use Rattle.line_num.proofs.Scan.Laws as S′
 use Rattle.line_num.proofs.Plan as P
@@ -106,7 +106,7 @@ module _ {M : Type 1} (𝓤 : URA M) (H : Heap 𝓤) (A : Atoms 𝓤) (W : Given
   abbrev pub to-reading : Plan → ℕ → Reading 𝓤 H A mem run .Ghost
   to-reading p t = ((tt, tt, tt, (p, (t, tt)), (plan-val p ∷ [], (vint w64 t ∷ [], tt))), tt)
 
-  pub goes-reading : (p : Plan) (t : ℕ) → Is PlanT p (plan-val p ∷ []) → t < 2 ^ 64 → p .from + (t - p .woven) < 2 ^ 64 → ent 𝓤 (emp 𝓤) (Reading 𝓤 H A mem run .pre (to-reading p t))
+  pub goes-reading : (p : Plan) (t : ℕ) → Is PlanT p (plan-val p ∷ []) → t < 2 ^ 64 → p .from + (t - p .reads) < 2 ^ 64 → ent 𝓤 (emp 𝓤) (Reading 𝓤 H A mem run .pre (to-reading p t))
   goes-reading p t ps t-fits sum =
       qed W [] ∵ says ! sum $ nothing ! $ frame ! $ nothing ! $ owned ! usize (Is usize) (uint-makes 𝓤 H A W w64) t _ (refl, t-fits) $ fjoin ! $
       owned ! PlanT (Is PlanT) (LL.makes P.the-type P′.the-plain 𝓤 H A) p _ ps $ fjoin ! $ done !

@@ -1,4 +1,4 @@
--- An insert's turns do what the model's insert does. Assumes nothing.
+-- An insert's steps do what the model's insert does. Assumes nothing.
 use Prim.Native.Nat.{ℕ, zero, suc, _+_, _-_, _≤_, _<_, min}
 use native.Mathlib.Nat.{add-suc, add-zero}
 use native.Mathlib.Omega.{arith}
@@ -24,9 +24,9 @@ use Rattle.line_num.specs.declared.Scan.{Scan}
 use Rattle.line_num.specs.declared.Plan.{Plan}
 use Rattle.line_num.specs.declared.Put.{Put}
 use Rattle.line_num.specs.Scans.{scanStart, passesBy, staysBy, scannedBy, scanFrom, scanOf}
-use Rattle.line_num.specs.Turns.{planBy, planOf, answerOf, PlanFits, readAt, putAt, turned, after, rewritten}
+use Rattle.line_num.specs.Steps.{planBy, planOf, answerOf, PlanFits, readAt, putAt, stepped, after, rewritten}
 use Rattle.line_num.proofs.ScanLaws.{passes-on, scan-begun, scan-next, scan-done, scan-formed, scan-asked}
-use Rattle.line_num.proofs.TurnLaws.{plan-short, plan-ill, plan-dropped, plan-put, plan-full, answer-short, answer-ill, answer-dropped, answer-put, answer-full, read-woven, read-behind, put-past, put-stays, put-joined}
+use Rattle.line_num.proofs.StepLaws.{plan-short, plan-ill, plan-dropped, plan-put, plan-full, answer-short, answer-ill, answer-dropped, answer-put, answer-full, read-first, read-behind, put-past, put-stays, put-joined}
 
 -- ---- what is still to be put down after a pass so far: its range and the ranges behind, joined until the range is past
 
@@ -102,24 +102,24 @@ out-count f i (x ∷ xs) low =
     (λ h s. let a = at-stays f x i low h s in let b : length (outOf f (x ∷ xs)) ≡ suc (length (outOf (scannedBy f (i + 1) x) xs)) = ap length (out-stays f x xs (i + 1) h s) in omega (arith, a, b, out-count (scannedBy f (i + 1) x) (i + 1) xs (omega (arith, a))))
     (λ h s. let a = at-joined f x i low h s in let b : length (outOf f (x ∷ xs)) ≡ length (outOf (scannedBy f (i + 1) x) xs) = ap length (out-joined f x xs (i + 1) h s) in omega (arith, a, b, out-count (scannedBy f (i + 1) x) (i + 1) xs (omega (arith, a))))
 
--- ---- the turns that read
+-- ---- the steps that read
 
-module _ (p : Plan) (slice : List Range) (fits : p .woven ≤ length slice) where
+module _ (p : Plan) (slice : List Range) (fits : p .reads ≤ length slice) where
   abbrev xs : List Range
-  xs = take (p .woven) slice
+  xs = take (p .reads) slice
 
-  -- after t turns that read: the first places have what was put down, and those not read yet are as they were
-  record Woven (t : ℕ) (cur : List Range) (f : Scan) : Type 0 where
+  -- after t steps that read: the first positions have what was written, and those not read yet are unchanged
+  record Reading (t : ℕ) (cur : List Range) (f : Scan) : Type 0 where
     low : f .at ≤ t
     long : length cur ≡ length slice
     same : (k : ℕ) → t ≤ k → getD cur k (pair 0 0) ≡ getD slice k (pair 0 0)
-    rest : scanFrom f t (drop t xs) ≡ scanOf slice (p .woven) (p .start) (p .end)
+    rest : scanFrom f t (drop t xs) ≡ scanOf slice (p .reads) (p .start) (p .end)
     out : take (f .at) cur ++ outOf f (drop t xs) ≡ joinInto (pair (p .start) (p .end)) xs
 
-  woven-none : Woven 0 slice (scanStart (p .start) (p .end))
-  woven-none = record { low = omega arith; long = refl; same = λ k h. refl; rest = scan-begun slice (p .woven) (p .start) (p .end); out = out-begun (p .start) (p .end) xs }
+  reading-none : Reading 0 slice (scanStart (p .start) (p .end))
+  reading-none = record { low = omega arith; long = refl; same = λ k h. refl; rest = scan-begun slice (p .reads) (p .start) (p .end); out = out-begun (p .start) (p .end) xs }
 
-  module _ (t : ℕ) (cur : List Range) (f : Scan) (ω : Woven t cur f) (more : t < p .woven) where
+  module _ (t : ℕ) (cur : List Range) (f : Scan) (ω : Reading t cur f) (more : t < p .reads) where
     abbrev x : Range
     x = getD cur t (pair 0 0)
 
@@ -128,19 +128,19 @@ module _ (p : Plan) (slice : List Range) (fits : p .woven ≤ length slice) wher
 
     ahead : drop t xs ≡ x ∷ drop (t + 1) xs
     ahead =
-        drop-cons xs t (pair 0 0) (let z : t < length xs = rw (length-take (p .woven) slice) (let y : t < min (p .woven) (length slice) = omega arith in y) in z)
-        ∙ ap (λ (r : Range). r ∷ drop (suc t) xs) (getD-take (p .woven) slice t (pair 0 0) more ∙ sym is-next)
+        drop-cons xs t (pair 0 0) (let z : t < length xs = rw (length-take (p .reads) slice) (let y : t < min (p .reads) (length slice) = omega arith in y) in z)
+        ∙ ap (λ (r : Range). r ∷ drop (suc t) xs) (getD-take (p .reads) slice t (pair 0 0) more ∙ sym is-next)
         ∙ ap (λ (n : ℕ). x ∷ drop n xs) (sym (add-one t))
 
-    scans : scanFrom (scannedBy f (t + 1) x) (t + 1) (drop (t + 1) xs) ≡ scanOf slice (p .woven) (p .start) (p .end)
+    scans : scanFrom (scannedBy f (t + 1) x) (t + 1) (drop (t + 1) xs) ≡ scanOf slice (p .reads) (p .start) (p .end)
     scans =
         ap (λ (r : Range). scanFrom (scannedBy f (t + 1) r) (t + 1) (drop (t + 1) xs)) is-next
-        ∙ scan-next slice (p .woven) f t (pair 0 0) (omega arith) ∙ ω .rest
+        ∙ scan-next slice (p .reads) f t (pair 0 0) (omega arith) ∙ ω .rest
 
     abbrev g : Scan
     g = scannedBy f (t + 1) x
 
-    emits : (v : Range) → g .at ≡ f .at + 1 → outOf f (x ∷ drop (t + 1) xs) ≡ v ∷ outOf g (drop (t + 1) xs) → Woven (t + 1) (set cur (f .at) v) g
+    emits : (v : Range) → g .at ≡ f .at + 1 → outOf f (x ∷ drop (t + 1) xs) ≡ v ∷ outOf g (drop (t + 1) xs) → Reading (t + 1) (set cur (f .at) v) g
     emits v one step = record {
       low = omega (arith, one, ω .low);
       long = length-set cur (f .at) v ∙ ω .long;
@@ -153,7 +153,7 @@ module _ (p : Plan) (slice : List Range) (fits : p .woven ≤ length slice) wher
           ∙ ap (λ (l : List Range). take (f .at) cur ++ outOf f l) (sym ahead) ∙ ω .out;
     }
 
-    absorbs : g .at ≡ f .at → outOf f (x ∷ drop (t + 1) xs) ≡ outOf g (drop (t + 1) xs) → Woven (t + 1) (set cur t x) g
+    absorbs : g .at ≡ f .at → outOf f (x ∷ drop (t + 1) xs) ≡ outOf g (drop (t + 1) xs) → Reading (t + 1) (set cur t x) g
     absorbs one step = record {
       low = omega (arith, one, ω .low);
       long = length-set cur t x ∙ ω .long;
@@ -168,26 +168,26 @@ module _ (p : Plan) (slice : List Range) (fits : p .woven ≤ length slice) wher
     least : min (f .at) t ≡ f .at
     least = omega (arith, ω .low)
 
-    -- what the turn puts where
-    puts-as : (at : ℕ) (v : Range) → _≡_ {A = Put} (record { at = at; range = v }) (putAt p f t t x) → Woven (t + 1) (set cur at v) g → Woven (t + 1) (set cur (putAt p f t t x .at) (putAt p f t t x .range)) g
+    -- what the step writes where
+    puts-as : (at : ℕ) (v : Range) → _≡_ {A = Put} (record { at = at; range = v }) (putAt p f t t x) → Reading (t + 1) (set cur at v) g → Reading (t + 1) (set cur (putAt p f t t x .at) (putAt p f t t x .range)) g
     puts-as at v e w = rw (← e) w
 
-    woven-turn : Woven (t + 1) (set cur (putAt p f t t x .at) (putAt p f t t x .range)) g
-    woven-turn =
+    reading-step : Reading (t + 1) (set cur (putAt p f t t x .at) (putAt p f t t x .range)) g
+    reading-step =
         by-step f x
         (λ h. puts-as (f .at) (pair (f .low) (f .high)) (put-past p f t t x more (passesBy f x) refl h (f .at) (sym least)) (emits (pair (f .low) (f .high)) (at-past f x t (ω .low) h) (out-past f x (drop (t + 1) xs) (t + 1) h)))
         (λ h s. puts-as (f .at) x (put-stays p f t t x more (passesBy f x) refl h (staysBy f x) refl s (f .at) (sym least)) (emits x (at-stays f x t (ω .low) h s) (out-stays f x (drop (t + 1) xs) (t + 1) h s)))
         (λ h s. puts-as t x (put-joined p f t t x more (passesBy f x) refl h (staysBy f x) refl s) (absorbs (at-joined f x t (ω .low) h s) (out-joined f x (drop (t + 1) xs) (t + 1) h s)))
 
-    woven-next : Woven (suc t) (turned p t cur f .0) (turned p t cur f .1)
-    woven-next = rw (← (read-woven p t more), ← (add-one t)) woven-turn
+    reading-next : Reading (suc t) (stepped p t cur f .0) (stepped p t cur f .1)
+    reading-next = rw (← (read-first p t more), ← (add-one t)) reading-step
 
-  woven-all : (t : ℕ) → t ≤ p .woven → Woven t (after p slice t .0) (after p slice t .1)
+  reading-all : (t : ℕ) → t ≤ p .reads → Reading t (after p slice t .0) (after p slice t .1)
   unfolding after
-  woven-all zero h = woven-none
-  woven-all (suc t) h = woven-next t (after p slice t .0) (after p slice t .1) (woven-all t (omega arith)) (omega arith)
+  reading-all zero h = reading-none
+  reading-all (suc t) h = reading-next t (after p slice t .0) (after p slice t .1) (reading-all t (omega arith)) (omega arith)
 
-  -- ---- the turns that fill
+  -- ---- the steps that fill
 
   fillAt : ℕ → Range
   fillAt k = if ltb k (p .n) then pair (p .low) (p .high) else pair 0 0
@@ -196,40 +196,40 @@ module _ (p : Plan) (slice : List Range) (fits : p .woven ≤ length slice) wher
   filledTo zero = []
   filledTo (suc j) = filledTo j ++ fillAt (p .from + j) ∷ []
 
-  fill-put : (f : Scan) (t k : ℕ) (x : Range) → p .woven ≤ t → _≡_ {A = Put} (putAt p f t k x) (record { at = k; range = fillAt k })
+  fill-put : (f : Scan) (t k : ℕ) (x : Range) → p .reads ≤ t → _≡_ {A = Put} (putAt p f t k x) (record { at = k; range = fillAt k })
   unfolding putAt fillAt
-  fill-put f t k x h = rw (le-ltb t (p .woven) h)
+  fill-put f t k x h = rw (le-ltb t (p .reads) h)
 
   module _ (front : List Range) where
     record Filled (j : ℕ) (cur : List Range) : Type 0 where
       long : length cur ≡ length slice
       done : take (p .from + j) cur ≡ front ++ filledTo j
 
-    filled-next : (j : ℕ) (cur : List Range) (f : Scan) → Filled j cur → p .from + j < length slice → Filled (suc j) (turned p (p .woven + j) cur f .0)
+    filled-next : (j : ℕ) (cur : List Range) (f : Scan) → Filled j cur → p .from + j < length slice → Filled (suc j) (stepped p (p .reads + j) cur f .0)
     unfolding filledTo
     filled-next j cur f φ h =
-        let z : p .woven + j - p .woven ≡ j = omega arith in
-        let k : readAt p (p .woven + j) ≡ p .from + j = sym (read-behind p (p .woven + j) (omega arith)) ∙ ap (λ (n : ℕ). p .from + n) z in
-        rw (fill-put f (p .woven + j) (readAt p (p .woven + j)) (getD cur (readAt p (p .woven + j)) (pair 0 0)) (omega arith), k) (record {
+        let z : p .reads + j - p .reads ≡ j = omega arith in
+        let k : readAt p (p .reads + j) ≡ p .from + j = sym (read-behind p (p .reads + j) (omega arith)) ∙ ap (λ (n : ℕ). p .from + n) z in
+        rw (fill-put f (p .reads + j) (readAt p (p .reads + j)) (getD cur (readAt p (p .reads + j)) (pair 0 0)) (omega arith), k) (record {
           long = length-set cur (p .from + j) (fillAt (p .from + j)) ∙ φ .long;
           done = ap (λ (n : ℕ). take n (set cur (p .from + j) (fillAt (p .from + j)))) (add-suc (p .from) j)
               ∙ take-suc-set cur (p .from + j) (fillAt (p .from + j)) (omega (arith, φ .long))
               ∙ ap (λ (l : List Range). l ++ fillAt (p .from + j) ∷ []) (φ .done) ∙ append-assoc front (filledTo j) (fillAt (p .from + j) ∷ []);
         })
 
-    filled-all : (j : ℕ) → p .from + j ≤ length slice → Filled 0 (after p slice (p .woven) .0) → Filled j (after p slice (p .woven + j) .0)
+    filled-all : (j : ℕ) → p .from + j ≤ length slice → Filled 0 (after p slice (p .reads) .0) → Filled j (after p slice (p .reads + j) .0)
     unfolding after
-    filled-all zero h φ = rw (add-zero (p .woven)) φ
-    filled-all (suc j) h φ = rw (add-suc (p .woven) j) (filled-next j (after p slice (p .woven + j) .0) (after p slice (p .woven + j) .1) (filled-all j (omega arith) φ) (omega arith))
+    filled-all zero h φ = rw (add-zero (p .reads)) φ
+    filled-all (suc j) h φ = rw (add-suc (p .reads) j) (filled-next j (after p slice (p .reads + j) .0) (after p slice (p .reads + j) .1) (filled-all j (omega arith) φ) (omega arith))
 
-    -- all places are filled
-    filled-done : p .from ≤ length slice → p .turns ≡ p .woven + (length slice - p .from) → length (after p slice (p .woven) .0) ≡ length slice → take (p .from) (after p slice (p .woven) .0) ≡ front
+    -- all positions are filled
+    filled-done : p .from ≤ length slice → p .steps ≡ p .reads + (length slice - p .from) → length (after p slice (p .reads) .0) ≡ length slice → take (p .from) (after p slice (p .reads) .0) ≡ front
         → rewritten p slice ≡ front ++ filledTo (length slice - p .from)
     unfolding rewritten filledTo
     filled-done h turns long begin =
-        let φ = filled-all (length slice - p .from) (omega arith) (record { long = long; done = ap (λ (n : ℕ). take n (after p slice (p .woven) .0)) (add-zero (p .from)) ∙ begin ∙ sym (append-nil front) }) in
+        let φ = filled-all (length slice - p .from) (omega arith) (record { long = long; done = ap (λ (n : ℕ). take n (after p slice (p .reads) .0)) (add-zero (p .from)) ∙ begin ∙ sym (append-nil front) }) in
         ap (λ (n : ℕ). after p slice n .0) turns
-        ∙ sym (take-all (p .from + (length slice - p .from)) (after p slice (p .woven + (length slice - p .from)) .0) (omega (arith, φ .long)))
+        ∙ sym (take-all (p .from + (length slice - p .from)) (after p slice (p .reads + (length slice - p .from)) .0) (omega (arith, φ .long)))
         ∙ φ .done
 
   -- zeros alone, and one range before them
@@ -249,23 +249,23 @@ module _ (p : Plan) (slice : List Range) (fits : p .woven ≤ length slice) wher
       (ap (λ (l : List Range). pair (p .low) (p .high) ∷ l) (replicate-append-replicate j 1 (pair 0 0) ∙ ap (λ (n : ℕ). replicate n (pair 0 0)) (add-one j)))
 
   -- an insert that drops its range: nothing is read
-  pub rewritten-dropped : p .woven ≡ 0 → p .n ≡ p .from → p .from ≤ length slice → p .turns ≡ length slice - p .from
+  pub rewritten-dropped : p .reads ≡ 0 → p .n ≡ p .from → p .from ≤ length slice → p .steps ≡ length slice - p .from
       → rewritten p slice ≡ take (p .from) slice ++ replicate (length slice - p .from) (pair 0 0)
   unfolding after
   rewritten-dropped none e h turns =
-      filled-done (take (p .from) slice) h (let z : p .turns ≡ p .woven + (length slice - p .from) = omega arith in z) (rw none) (rw none)
+      filled-done (take (p .from) slice) h (let z : p .steps ≡ p .reads + (length slice - p .from) = omega arith in z) (rw none) (rw none)
       ∙ ap (λ (l : List Range). take (p .from) slice ++ l) (fills-zeros e (length slice - p .from))
 
   -- an insert that puts its range in: what the pass found at its end is put down last
-  module _ (last : Scan) (is : last ≡ scanOf slice (p .woven) (p .start) (p .end)) (from-is : p .from ≡ last .at) (low-is : p .low ≡ last .low) (high-is : p .high ≡ last .high) where
+  module _ (last : Scan) (is : last ≡ scanOf slice (p .reads) (p .start) (p .end)) (from-is : p .from ≡ last .at) (low-is : p .low ≡ last .low) (high-is : p .high ≡ last .high) where
     abbrev cur : List Range
-    cur = after p slice (p .woven) .0
+    cur = after p slice (p .reads) .0
 
-    ω : Woven (p .woven) cur (after p slice (p .woven) .1)
-    ω = woven-all (p .woven) (omega arith)
+    ω : Reading (p .reads) cur (after p slice (p .reads) .1)
+    ω = reading-all (p .reads) (omega arith)
 
-    ended : after p slice (p .woven) .1 ≡ last
-    ended = scan-done slice (p .woven) (after p slice (p .woven) .1) (p .woven) (omega arith) ∙ ω .rest ∙ sym is
+    ended : after p slice (p .reads) .1 ≡ last
+    ended = scan-done slice (p .reads) (after p slice (p .reads) .1) (p .reads) (omega arith) ∙ ω .rest ∙ sym is
 
     all-out : take (p .from) cur ++ pair (p .low) (p .high) ∷ [] ≡ joinInto (pair (p .start) (p .end)) xs
     all-out =
@@ -273,8 +273,8 @@ module _ (p : Plan) (slice : List Range) (fits : p .woven ≤ length slice) wher
         ∙ ap (λ (n : ℕ). take (last .at) cur ++ pair n (p .high) ∷ []) low-is
         ∙ ap (λ (n : ℕ). take (last .at) cur ++ pair (last .low) n ∷ []) high-is
         ∙ ap (λ (l : List Range). take (last .at) cur ++ l) (sym (out-none last))
-        ∙ ap (λ (l : List Range). take (last .at) cur ++ outOf last l) (sym (drop-of-length-le xs {i = p .woven} (rw (length-take (p .woven) slice) (let z : min (p .woven) (length slice) ≤ p .woven = omega arith in z))))
-        ∙ ap (λ (h : Scan). take (h .at) cur ++ outOf h (drop (p .woven) xs)) (sym ended) ∙ ω .out
+        ∙ ap (λ (l : List Range). take (last .at) cur ++ outOf last l) (sym (drop-of-length-le xs {i = p .reads} (rw (length-take (p .reads) slice) (let z : min (p .reads) (length slice) ≤ p .reads = omega arith in z))))
+        ∙ ap (λ (h : Scan). take (h .at) cur ++ outOf h (drop (p .reads) xs)) (sym ended) ∙ ω .out
 
     pub joined-length : length (joinInto (pair (p .start) (p .end)) xs) ≡ last .at + 1
     unfolding scanOf
@@ -284,7 +284,7 @@ module _ (p : Plan) (slice : List Range) (fits : p .woven ≤ length slice) wher
         let e : last .at ≡ scanFrom (scanStart (p .start) (p .end)) 0 xs .at = ap (λ (h : Scan). h .at) is in
         omega (arith, c, d, e)
 
-    pub rewritten-put : p .n ≡ p .from + 1 → p .from < length slice → p .turns ≡ p .woven + (length slice - p .from)
+    pub rewritten-put : p .n ≡ p .from + 1 → p .from < length slice → p .steps ≡ p .reads + (length slice - p .from)
         → rewritten p slice ≡ joinInto (pair (p .start) (p .end)) xs ++ replicate (length slice - (p .from + 1)) (pair 0 0)
     rewritten-put e h turns =
         let z : length slice - p .from ≡ suc (length slice - (p .from + 1)) = omega arith in
@@ -308,7 +308,7 @@ module _ (slice : List Range) (used : ℕ) (r : Range) where
     unfolding insertCall
     call-full h = rw (well, is, lt-leb (length ranges) (length slice) h)
 
--- what an insert may come to
+-- the cases of an insert
 module _ (f : Scan) (used len : ℕ) {A : Type 0} where
   by-outcome : (len < used → A) → (used ≤ len → not (f .well) ≡ true → A) → (used ≤ len → not (f .well) ≡ false → f .end < f .start → A)
       → (used ≤ len → not (f .well) ≡ false → f .start ≤ f .end → f .at < len → A) → (used ≤ len → not (f .well) ≡ false → f .start ≤ f .end → len ≤ f .at → A) → A
@@ -320,7 +320,7 @@ module _ (f : Scan) (used len : ℕ) {A : Type 0} where
       let o : f .start ≤ f .end = ltb-false (f .end) (f .start) d in
       by-test (ltb (f .at) len) (λ l. put i t o (ltb-true (f .at) len l)) (λ l. full i t o (ltb-false (f .at) len l)))))
 
--- the turns stay within the slice
+-- the steps are within the slice
 pub plan-fits : (f : Scan) (used len : ℕ) → PlanFits (planOf f used len) len
 plan-fits f used len =
     by-outcome f used len
@@ -413,6 +413,6 @@ module _ (slice : List Range) (used s e : ℕ) where
               ap (λ (p : Plan). rewritten p slice) (sym (plan-full F used (length slice) i t right l (planBy F 0 0 0 0) refl)) ∙ nothing-done ∙ rw c,
             )
 
-  -- after the pass, the turns and the answer are the model's
+  -- after the pass, the steps and the answer are the model's
   pub insert-told : Called
   insert-told = by-outcome F used (length slice) called-none called-unordered called-dropped called-put called-full

@@ -1,5 +1,5 @@
 pub mod Shapes
 pub mod Calls
 pub mod ScanLaws
-pub mod TurnLaws
+pub mod StepLaws
 pub mod InsertLaws

@@ -1,4 +1,5 @@
--- Laws of the pass over the ranges used: what each function tells of it, and that it answers a query. Assumes nothing.
+-- Laws of the pass over the ranges used: what each function answers, and that the pass answers a query. Assumes
+-- nothing.
 use Prim.Native.Nat.{ℕ, suc, _+_, _≤_, _<_, min, max}
 use native.Mathlib.Omega.{arith}
 use native.Mathlib.Numerals.{add-one}
@@ -161,7 +162,7 @@ unfolding ascending ascendingFrom
 ascends-all [] = refl
 ascends-all (x ∷ xs) = sym (ascends x xs 0 (omega arith))
 
--- the pass tells whether the slice is well formed
+-- the pass shows whether the slice is well formed
 pub scan-formed : (slice : List Range) (used s e : ℕ) → (leb used (length slice) && scanOf slice used s e .well) ≡ wellFormedRanges slice used
 unfolding scanOf wellFormedRanges
 scan-formed slice used s e = rw (scan-well (scanStart s e) 0 (take used slice), ascends-all (take used slice))

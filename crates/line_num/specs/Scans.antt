@@ -1,5 +1,5 @@
--- A pass over ranges, one after the other: whether they are in order, whether one holds a line asked for, and what becomes of a range
--- that is put among them. Assumes nothing.
+-- One pass over the ranges used: whether they are in order, whether one holds a queried line, and what an inserted
+-- range becomes. Assumes nothing.
 use Prim.Native.Nat.{ℕ, suc, _+_, min, max}
 use mathlib.Core.Bool.{Bool, true, false, _&&_, _||_}
 use mathlib.Core.List.{List, [], _∷_}
@@ -15,11 +15,11 @@ use Rattle.line_num.specs.declared.Scan.{Scan}
 abbrev pub scanStart : ℕ → ℕ → Scan
 scanStart start end = record { start = start; end = end; well = true; least = 0; held = false; past = false; low = start; high = end; at = 0 }
 
--- the range to put in, or the one read last, stands before x
+-- the range to insert, or the one read last, is before x
 unfoldable pub passesBy : Scan → Range → Bool
 passesBy f x = if f .past then true else if ltb (suc (x .end)) (f .low) then false else ltb (suc (f .high)) (x .start)
 
--- x stands before the range to put in
+-- x is before the range to insert
 unfoldable pub staysBy : Scan → Range → Bool
 staysBy f x = if f .past then false else ltb (suc (x .end)) (f .low)
 

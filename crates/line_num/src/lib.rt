@@ -14,7 +14,7 @@ ghost use Rattle.model.specs.Ranges.{queryCall, insertCall, sliceAfter};
 ghost use Rattle.model.specs.Calls.{queryAnswer, insertAnswer};
 ghost use Rattle.line_num_pairs.specs.Pairs.{pair};
 ghost use Rattle.line_num.specs.Scans.{scanStart, passesBy, staysBy, scannedBy, scanOf, scanAnswer};
-ghost use Rattle.line_num.specs.Turns.{planBy, planOf, answerOf, PlanFits, readAt, putAt, rewritten};
+ghost use Rattle.line_num.specs.Steps.{planBy, planOf, answerOf, PlanFits, readAt, putAt, rewritten};
 
 pub fn range_at(list: &[Range], i: usize) -> Range
     requires { ⌜ i < length (now list) ⌝ }
@@ -30,14 +30,15 @@ pub fn put_range(list: &mut [Range], i: usize, range: Range)
     list[i] = range;
 }
 
-// A pass over the ranges used: it asks for the lines from start to end, and tells what becomes of them as a range that is put in.
+// One pass over the ranges used: it queries the lines from start to end, and computes what an insert of them would
+// write.
 struct Scan {
     start: u32,
     end: u32,
     // the ranges so far are in order, and the next has to start at `least` or later
     well: bool,
     least: u64,
-    // one of them holds a line asked for
+    // one of them holds a queried line
     held: bool,
     // the range that is put down next, behind `at` others: the one to put in, or, once that is past, the one read last
     past: bool,
@@ -86,7 +87,7 @@ fn holds_one(held: bool, x: Range, start: u32, end: u32) -> bool
     start <= x.end
 }
 
-// What is put down next stands before x, with a line between: it goes down now.
+// The next range to write is before x, with a line between: it is written now.
 fn passes(found: Scan, x: Range) -> bool
     ensures { λ r. ⌜ r ≡ passesBy found x ⌝ }
 {
@@ -99,7 +100,7 @@ fn passes(found: Scan, x: Range) -> bool
     (found.high as u64) + 1 < x.start as u64
 }
 
-// x stands before the range to put in, with a line between: it goes down first.
+// x is before the range to insert, with a line between: it is written first.
 fn stays(found: Scan, x: Range) -> bool
     ensures { λ r. ⌜ r ≡ staysBy found x ⌝ }
 {
@@ -188,13 +189,13 @@ pub fn query(list: &[Range], used: usize, s: u32, e: u32) -> QueryAnswer
     query_answer(found, used, list.len())
 }
 
-// What an insert does to the slice, in so many turns: the first `woven` read the ranges used, one each, and put them down again with
-// the range among them; the others fill the places from `from` on, with one range below place n and zeros behind.
+// The steps of an insert: the first `reads` read one range each and write them back with the new range among them; the
+// others fill the positions from `from` on, with one range below position n and zeros behind.
 struct Plan {
-    woven: usize,
+    reads: usize,
     from: usize,
     n: usize,
-    turns: usize,
+    steps: usize,
     start: u32,
     end: u32,
     low: u32,
@@ -207,14 +208,14 @@ struct Put {
     range: Range,
 }
 
-fn planned(found: Scan, woven: usize, from: usize, n: usize, turns: usize) -> Plan
-    ensures { λ r. ⌜ r ≡ planBy found woven from n turns ⌝ }
+fn planned(found: Scan, reads: usize, from: usize, n: usize, steps: usize) -> Plan
+    ensures { λ r. ⌜ r ≡ planBy found reads from n steps ⌝ }
 {
     Plan {
-        woven,
+        reads: reads,
         from,
         n,
-        turns,
+        steps: steps,
         start: found.start,
         end: found.end,
         low: found.low,
@@ -260,22 +261,23 @@ fn insert_answer(found: Scan, used: usize, len: usize) -> InsertAnswer
     InsertAnswer::Refused(refusal::unplaced(Fault::RangesFull))
 }
 
-// The place that a turn reads.
+// The position that a step reads.
 fn read_at(plan: Plan, t: usize) -> usize
-    requires { ⌜ plan .from + (t - plan .woven) < 2 ^ 64 ⌝ }
+    requires { ⌜ plan .from + (t - plan .reads) < 2 ^ 64 ⌝ }
     ensures { λ r. ⌜ r ≡ readAt plan t ⌝ }
 {
-    if t < plan.woven {
+    if t < plan.reads {
         return t;
     }
-    plan.from + (t - plan.woven)
+    plan.from + (t - plan.reads)
 }
 
-// What a turn that read x at place k puts where: at k or before it, so that no range is lost that is still to be read.
+// What a step that read x at position k writes where: at k or before it, so that every range is read before it is
+// overwritten.
 fn put_at(plan: Plan, found: Scan, t: usize, k: usize, x: Range) -> Put
     ensures { λ r. ⌜ r ≡ putAt plan found t k x ⌝ }
 {
-    if t < plan.woven {
+    if t < plan.reads {
         if passes(found, x) {
             return Put {
                 at: min_usize(found.at, k),
@@ -308,12 +310,12 @@ fn put_at(plan: Plan, found: Scan, t: usize, k: usize, x: Range) -> Put
     }
 }
 
-// The turns, one after the other: reading never falls behind writing.
+// Runs the steps in order: writing never passes reading.
 fn rewrite(list: &mut [Range], plan: Plan)
     requires { ⌜ PlanFits plan (length (now list)) ⌝ }
     ensures { λ _. ⌜ now (list .exit) ≡ rewritten plan (now (list .entry)) ⌝ }
 {
-    let turns = plan.turns;
+    let turns = plan.steps;
     let mut found = scan_start(plan.start, plan.end);
     let mut t = 0;
     while t < turns {

@@ -30,7 +30,7 @@ abbrev pub EndsBefore : List (List ℕ) → ℕ → ℕ → Bool
 EndsBefore pairs line k = ltb (suc (rangeAt pairs k .end)) line
 
 module _ (f g : ℕ → Range) where
-  -- r stands at place i; the others are as they were
+  -- r is at position i; the others are unchanged
   pub record RangePlaced (i : ℕ) (r : Range) : Type 0 where
     pub there : g i ≡ r
     pub others : (k : ℕ) → k ≢ i → g k ≡ f k

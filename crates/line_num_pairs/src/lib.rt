@@ -85,7 +85,7 @@ pub fn is_well_formed(pairs: &[[u32; 2]], used: usize) -> bool
     true
 }
 
-// How many pairs end more than one line before a line, by halving.
+// Binary search: how many pairs end more than one line before a line.
 fn ends_before(pairs: &[[u32; 2]], used: usize, line: u64) -> usize
     requires { ⌜ wellFormedRanges (rangesIn (now pairs)) used ≡ true ⌝ }
     ensures places { λ r. ⌜ (r ≤ used) × (used ≤ length (now (pairs .entry))) ⌝ }
@@ -185,7 +185,7 @@ fn copy_backward(pairs: &mut [[u32; 2]], from: usize, to: usize, n: usize)
     }
 }
 
-// The pairs from `past` on come to stand behind place `first`.
+// Moves the pairs from `past` on to behind position `first`.
 fn move_pairs(pairs: &mut [[u32; 2]], used: usize, first: usize, past: usize)
     requires { ⌜ (first ≤ past) × (past ≤ used) × (used ≤ length (now pairs)) × (first + 1 + (used - past) ≤ length (now pairs)) ⌝ }
     ensures { λ _. ⌜ Carried (rangeAt (now (pairs .entry))) (rangeAt (now (pairs .exit))) past (first + 1) (used - past) ⌝ }

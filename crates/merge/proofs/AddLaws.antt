@@ -109,7 +109,7 @@ module _ {text ws : List ℕ} {index limit : ℕ} {walk : Walk} {r : Row} (mode 
   pub room : RowsWithin ws index limit walk
   room = record { store = ω .ascending .store; rows = ω .rows; words = ω .words; most = ω .most }
 
-  -- ---- the key stands at place i
+  -- ---- the key is at position i
 
   module _ (i : ℕ) (s : SearchResult text ws index n r (At i)) where
     at-place : added mode e joined ≡ mapAccepted (λ y. set joined i y) (combineEntries mode (f i) e)

@@ -1,4 +1,4 @@
--- The end of the walk: what is new stands among the others, and is the model's answer. Assumes nothing.
+-- The end of the walk: the delta is merged, and the result is the model's answer. Assumes nothing.
 use Prim.Native.Nat.{ℕ, _+_, _-_, _≤_, _<_}
 use native.Mathlib.Omega.{arith}
 use native.Mathlib.Nat.{zero-add}

@@ -37,7 +37,8 @@ use Rattle.merge.proofs.RestLaws.{restFrom, rest-next, rest-sorted, res
 
 -- ---- the loop
 
--- k of the m entries are merged into those in ws, the places of the new ones are noted, and what is still to come gives the whole answer
+-- k of the m entries are merged into those in ws, the insert positions of the new ones are written, and the rest gives
+-- the whole answer
 pub record Walked (text ws back : List ℕ) (place : ℕ → ℕ) (index limit m : ℕ) (mode : Mode) (whole : Answer Report) (walk : Walk) (k : ℕ)
     : Type 0 where
   pub most : k ≤ m

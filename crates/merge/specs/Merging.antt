@@ -1,5 +1,5 @@
--- A table of a text's report merged into the joined table. Both stand in one lent slice of words: the joined one before word `base`, the
--- one that was read from there on. Assumes nothing.
+-- A text's table merged into the joined table. Both are in one lent slice of words: the joined one before word `base`,
+-- the one that was read from there on. Assumes nothing.
 use Prim.Native.Nat.{ℕ, _+_, _*_, _≤_}
 use mathlib.Core.Path.{_≡_}
 use mathlib.Core.List.{List}

@@ -62,7 +62,7 @@ pub record RowsWithin (ws : List ℕ) (index limit : ℕ) (walk : Walk) : Type 0
   pub words : index + limit ≤ length ws
   pub most : walk .main + walk .delta ≤ limit
 
--- the row stands behind all others, or is left out where there is no room; the walk goes on at place i
+-- the row is appended behind all others, or left out where there is no room; the walk continues at position i
 pub data RowPushed (ws ws′ : List ℕ) (index limit : ℕ) (walk : Walk) (r : Row) (i : ℕ) (next : Walk) : Type 0 where
   grew : next ≡ record { main = walk .main; delta = walk .delta + 1; from = i; full = walk .full } → walk .main + walk .delta < limit
       → Store ws′ index (walk .main + walk .delta + 1) → Unchanged (row ws index) (row ws′ index) 0 (walk .main + walk .delta)
@@ -103,7 +103,7 @@ RowAdded text ws ws′ index limit walk r mode (Refused fault) = added mode (ent
 
 -- ---- the places of the new entries
 
--- where a new entry came, its place among the n is noted behind the earlier ones'
+-- the insert position of a new entry among the n is written behind the earlier ones'
 pub record PositionNoted (place place′ : ℕ → ℕ) (walk next : Walk) : Type 0 where
   pub older : (j : ℕ) → j < walk .delta → place′ j ≡ place j
   pub newest : walk .delta < next .delta → place′ (walk .delta) ≡ next .from
@@ -118,7 +118,7 @@ spareWord ws spare j = word ws (spare + j)
 
 -- ---- the end
 
--- the p new ones stand among the n
+-- the p new rows are interleaved with the n
 pub record DeltaMerged (ws ws′ : List ℕ) (index spare n p : ℕ) : Type 0 where
   pub store : Store ws′ index (n + p)
   pub rows : Interleaved (row ws index) (row ws′ index) (spareWord ws spare) (n + p) 0 n p

@@ -1,9 +1,10 @@
-// A text's report merged into the joined one (document 01, "Checked merge"): "key by key in order .. new entries are taken over", those of
-// a known key joined. "Then E is tested on what is joined so far." Both reports are tables in one lent slice of words: the joined one
-// before word `base`, the one that was read from there on.
+// Merges a text's report into the joined one (document 01, "Checked merge"): "key by key in order .. new entries are
+// taken over", those of a known key are combined. "Then E is tested on what is joined so far." Both reports are tables
+// in one lent slice of words: the joined one before word `base`, the one that was read from there on.
 //
-// The walk leaves the joined entries where they stand: new ones are put behind them, and the place of each among them is noted in the spare
-// words behind the index. At the end the new ones are woven among the others in one pass.
+// The walk leaves the joined entries, main, at their positions. New rows are appended behind them, the delta, and the
+// insert position of each is written to the spare words behind the index. At the end the delta is interleaved with main
+// in one pass.
 use merge_combine::CombinedRow;
 use merge_search::names;
 use model::Fault;
@@ -25,8 +26,8 @@ pub enum Joined {
     Refused(Fault),
 }
 
-// How many entries were joined, how many are new, and before which place of the joined ones all come before what is still to be merged;
-// `full` when there was no row for a new one.
+// The sizes of main and delta, the position in main before which all entries come before what is still to be merged, and whether a new
+// row found no free row.
 struct Walk {
     main: usize,
     delta: usize,
@@ -39,7 +40,7 @@ enum Added {
     Refused(Fault),
 }
 
-// The row's key is new, and goes to place i. It takes a new row, behind all others; where there is no row for it, it is left out.
+// Appends a row whose key is new to the delta; its insert position is i. Where no row is free, the row is left out.
 fn add_new(words: &mut [u64], index: usize, limit: usize, walk: Walk, row: Row, i: usize) -> Walk
     requires { ⌜ RowsWithin (now words) index limit walk ⌝ }
     ensures { λ next. ⌜ RowPushed (now (words .entry)) (now (words .exit)) index limit walk row i next ⌝ }
@@ -66,7 +67,7 @@ fn add_new(words: &mut [u64], index: usize, limit: usize, walk: Walk, row: Row, 
     }
 }
 
-// One row is merged into the joined table.
+// Merges one row into the joined table.
 fn add_row(
     text: &[u8],
     words: &mut [u64],
@@ -109,7 +110,7 @@ fn add_row(
     }
 }
 
-// One row is merged, and the place of a new key among the joined ones is noted: the walk goes on there.
+// Merges one row and writes the insert position of a new key, where the walk continues.
 fn step(
     text: &[u8],
     words: &mut [u64],
@@ -149,7 +150,7 @@ fn step(
     }
 }
 
-// The new rows are brought to their places. Nothing moves where all of them go behind the n.
+// Interleaves the delta with main. Nothing moves where all of it belongs behind main.
 fn merge_delta(words: &mut [u64], index: usize, spare: usize, n: usize, new: usize)
     requires { ⌜ Store (now words) index (n + new) × Ascending (spareWord (now words) spare) n new ⌝ }
     requires { ⌜ (index + (n + new) ≤ spare) × (spare + new + new ≤ length (now words)) ⌝ }
@@ -164,7 +165,7 @@ fn merge_delta(words: &mut [u64], index: usize, spare: usize, n: usize, new: usi
 }
 
 // The entries are counted when the whole text is merged: "11 to 13 in walk order .., then 10".
-fn ended(full: bool, n: usize) -> Joined
+fn finish_merge(full: bool, n: usize) -> Joined
     ensures { λ r. ⌜ r ≡ endedOf full n ⌝ }
 {
     if full {
@@ -173,7 +174,7 @@ fn ended(full: bool, n: usize) -> Joined
     Joined::Entries(n)
 }
 
-// How far a row's key lay from where it was looked for, as a guess for the next row: of this number nothing is promised.
+// The distance of a row's key from the start of its search, as a hint for the next row. Nothing is promised of it.
 fn stride_hint(walk: Walk, next: Walk) -> usize {
     if next.from <= walk.from {
         return 0;
@@ -235,5 +236,5 @@ pub fn merge(
         }
     }
     merge_delta(&mut words[..base], index, spare, walk.main, walk.delta);
-    ended(walk.full, walk.main + walk.delta)
+    finish_merge(walk.full, walk.main + walk.delta)
 }

@@ -95,7 +95,7 @@ line-item : (text : Bytes) (r : Row) → kindOf r ≡ line-kind → itemOf text 
 unfolding itemOf
 line-item text r e = rw e
 
--- a section's own row stays
+-- a section's header row is unchanged
 pub combined-section : (text : Bytes) (mode : Mode) (old new : Row) → kindOf old ≡ 0 → RowInBounds text old → RowsCombined text mode old new (One old)
 unfolding combineEntries combineItems itemOf
 combined-section text mode old new e w = record { is = rw e; whole = w }

@@ -18,7 +18,7 @@ use Rattle.merge_combine.specs.declared.Choice.the-variants.{Earlier, La
 use Rattle.merge_combine.specs.declared.CombinedRow.{CombinedRow}
 use Rattle.merge_combine.specs.declared.CombinedRow.the-variants.{One, Refused}
 
--- what only one gives is kept; two that are given must be alike, or the later one wins
+-- a value that only one gives is kept; two given values must be equal, or the later one wins
 abbrev pub choiceOf : Mode → ℕ → ℕ → Bool → Choice
 choiceOf mode earlier zero alike = Earlier
 choiceOf mode zero (suc k) alike = Later

@@ -26,7 +26,7 @@ pub enum CombinedRow {
     Refused(Fault),
 }
 
-// `earlier` and `later` are not 0 where they are given; `alike` counts where both are.
+// `earlier` and `later` are not 0 where a value is given; `alike` is used where both are.
 fn choose(mode: Mode, earlier: u64, later: u64, alike: bool) -> Choice
     ensures { λ r. ⌜ r ≡ choiceOf mode earlier later alike ⌝ }
 {
@@ -145,7 +145,7 @@ fn combine_lines(text: &[u8], old: Row, new: Row, mode: Mode) -> CombinedRow
     }
 }
 
-// The earlier row with what the later one of its key gives; a section's own row stays.
+// The earlier row with what the later one of its key adds; a section's header row is unchanged.
 pub fn combine_rows(text: &[u8], old: Row, new: Row, mode: Mode) -> CombinedRow
     requires { ⌜ RowInBounds (now text) old × RowInBounds (now text) new × (kindOf old ≡ kindOf new) ⌝ }
     ensures { λ r. ⌜ RowsCombined (now (text .entry)) mode old new r ⌝ }

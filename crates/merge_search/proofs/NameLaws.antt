@@ -16,7 +16,7 @@ use Rattle.table_section.proofs.HeaderLaws.{item-kept, whole-kept}
 use Rattle.merge_search.specs.declared.names.Section.{Section}
 use Rattle.merge_search.specs.Names.{SameNamePositions, OneSection, SameEntry}
 
--- names that stand at the same places are the same
+-- names at the same offsets are the same
 pub same-key : (text : Bytes) {x y : Row} → SameNamePositions x y → keyOf text x ≡ keyOf text y
 same-key text ν = λ k. (part text (ν .test k) (ν .test-len k), components (part text (ν .path k) (ν .path-len k)))
 
@@ -37,7 +37,7 @@ same-entry-joined {text} {row} {r} {section} e ν h σ w = rw e (record {
     keys : keyOf text (section .joined) ≡ keyOf text row
     keys = sym (σ .key) ∙ sym (same-key text ν)
 
--- ---- the section that is met
+-- ---- the known section
 
 pub known-new : {text : Bytes} {row : Row} → RowInBounds text row → OneSection text (record { spelled = row; joined = row })
 known-new w = record { key = refl; named = w .named }

@@ -136,7 +136,7 @@ module _ (text ws : List ℕ) (index n i : ℕ) (key : Row) (κ : PartitionPoint
 
 -- ---- a line between two
 
--- what was read of the rows tells it
+-- the rows that were read show it
 pub between : {ws : List ℕ} {index at : ℕ} {key before here : Row} → before ≡ row ws index (at - 1) → here ≡ row ws index at
     → LinesOfOne before key → LinesOfOne here key → before .k1 < key .k1 → leb (key .k1) (here .k1) ≡ true → Between ws index key at
 between {key = key} {here = r} e f b h l m = record { before = rw e at b; here = rw f at h; past = rw e at l; upTo = rw f at (leb-true (key .k1) (r .k1) m) }

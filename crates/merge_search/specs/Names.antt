@@ -6,7 +6,7 @@ use Rattle.table_item.specs.Items.{kindOf, line-kind}
 use Rattle.table_section.specs.Sections.{entryOf, keyOf, NamesInBounds, RowInBounds}
 use Rattle.merge_search.specs.declared.names.Section.{Section}
 
--- test names and paths stand at the same places
+-- test names and paths are at the same offsets
 pub record SameNamePositions (x y : Row) : Type 0 where
   pub test : x .test ≡ y .test
   pub test-len : x .«test_len» ≡ y .«test_len»
@@ -23,7 +23,7 @@ pub record SameEntry (text : Bytes) (row r : Row) : Type 0 where
   pub entry : entryOf text r ≡ entryOf text row
   pub whole : RowInBounds text r
 
--- two lines of sections whose names stand at the same places
+-- two lines of sections whose names are at the same offsets
 pub record LinesOfOne (x y : Row) : Type 0 where
   pub names : SameNamePositions x y
   pub left : kindOf x ≡ line-kind

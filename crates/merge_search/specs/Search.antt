@@ -46,7 +46,7 @@ pub record GallopBounds (test : ℕ → Bool) (n lo hi : ℕ) : Type 0 where
   pub past : (k : ℕ) → k < lo → test k ≡ true
   pub stop : hi < n → test hi ≡ false
 
--- the row's key stands at a place, or is to go there
+-- the position of the row's key, or its insert position
 abbrev pub SearchResult : Bytes → List ℕ → ℕ → ℕ → Row → Found → Type 0
 SearchResult text ws index n key (At i) = (i < n) × Passed text ws index key i × (compareEntries (entryOf text key) (entryAt text ws index i) ≡ Ordering·eq)
 SearchResult text ws index n key (Insert i) = (i ≤ n) × Passed text ws index key i × (i < n → compareEntries (entryOf text key) (entryAt text ws index i) ≡ Ordering·lt)

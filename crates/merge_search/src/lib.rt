@@ -1,4 +1,4 @@
-// The place of a key among entries that stand in ascending order of their keys: the first n of the used rows.
+// Search in a table whose first n rows ascend by key.
 pub mod names;
 
 use compare::Order;
@@ -28,7 +28,7 @@ fn compare_rows(text: &[u8], x: Row, y: Row) -> Order
     sections
 }
 
-// Whether both rows are lines, of sections whose names stand at the same places.
+// Whether both rows are lines of sections whose names are at the same offsets.
 fn lines_of_one(x: Row, y: Row) -> bool
     ensures { λ r. ⌜ (r ≡ true → LinesOfOne x y) ⌝ }
 {
@@ -51,7 +51,7 @@ fn compare_entries(text: &[u8], x: Row, y: Row) -> Order
     compare_rows(text, x, y)
 }
 
-// Whether the entry at a place comes before the key. Two lines are compared here as well, so that this is told without a call.
+// Whether the entry at a position comes before the key. Two lines are compared inline, which spares a call.
 fn is_before(
     text: &[u8],
     words: &[u64],
@@ -71,14 +71,14 @@ fn is_before(
     compare::is_less(compare_rows(text, other, key))
 }
 
-// Places between which the key's is.
+// Positions between which the key's is.
 struct Span {
     lo: usize,
     hi: usize,
 }
 
-// Steps that double, from a place on before which all entries come before the key: two tables that are walked together have their keys
-// near each other.
+// Gallops from a position before which all entries come before the key: two tables that are walked together have their keys near each
+// other.
 fn gallop(
     text: &[u8],
     words: &[u64],
@@ -105,7 +105,7 @@ fn gallop(
     Span { lo, hi: n }
 }
 
-// How many of the n entries come before the key, by halving.
+// Galloping, then binary search: how many of the n entries come before the key.
 fn lower_bound_entry(
     text: &[u8],
     words: &[u64],
@@ -132,7 +132,7 @@ fn lower_bound_entry(
     lo
 }
 
-// The key's place is i: whether it stands there, or is to go there.
+// Position i is the lower bound of the key: tells a hit from an insert position.
 fn resolve(
     text: &[u8],
     words: &[u64],
@@ -155,7 +155,7 @@ fn resolve(
     Found::Insert(i)
 }
 
-// The key's place among the n entries, those before place `from` coming before it.
+// The key's position among the n entries; those before position `from` come before it.
 fn gallop_search(
     text: &[u8],
     words: &[u64],
@@ -172,7 +172,8 @@ fn gallop_search(
     resolve(text, words, index, used, n, i, key)
 }
 
-// The same, where the entry at `from` is tried first: one comparison for a key that stands there or goes there.
+// Compares with the entry at `from` first, and gallops only if the key is greater: one comparison for a key that is or
+// belongs there.
 fn search_first(
     text: &[u8],
     words: &[u64],
@@ -199,8 +200,8 @@ fn search_first(
     gallop_search(text, words, index, used, n, from + 1, key)
 }
 
-// Whether the entries at `at` and before it are lines of the key's section between which the key is, or at the second. Most keys of texts that
-// interleave are: this is told by a few words of both rows, and no call takes the key through memory.
+// Whether the key is between the entries before and at `at`, or at the second, all three being lines of one section.
+// Most keys of interleaved texts are: a few words of both rows show it, and no call passes the key through memory.
 fn is_between(words: &[u64], index: usize, used: usize, at: usize, key: Row) -> bool
     requires { ⌜ Store (now words) index used × (0 < at) × (at < used) ⌝ }
     ensures { λ r. ⌜ (r ≡ true → Between (now (words .entry)) index key at) ⌝ }
@@ -217,7 +218,7 @@ fn is_between(words: &[u64], index: usize, used: usize, at: usize, key: Row) -> 
     false
 }
 
-// The same, where the key's place is likely to be `at`.
+// Tries position `at` first, and searches before or behind it if the key does not belong there.
 fn search_near(
     text: &[u8],
     words: &[u64],
@@ -248,7 +249,8 @@ fn search_near(
     gallop_search(text, words, index, used, n, from, key)
 }
 
-// The same, where the key before it lay `gap` places behind where its search began: keys of texts that interleave have regular gaps.
+// Tries first the position `stride` behind `from`, where `stride` is the last key's distance from the start of its search: keys of
+// interleaved texts have regular strides.
 pub fn search_with_hint(
     text: &[u8],
     words: &[u64],

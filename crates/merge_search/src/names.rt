@@ -1,5 +1,5 @@
-// A section's names stand in both texts. The rows of the text that is merged get the joined table's spelling of them: names are then
-// compared once for a section, and for all its other rows they begin and end alike, and are not read.
+// Both texts contain a section's names. The rows that are merged get the joined table's offsets of these names: names
+// are then compared once for each section, and for its other rows equal offsets show it.
 use table::Row;
 ghost use mathlib.Core.Path.{_≡_};
 ghost use mathlib.Core.Bool.{true};
@@ -9,13 +9,13 @@ ghost use Rattle.table_section.specs.Sections.{RowInBounds};
 ghost use Rattle.merge_search.specs.Names.{SameNamePositions, OneSection, SameEntry};
 ghost use Rattle.merge_search.specs.Search.{EntriesAscending};
 
-// The section that was met last: a row of it as its text spells it, and one as the joined table does.
+// The current section: one of its rows as its text spells it, and one as the joined table does.
 pub struct Section {
     spelled: Row,
     joined: Row,
 }
 
-// Before any section is met: empty names are the same wherever they stand.
+// Before the first section: empty names are the same at any offset.
 pub fn no_section() -> Section
     ensures { λ r. ⌜ ((text : List ℕ) → OneSection text r) ⌝ }
 {
@@ -36,7 +36,7 @@ pub fn no_section() -> Section
     }
 }
 
-// Whether the test names and the paths of two rows stand at the same places.
+// Whether the test names and the paths of two rows are at the same offsets.
 pub fn same_names(x: Row, y: Row) -> bool
     ensures { λ r. ⌜ (r ≡ true → SameNamePositions x y) ⌝ }
 {
@@ -52,7 +52,8 @@ pub fn same_names(x: Row, y: Row) -> bool
     false
 }
 
-// A row of the section that was met last, as the joined table spells it. A section's own row stays: its item is its spelling.
+// A row of the current section with the joined table's offsets of its names. A header row is unchanged: its item is its
+// spelling.
 pub fn with_known_names(row: Row, section: Section) -> Row
     ensures { λ r. ⌜ ((text : List ℕ) → OneSection text section → RowInBounds text row → SameEntry text row r) ⌝ }
 {
@@ -65,8 +66,8 @@ pub fn with_known_names(row: Row, section: Section) -> Row
     row
 }
 
-// The section of a row that was merged. Its own row comes first, and if the joined table has the section, that row now stands before the
-// place where the walk goes on.
+// The section of a merged row. Its header row comes first; if the joined table has the section, that row is now before
+// the position where the walk continues.
 pub fn section_of(
     text: &[u8],
     words: &[u64],

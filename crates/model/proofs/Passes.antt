@@ -117,7 +117,7 @@ module _ (limit : ℕ) (kept : Report) (test path : Bytes) (items : List Item) w
       let l : leb (length kept + suc (length m)) limit ≡ true = le-leb (length kept + suc (length m)) limit (omega arith) in
       rw l
 
-  -- ---- a line that enters an item
+  -- ---- a line that adds an item
 
   module _ (t : SortedItems items) (room : length kept + suc (length items) ≤ limit) where
     entry-pass : (want : Item → Option Item) (combine : Item → Item → Answer Item) (r : Record) (m : List Item) (new e y : Item) (rest : List Item)
@@ -253,7 +253,7 @@ module _ (limit : ℕ) (kept : Report) (test path : Bytes) (items : List Item) w
           ready′,
         )
 
-    -- ---- all the lines that enter items, in printing order
+    -- ---- all the lines that add items, in printing order
 
     -- what the FN lines leave is ready for the others
     pub after-starts : (m all : List Item) → ((k : List ℕ) → at k all ≡ at k items) → DistinctItems all → Pass items started m [] → Pass items some m all × Ready m all

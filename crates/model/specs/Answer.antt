@@ -93,7 +93,7 @@ module _ {A : Type 0} where
   abbrev pub refuseField : Fault → ℕ → Answer A
   refuseField fault field = refused (record { fault = fault; text = 0; line = 0; field = field; needed = 0 })
 
-  -- the refusal for an output that is too short. The needed length is told in a u64 and held at 2^64 − 1
+  -- the refusal of an output that is too short. The needed length is a u64 and saturates at 2^64 − 1
   abbrev pub refuseLength : ℕ → Answer A
   refuseLength needed = refused (record { fault = OutputTooShort; text = 0; line = 0; field = 0; needed = min needed u64-max })
 

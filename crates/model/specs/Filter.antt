@@ -30,7 +30,7 @@ lineOf (lineItem line count checksum) = line
 unfoldable pub isHeld : List Range → Item → Bool
 isHeld ranges item = holds ranges (lineOf item) (lineOf item)
 
--- a start line; functions without one are gone by then
+-- a start line; functions without one are removed before
 unfoldable pub startLine : Item → ℕ
 startLine item = elim (startOf item) [ none ↦ 0 | some start ↦ start ]
 

@@ -126,7 +126,7 @@ addCalls (functionItem name start count) later = sum CallOverflow count (countOf
 addCalls (branchItem line block branch taken) later = accepted later
 addCalls (lineItem line count checksum) later = accepted later
 
--- an item entered into the open section
+-- an item added to the open section
 unfoldable pub enterItem : (Item → Item → Answer Item) → Item → State → Answer State
 enterItem combine item s = do
   items ← enter itemKey compareBytes combine item (s .items)

@@ -1,5 +1,5 @@
 // The plain values that cross every call: records and their parts, ranges, modes, and answers with their refusals.
-// What they mean is told in specs/.
+// specs/ defines what they mean.
 
 // Why a call is refused. `numberOf` in specs/Answer.antt gives each its number in document 01's table; the names of the faults that
 // the Rust has too are the Rust's.
@@ -144,7 +144,7 @@ pub enum InsertAnswer {
     Refused(Refusal),
 }
 
-// Whether the range list holds one of the lines asked for.
+// Whether the range list holds one of the queried lines.
 pub enum QueryAnswer {
     Holds(bool),
     Refused(Refusal),

@@ -151,7 +151,7 @@ askFilter q = withValues (filterText defaultTag (q .0) (q .1) (length (q .1)) wo
 
 -- ---- computing
 
--- opens every definition that a question comes to: a proof by computation says `unfolding open-asked`
+-- opens every definition that a question uses: a proof by computation says `unfolding open-asked`
 unfoldable pub open-asked : {A : Type 0} → A → A
 unfolding open-all u32Bytes concat startsFrom bundleOf insertAll
 open-asked a = a

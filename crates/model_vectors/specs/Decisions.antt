@@ -166,7 +166,7 @@ pub record Ranges : Type 0 where
       (withValues (filterText defaultTag (ascii "X") (range 2 1 ∷ []) 1 8_192 0) ≡ refuses 18 0 0)
       × (withValues (filterText defaultTag (ascii "X") [] 0 8_192 0) ≡ refuses 1 1 0)
       × (withValues (filterText defaultTag (section (ascii "a") (ascii "1,1")) [] 0 8_192 0) ≡ needs 23)
-  -- functions without a start go before ends are reckoned
+  -- functions without a start line are removed before end lines are computed
   pub startless :
       withValues (filterText defaultTag (ascii "FN:3,f\nFNDA:1,g\nend_of_record\n") (range 9 9 ∷ []) 1 8_192 65_536)
       ≡ gives (ascii "TN:\nSF:\nFN:3,f\nFNDA:0,f\nFNF:1\nFNH:0\nend_of_record\n")

@@ -38,7 +38,7 @@ module _ {R T B E K : Type 0} (key : E → K) (cmp : K → K → Ordering) (comb
   gatherAll [] m = accepted m
   gatherAll (t ∷ ts) m = bind (mapRefused (place t) (gatherOne (content t) m)) (λ n. gatherAll ts n)
 
--- how often a thing stands in a list, by a test of sameness
+-- how often an element occurs in a list, by a test of equality
 abbrev pub times : {T : Type 0} → (T → T → Bool) → T → List T → ℕ
 times same a [] = 0
 times same a (x ∷ xs) = let n = times same a xs in cond (same a x) (suc n) n

@@ -1,4 +1,5 @@
--- What a report prints is no longer than what its entries come to, and neither are its sections with fewer items. Assumes nothing.
+-- What a report prints is no longer than the bounds of its entries, and neither are its sections with fewer items.
+-- Assumes nothing.
 use Prim.Native.Nat.{ℕ, _+_, _≤_}
 use native.Mathlib.Omega.{arith}
 use mathlib.Core.Path.{_≡_, refl, ap}

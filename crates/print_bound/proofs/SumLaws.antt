@@ -1,4 +1,4 @@
--- What some of many numbers come to, each taken once, is no more than what all come to. Assumes nothing.
+-- The sum of some of many numbers, each taken once, is at most the sum of all. Assumes nothing.
 use Prim.Native.Nat.{ℕ, zero, suc, _+_, _≤_, _<_}
 use native.Mathlib.Omega.{arith}
 use mathlib.Core.Path.{_≡_, refl, sym, ap, _∙_}

@@ -13,7 +13,8 @@ use Rattle.table_section.specs.Sections.{entriesAt}
 unfoldable pub itemLines : Item → Bytes
 itemLines item = printRecords defaultTag (startRecord item) ++ printRecords defaultTag (dataRecord item)
 
--- a section's own item stands for TN, SF and end_of_record, and for the six lines of how many were found and hit, with five digits each
+-- a section's header item counts for TN, SF and end_of_record, and for the six found and hit lines, with five digits
+-- each
 unfoldable pub sectionMost : Bytes → Item → ℕ
 sectionMost test (sectionItem spelling) = 80 + length test + length spelling
 sectionMost test (functionItem name start count) = 0
@@ -27,7 +28,7 @@ unfoldable pub reportMost : Report → ℕ
 reportMost [] = 0
 reportMost (e ∷ es) = entryMost e + reportMost es
 
--- yes only where the first n entries come to no more than `room`, whatever the text
+-- true only where the bounds of the first n entries add up to at most `room`, whatever the text
 abbrev pub FitsBound : List ℕ → ℕ → ℕ → ℕ → Bool → Type 0
 FitsBound ws index n room true = (text : Bytes) → reportMost (entriesAt text ws index n) ≤ room
 FitsBound ws index n room false = Unit {0}

@@ -1,5 +1,5 @@
-// An upper bound for the bytes that a report prints, told by its rows alone: where the output is as long, the lines need not be measured before
-// they are written.
+// An upper bound of the bytes that a report prints, computed from its rows alone. Where the output is that long, no
+// measuring pass is needed.
 use table::Row;
 ghost use mathlib.Core.Path.{_≡_};
 ghost use mathlib.Core.List.{List};
@@ -50,8 +50,8 @@ fn max_line_len(row: Row) -> u64
     saturating_add(saturating_add(row.test_len, row.path_len), 80)
 }
 
-// Whether the first n rows print at most `room` bytes. The answer may be no where they do, and never yes where they don't. All used rows are
-// counted, in the order in which they stand in memory: that is faster than the order of the index, and few are not among the n.
+// True only if the first n rows print at most `room` bytes; false does not show the contrary. It adds up all used rows
+// in memory order, which is faster than index order; few of them are not among the n.
 pub fn surely_fits(words: &[u64], index: usize, used: usize, n: usize, room: usize) -> bool
     requires { ⌜ Store (now words) index used × (n ≤ used) × (room < u64-max) ⌝ }
     ensures { λ r. ⌜ FitsBound (now (words .entry)) index n room r ⌝ }

@@ -1,4 +1,4 @@
--- A table whose entries come to no more than the output has: what it prints fits. Assumes nothing.
+-- A table whose entries are within the bound fits the output. Assumes nothing.
 use Prim.Native.Nat.{ℕ, _≤_}
 use native.Mathlib.Omega.{arith}
 use mathlib.Core.Path.{_≡_, ap}

@@ -1,4 +1,4 @@
--- The kinds of a table's rows: a section's own row comes first, then its functions, its branches and its lines. Assumes nothing.
+-- The kinds of a table's rows: a section's header row first, then its functions, branches and lines. Assumes nothing.
 use Prim.Native.Nat.{ℕ, zero, suc, _+_, _≤_, _<_, compare, Ordering, Ordering·lt, Ordering·eq, Ordering·gt}
 use native.Mathlib.Omega.{arith}
 use mathlib.Core.Path.{_≡_, refl, sym, ap, ap₂, _∙_}
@@ -57,7 +57,7 @@ kinds-up i j h =
 
 -- ---- entries
 
--- past an entry of the kind, kinds don't go down but for a section's own entry
+-- behind an entry of the kind, kinds do not descend until the next header entry
 abbrev Rising : ℕ → Report → Type 0
 Rising kind [] = Unit {0}
 Rising kind (x ∷ xs) = (kindIn (x .item) ≢ 0 → kind ≤ kindIn (x .item)) × Rising (kindIn (x .item)) xs
@@ -113,7 +113,7 @@ module _ {text ws : List ℕ} {index used n : ℕ} (τ : Table text ws index use
       let (blocks, e, shaped) = blocks-of (entriesAt text ws index n) (τ .valid) in
       rw e (rising-blocks blocks (rw e at (τ .valid .sorted)) 4)
 
-  -- the first row is a section's own
+  -- the first row is a section's header
   pub first-header : 0 < n → kindOf (row ws index 0) ≡ 0
   first-header h =
       by-eq (kindOf (row ws index 0)) 0 (λ e. e)
@@ -146,7 +146,7 @@ module _ {text ws : List ℕ} {index used n : ℕ} (τ : Table text ws index use
           (λ q′. let zf : f ≡ l = omega (arith, β .least) in
           omega (arith, most, rw zf at (φ .ends (omega arith)), rw zb at (β .ends (omega arith)), λs .ends h)))
 
--- ---- the end of a run
+-- ---- the end of a kind's range
 
 -- the rows from a place on are of the kind
 pub record Running (ws : List ℕ) (index n from kind at : ℕ) : Type 0 where

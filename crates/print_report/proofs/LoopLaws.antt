@@ -65,7 +65,7 @@ pub record Looping (printed : List ℕ → ℕ → Bytes) (write : Bool) (ws₀ 
   pub spared : UnchangedBefore ws₀ ws spare
   pub going : Going write out₀ out 0 at (printed ws₀ 0) (printed ws₀ lo)
   pub most : lo ≤ n
-  pub own : lo < n → kindOf (row ws₀ index lo) ≡ 0
+  pub header : lo < n → kindOf (row ws₀ index lo) ≡ 0
   pub size : length out ≡ length out₀
 
 pub loop-start : {printed : List ℕ → ℕ → Bytes} {write : Bool} {text ws out : List ℕ} {index used n spare : ℕ} → PrintableTable text ws index used n spare
@@ -74,14 +74,14 @@ loop-start π h few = record {
   spared = spared-none;
   going = going-start h few (omega arith);
   most = omega arith;
-  own = first-header (π .table);
+  header = first-header (π .table);
   size = refl;
 }
 
 module _ {printed : List ℕ → ℕ → Bytes} {write : Bool} {text ws₀ ws out₀ out : List ℕ} {index used n spare lo at : ℕ}
     (π : PrintableTable text ws₀ index used n spare) (δ : Prints printed ws₀ n spare) (Λ : Looping printed write ws₀ ws out₀ out index n spare lo at) where
   pub loop-header : lo < n → kindOf (row ws index lo) ≡ 0
-  loop-header h = ap kindOf (row-kept π (Λ .spared) lo h) ∙ Λ .own h
+  loop-header h = ap kindOf (row-kept π (Λ .spared) lo h) ∙ Λ .header h
 
   pub loop-room : RoomFor write out at (printed ws lo)
   loop-room = room-as write out at (printed ws lo) (printed ws₀ lo) (δ .same ws (Λ .spared) lo) (room-left (Λ .going))
@@ -93,7 +93,7 @@ module _ {printed : List ℕ → ℕ → Bytes} {write : Bool} {text ws₀ ws ou
     going = going-next (Λ .going) (ς .lines) (printed ws₀ (r .next))
         (sym (δ .same ws (Λ .spared) lo) ∙ ς .first ∙ ap (λ (t : Bytes). ς .lines ++ t) (δ .same ws (Λ .spared) (r .next))) (ς .emitted);
     most = ς .most;
-    own = λ h. ap kindOf (sym (row-kept π (Λ .spared) (r .next) h)) ∙ ς .own h;
+    header = λ h. ap kindOf (sym (row-kept π (Λ .spared) (r .next) h)) ∙ ς .header h;
     size = e ∙ Λ .size;
   }
 

@@ -69,13 +69,13 @@ sections-run f (suc n) rest h =
     rw (not-header (sectionKey (f 0)) (f 0 .item) (itemsHere (tabulate (λ k. f (suc k)) n ++ rest)) (h 0 (omega arith)))
     (sections-run (λ k. f (suc k)) n rest (λ k l. h (suc k) (omega arith)))
 
--- the section of an own entry, and those behind its items
+-- the section of a header entry, and those behind its items
 sections-cons : (e : Entry) (f : ℕ → Entry) (n : ℕ) (rest : Report) (spelling : Bytes) → e .item ≡ sectionItem spelling
     → ((k : ℕ) → k < n → isSection (f k .item) ≡ false) → itemsHere rest ≡ []
     → sections (e ∷ (tabulate f n ++ rest)) ≡ record { test = e .test; spelling = spelling; items = tabulate (λ k. f k .item) n } ∷ sections rest
 unfolding sections sectionHere
-sections-cons e f n rest spelling own inner ends =
-    rw (own, sectionHere)
+sections-cons e f n rest spelling header inner ends =
+    rw (header, sectionHere)
     (ap₂ (λ (items : List Item) (t : List Section). record { test = e .test; spelling = spelling; items = items } ∷ t)
     (items-run f n rest inner ends) (sections-run f n rest inner))
 
@@ -186,9 +186,9 @@ header-item : (text : Bytes) (r : Row) → kindOf r ≡ 0 → itemOf text r ≡ 
 unfolding itemOf
 header-item text r e = rw e
 
-module _ {text ws : List ℕ} {index used n lo f b l : ℕ} (τ : Table text ws index used n) (own : kindOf (row ws index lo) ≡ 0) (here : lo < n)
+module _ {text ws : List ℕ} {index used n lo f b l : ℕ} (τ : Table text ws index used n) (header : kindOf (row ws index lo) ≡ 0) (here : lo < n)
     (φ : IsKindRange ws index n (lo + 1) function-kind f) (β : IsKindRange ws index n f branch-kind b) (λs : IsKindRange ws index n b line-kind l) where
-  -- the rows of a run are items of its kind
+  -- the rows of a kind's range are items of that kind
   kinds : {from end kind : ℕ} → IsKindRange ws index n from kind end → Kinds (itemFrom text ws index from) (end - from) kind
   kinds {from} {end} ρ k h =
       kind-at τ (from + k) (omega (arith, ρ .most)) ∙ ρ .each (from + k) (omega arith) (omega arith)
@@ -210,11 +210,11 @@ module _ {text ws : List ℕ} {index used n lo f b l : ℕ} (τ : Table text ws 
   unfolding itemsHere
   ends =
       by-lt l n
-      (λ h. ap itemsHere (part-cons (entryAt text ws index) l n h) ∙ rw (own-here h, itemsHere))
+      (λ h. ap itemsHere (part-cons (entryAt text ws index) l n h) ∙ rw (header-here h, itemsHere))
       (λ h. ap itemsHere (part-none (entryAt text ws index) l n h))
     where
-      own-here : l < n → isSection (entryAt text ws index l .item) ≡ true
-      own-here h = tests (entryAt text ws index l .item) .0 ∙ ap (λ (k : ℕ). eqb k 0) (kind-at τ l h ∙ next-header τ (omega arith) φ β λs h)
+      header-here : l < n → isSection (entryAt text ws index l .item) ≡ true
+      header-here h = tests (entryAt text ws index l .item) .0 ∙ ap (λ (k : ℕ). eqb k 0) (kind-at τ l h ∙ next-header τ (omega arith) φ β λs h)
 
   abbrev pub items : List Item
   items = itemsAt text ws index (lo + 1) (l - (lo + 1))
@@ -245,7 +245,7 @@ module _ {text ws : List ℕ} {index used n lo f b l : ℕ} (τ : Table text ws 
       ∙ ap (λ (t : Report). entryAt text ws index lo ∷ t)
       (part-split (entryAt text ws index) (lo + 1) l n (omega (arith, φ .least, β .least, λs .least)) (λs .most)))
       ∙ sections-cons (entryAt text ws index lo) (λ k. entryAt text ws index (lo + 1 + k)) (l - (lo + 1)) (entriesFrom text ws index n l)
-      (pathOf text (row ws index lo)) (header-item text (row ws index lo) own) not-section ends
+      (pathOf text (row ws index lo)) (header-item text (row ws index lo) header) not-section ends
 
   -- THE SECTION AT A PLACE: its lines, and then what the rows behind it print
   pub section-printed : printedFrom text index n ws lo

@@ -26,18 +26,18 @@ use Rattle.print_report.proofs.TableLaws.{printable-kept, items-kept, i
 use Rattle.print_report.proofs.GoingLaws.{Going, going-start, going-room, going-next}
 
 -- the section at place lo is to be printed, with room for it and all behind it
-pub record Here (write : Bool) (text ws out : List ℕ) (index used n spare lo at : ℕ) (own : Row) (r : KindRanges) : Type 0 where
+pub record Here (write : Bool) (text ws out : List ℕ) (index used n spare lo at : ℕ) (header : Row) (r : KindRanges) : Type 0 where
   pub spacious : PrintableTable text ws index used n spare
   pub more : lo < n
   pub kind : kindOf (row ws index lo) ≡ 0
-  pub is : own ≡ row ws index lo
+  pub is : header ≡ row ws index lo
   pub runs : AreKindRanges ws index n (lo + 1) r
   pub room : RoomFor write out at (printedFrom text index n ws lo)
   pub few : length out * 1 < 2 ^ 63
   pub place : at ≤ u64-max
 
-module _ {write : Bool} {text ws out : List ℕ} {index used n spare lo at : ℕ} {own : Row} {r : KindRanges}
-    (η : Here write text ws out index used n spare lo at own r) where
+module _ {write : Bool} {text ws out : List ℕ} {index used n spare lo at : ℕ} {header : Row} {r : KindRanges}
+    (η : Here write text ws out index used n spare lo at header r) where
   abbrev functions : Bytes
   functions = functionLines (sort comparePrinted (itemsAt text ws index (lo + 1) (r .functions - (lo + 1))))
 
@@ -53,7 +53,7 @@ module _ {write : Bool} {text ws out : List ℕ} {index used n spare lo at : ℕ
   abbrev rest : Bytes
   rest = printedFrom text index n ws (r .lines)
 
-  all : printedFrom text index n ws lo ≡ headLines text own ++ (functions ++ (branches ++ lines ++ (end ++ rest)))
+  all : printedFrom text index n ws lo ≡ headLines text header ++ (functions ++ (branches ++ lines ++ (end ++ rest)))
   all =
       section-printed (η .spacious .table) (η .kind) (η .more) (η .runs .functions) (η .runs .branches) (η .runs .lines)
       ∙ ap₂ (λ (o : Row) (t : Bytes). headLines text o ++ (functions ++ t)) (sym (η .is)) (sym (append-assoc branches lines (end ++ rest)))
@@ -63,17 +63,17 @@ module _ {write : Bool} {text ws out : List ℕ} {index used n spare lo at : ℕ
   at-head : Going write out out at at (printedFrom text index n ws lo) (printedFrom text index n ws lo)
   at-head = going-start (η .room) (η .few) (η .place)
 
-  pub header-named : (own .test + own .«test_len» ≤ length text) × (own .path + own .«path_len» ≤ length text)
+  pub header-named : (header .test + header .«test_len» ≤ length text) × (header .path + header .«path_len» ≤ length text)
   header-named = let ν = η .spacious .table .whole lo (η .more) .named in rw (η .is) (ν .test, ν .path)
 
-  pub head-room : RoomFor write out at (headLines text own)
-  head-room = going-room at-head (headLines text own) (functions ++ (branches ++ lines ++ (end ++ rest))) all
+  pub head-room : RoomFor write out at (headLines text header)
+  head-room = going-room at-head (headLines text header) (functions ++ (branches ++ lines ++ (end ++ rest))) all
 
   -- ---- functions
 
-  module _ {out₁ : Bytes} {a : ℕ} (ε₁ : Emitted write out out₁ at (headLines text own) a) where
+  module _ {out₁ : Bytes} {a : ℕ} (ε₁ : Emitted write out out₁ at (headLines text header) a) where
     at-functions : Going write out out₁ at a (printedFrom text index n ws lo) (functions ++ (branches ++ lines ++ (end ++ rest)))
-    at-functions = going-next at-head (headLines text own) (functions ++ (branches ++ lines ++ (end ++ rest))) all ε₁
+    at-functions = going-next at-head (headLines text header) (functions ++ (branches ++ lines ++ (end ++ rest))) all ε₁
 
     pub functions-room : RoomFor write out₁ a functions
     functions-room = going-room at-functions functions (branches ++ lines ++ (end ++ rest)) refl
@@ -128,6 +128,6 @@ module _ {write : Bool} {text ws out : List ℕ} {index used n spare lo at : ℕ
               emitted = γ .emitted;
               more = omega (arith, η .runs .functions .least, η .runs .branches .least, η .runs .lines .least);
               most = η .runs .lines .most;
-              own = next-header (η .spacious .table) (omega arith) (η .runs .functions) (η .runs .branches) (η .runs .lines);
+              header = next-header (η .spacious .table) (omega arith) (η .runs .functions) (η .runs .branches) (η .runs .lines);
               spared = σ;
             }

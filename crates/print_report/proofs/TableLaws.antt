@@ -32,7 +32,7 @@ spared-none = record { words = refl; kept = λ j h. refl }
 pub spared-both : {ws ws₁ ws₂ : List ℕ} {spare : ℕ} → UnchangedBefore ws ws₁ spare → UnchangedBefore ws₁ ws₂ spare → UnchangedBefore ws ws₂ spare
 spared-both σ τ = record { words = τ .words ∙ σ .words; kept = λ j h. τ .kept j h ∙ σ .kept j h }
 
--- rows and index stand before the spare words
+-- rows and index are before the spare words
 module _ {ws ws′ : List ℕ} {index used spare : ℕ} (ς : Store ws index used) (b : index + used ≤ spare) (σ : UnchangedBefore ws ws′ spare) where
   numbers-kept : (k : ℕ) → k < used → number ws′ index k ≡ number ws index k
   numbers-kept k h = σ .kept (index + k) (omega arith)
@@ -124,7 +124,7 @@ items-kept {text} {ws} {ws′} {index} π σ from end h =
 
 -- ---- functions
 
--- the functions of a run
+-- the functions of a range
 pub run-functions : {text ws : List ℕ} {index used n spare from end : ℕ} → PrintableTable text ws index used n spare → IsKindRange ws index n from function-kind end
     → FunctionRows text ws index used from (end - from) spare
 run-functions {from = from} {end = end} π φ = record {

@@ -1,4 +1,5 @@
--- A table printed: the entries from a place on, the runs of a section's rows, and the words that stay. Assumes nothing.
+-- A table printed: the entries from a position on, the kind ranges of a section's rows, and the unchanged words.
+-- Assumes nothing.
 use Prim.Native.Nat.{ℕ, _+_, _-_, _≤_, _<_, min}
 use mathlib.Core.Path.{_≡_}
 use mathlib.Core.Logic.{_≢_}
@@ -46,7 +47,7 @@ pub record UnchangedBefore (ws ws′ : List ℕ) (spare : ℕ) : Type 0 where
   pub words : length ws′ ≡ length ws
   pub kept : (j : ℕ) → j < spare → word ws′ j ≡ word ws j
 
--- ---- runs
+-- ---- kind ranges
 
 -- of the rows from place `from` up to n, those before r are of the kind, and the one at r is not
 pub record IsKindRange (ws : List ℕ) (index n from kind r : ℕ) : Type 0 where
@@ -55,7 +56,7 @@ pub record IsKindRange (ws : List ℕ) (index n from kind r : ℕ) : Type 0 wher
   pub each : (k : ℕ) → from ≤ k → k < r → kindOf (row ws index k) ≡ kind
   pub ends : r < n → kindOf (row ws index r) ≢ kind
 
--- the runs of a section's functions, branches and lines, from place `from` on
+-- the ranges of a section's functions, branches and lines, from position `from` on
 pub record AreKindRanges (ws : List ℕ) (index n from : ℕ) (r : KindRanges) : Type 0 where
   pub functions : IsKindRange ws index n from function-kind (r .functions)
   pub branches : IsKindRange ws index n (r .functions) branch-kind (r .branches)
@@ -65,7 +66,7 @@ pub record AreKindRanges (ws : List ℕ) (index n from : ℕ) (r : KindRanges) :
 
 -- TN and SF
 abbrev pub headLines : Bytes → Row → Bytes
-headLines text own = printRecords defaultTag (testName (testOf text own) ∷ sourceFile (pathOf text own) ∷ [])
+headLines text header = printRecords defaultTag (testName (testOf text header) ∷ sourceFile (pathOf text header) ∷ [])
 
 -- ---- functions
 
@@ -93,7 +94,7 @@ branchLines text ws index r = groupLines branch-kind (itemsBy text ws (index + r
 abbrev pub lineLines : Bytes → List ℕ → ℕ → KindRanges → Bytes
 lineLines text ws index r = groupLines line-kind (itemsBy text ws (index + r .branches) (r .lines - r .branches))
 
--- the rows of both runs can be printed
+-- the rows of both ranges can be printed
 pub record GroupRows (text ws : List ℕ) (index : ℕ) (r : KindRanges) : Type 0 where
   pub branches : Printable text ws (index + r .functions) (r .branches - r .functions)
   pub lines : Printable text ws (index + r .branches) (r .lines - r .branches)
@@ -110,7 +111,7 @@ pub record SectionPrinted (printed : List ℕ → ℕ → Bytes) (write : Bool) 
   pub emitted : Emitted write out out′ at lines (r .at)
   pub more : lo < r .next
   pub most : r .next ≤ n
-  pub own : r .next < n → kindOf (row ws index (r .next)) ≡ 0
+  pub header : r .next < n → kindOf (row ws index (r .next)) ≡ 0
   pub spared : UnchangedBefore ws ws′ spare
 
 -- ---- the answer

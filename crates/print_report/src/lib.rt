@@ -1,5 +1,5 @@
-// The report of a table printed: `into_records` (document 01, "Printing"). "Sections in key order: TN, SF, functions, branches, lines,
-// end_of_record." The same code runs twice where the output may be too short: it measures, and where the output is long enough it writes.
+// Prints the report of a table: `into_records` (document 01, "Printing"). "Sections in key order: TN, SF, functions,
+// branches, lines, end_of_record." Where the output may be too short, a measuring pass with the same code comes first.
 use model::Fault;
 use model::Refusal;
 use model::WriteAnswer;
@@ -23,7 +23,7 @@ ghost use Rattle.print_sort.specs.Sorting.{itemsBy};
 ghost use Rattle.print_rows.specs.Emit.{RoomFor, Emitted, Printable};
 ghost use Rattle.print_report.specs.Printing.{printedFrom, PrintableTable, UnchangedBefore, IsKindRange, AreKindRanges, functionLines, FunctionRows, branchLines, lineLines, GroupRows, SectionPrinted, RequiredLength};
 
-// Where the run of rows of a kind that starts at place `from` ends.
+// The end of the range of rows of a kind that starts at position `from`.
 fn kind_end(words: &[u64], index: usize, used: usize, n: usize, from: usize, kind: u64) -> usize
     requires { ⌜ Store (now words) index used × (n ≤ used) × (from ≤ n) ⌝ }
     ensures { λ r. ⌜ IsKindRange (now (words .entry)) index n from kind r ⌝ }
@@ -46,7 +46,7 @@ pub struct KindRanges {
     pub lines: usize,
 }
 
-// The runs from place `from` on, behind the section's own row.
+// The kind ranges from position `from` on, behind the section's header row.
 pub fn find_kind_ranges(
     words: &[u64],
     index: usize,
@@ -67,7 +67,7 @@ pub fn find_kind_ranges(
     }
 }
 
-// FN, FNDA, FNF and FNH of the n functions whose row numbers stand from word `numbers` on.
+// FN, FNDA, FNF and FNH of the n functions whose row numbers are at word `numbers` on.
 pub fn print_numbered(
     text: &[u8],
     words: &[u64],
@@ -166,7 +166,7 @@ pub struct Printed {
     pub at: usize,
 }
 
-// The section whose own row stands at place lo.
+// Prints the section whose header row is at position lo.
 fn print_section(
     text: &[u8],
     words: &mut [u64],
@@ -183,11 +183,11 @@ fn print_section(
     requires { ⌜ RoomFor write (now out) at (printedFrom (now text) index n (now words) lo) ⌝ }
     ensures { λ r. ⌜ SectionPrinted (printedFrom (now (text .entry)) index n) write (now (words .entry)) (now (words .exit)) (now (out .entry)) (now (out .exit)) index n lo spare at r ⌝ }
 {
-    let own = table::get(words, index, used, lo);
+    let header = table::get(words, index, used, lo);
     let runs = find_kind_ranges(words, index, used, n, lo + 1);
     let next = runs.lines;
     let m = runs.functions - (lo + 1);
-    let a = print_rows::emit_head(text, own, out, at, write);
+    let a = print_rows::emit_head(text, header, out, at, write);
     let b = print_functions(text, words, index, used, lo + 1, m, spare, out, a, write);
     let c = print_groups(text, words, index, runs, out, b, write);
     let end = print_rows::emit_end(text, out, c, write);

@@ -126,7 +126,7 @@ part-printable {text} {ws} {numbers} π i m h = record {
   fits = λ k l. rw (same-place text ws numbers i m k) (π .fits (i + k) (omega arith));
 }
 
--- the n rows whose numbers stand from word `numbers` on are to be printed, and then more
+-- the n rows whose numbers are at word `numbers` on are to be printed, and then more
 pub record Rows (records : Item → List Record) (text ws : List ℕ) (numbers n : ℕ) (write : Bool) (old : Bytes) (at : ℕ) (all more : Bytes) : Type 0 where
   pub rows : Printable text ws numbers n
   pub is : all ≡ printed records (numberedItem text ws numbers) n ++ more

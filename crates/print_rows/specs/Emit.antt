@@ -42,11 +42,11 @@ pub record Emitted (write : Bool) (out out′ : Bytes) (at : ℕ) (bytes : Bytes
 
 -- ---- rows
 
--- the item of the k-th row, whose number stands at word numbers + k
+-- the item of the k-th row, whose number is at word numbers + k
 abbrev pub numberedItem : Bytes → List ℕ → ℕ → ℕ → Item
 numberedItem text ws numbers k = itemOf text (rowAt ws (word ws (numbers + k)))
 
--- from word `numbers` on stand the numbers of n rows
+-- the words from `numbers` on are the numbers of n rows
 pub record Numbered (ws : List ℕ) (numbers n : ℕ) : Type 0 where
   pub words : numbers + n ≤ length ws
   pub inside : (k : ℕ) → k < n → word ws (numbers + k) * row-words + row-words ≤ length ws
@@ -62,7 +62,7 @@ abbrev pub passRecords : Bool → Item → List Record
 passRecords true = startRecord
 passRecords false = dataRecord
 
--- the records of how many were found and hit, by kind of row; a section's own row has none
+-- the records of the numbers found and hit, by kind of row; a section's header row has none
 abbrev pub foundOf : ℕ → ℕ → Record
 foundOf kind n = byKind kind (functionsFound n) (functionsFound n) (branchesFound n) (linesFound n)
 

@@ -1,5 +1,5 @@
-// Rows printed as lines (document 01, "Printing"), in one code for two passes: one that only measures, where the place runs on, held at
-// 2^64 − 1, and one that writes: "Each line is written into the rest of the output".
+// Prints rows as lines (document 01, "Printing"), in one code for two passes: one measures, with an offset that
+// saturates at 2^64 − 1; one writes: "Each line is written into the rest of the output".
 use model::Checksum;
 use model::Part;
 use model::Record;
@@ -49,7 +49,7 @@ pub fn emit_record(text: &[u8], record: Record, out: &mut [u8], at: usize, write
     saturating_add(at, record_display::line_len(text, record))
 }
 
-// The place behind the FN of a function that has a start, told by its row.
+// The offset behind the FN of a function that has a start, computed from its row.
 fn measure_start(row: Row, at: usize) -> usize
     requires { ⌜ row .tag ≡ 3 ⌝ }
     ensures { λ r. ⌜ ((text : List ℕ) → ItemInBounds text row → r ≡ min (at + length (printRecords defaultTag (startRecord (itemOf text row)))) u64-max) ⌝ }
@@ -138,7 +138,7 @@ fn emit_item(text: &[u8], row: Row, out: &mut [u8], at: usize, write: bool) -> u
     at
 }
 
-// The place behind a row's FNDA, BRDA or DA, told by the row with no record made.
+// The offset behind a row's FNDA, BRDA or DA, computed from the row, without a record.
 fn measure_data(row: Row, at: usize) -> usize
     ensures { λ r. ⌜ ((text : List ℕ) → ItemInBounds text row → r ≡ min (at + length (printRecords defaultTag (dataRecord (itemOf text row)))) u64-max) ⌝ }
 {
@@ -205,7 +205,7 @@ fn emit_row(text: &[u8], row: Row, starts: bool, out: &mut [u8], at: usize, writ
     emit_data(text, row, out, at, write)
 }
 
-// One pass over the n rows whose numbers stand from word `numbers` on.
+// One pass over the n rows whose numbers are at word `numbers` on.
 pub fn emit_rows(
     text: &[u8],
     words: &[u64],
@@ -231,7 +231,7 @@ pub fn emit_rows(
     end
 }
 
-// 1 for a row that is hit: its count is above 0. A branch with no taken count, and a section's own row, count 0.
+// 1 for a row that is hit: its count is above 0. A branch with no taken count, and a section's header row, count 0.
 fn hit_of(row: Row) -> u32
     ensures { λ r. ⌜ ((text : List ℕ) → r ≡ hitOne (itemOf text row)) × (r ≤ 1) ⌝ }
 {
@@ -247,7 +247,7 @@ fn hit_of(row: Row) -> u32
     1
 }
 
-// How many of the n rows are hit whose numbers stand from word `numbers` on.
+// How many of the n rows whose numbers are at word `numbers` on are hit.
 fn count_hits(words: &[u64], numbers: usize, n: usize) -> u32
     requires { ⌜ Numbered (now words) numbers n × (n ≤ u32-max) ⌝ }
     ensures { λ r. ⌜ ((text : List ℕ) → r ≡ hits (tabulate (numberedItem text (now (words .entry)) numbers) n)) ⌝ }
@@ -303,9 +303,9 @@ fn batch_of(left: usize) -> usize
     BATCH
 }
 
-// The data of the n rows whose numbers stand from word `numbers` on, how many were found and how many hit: "a loop that carries the hit
-// number". An empty group prints nothing. Rows stand anywhere in the scratch: the hits of some of them are counted first, in a short loop that
-// waits for many rows of memory at once.
+// Prints the data of the n rows whose numbers are at word `numbers` on, then how many were found and hit: "a loop that
+// carries the hit number". An empty group prints nothing. The rows are scattered in memory, so the hits of a batch are
+// counted first, in a short loop that lets many cache misses overlap.
 pub fn emit_group(
     text: &[u8],
     words: &[u64],
@@ -337,7 +337,7 @@ pub fn emit_group(
     emit_record(text, hit_record(kind, hit), out, found, write)
 }
 
-// TN and SF of a section's own row.
+// TN and SF of a section's header row.
 pub fn emit_head(text: &[u8], row: Row, out: &mut [u8], at: usize, write: bool) -> usize
     requires { ⌜ (row .test + row .«test_len» ≤ length (now text)) × (row .path + row .«path_len» ≤ length (now text)) ⌝ }
     requires { ⌜ RoomFor write (now out) at (printRecords defaultTag (testName (part (now text) (row .test) (row .«test_len»)) ∷ sourceFile (part (now text) (row .path) (row .«path_len»)) ∷ [])) ⌝ }

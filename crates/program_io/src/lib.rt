@@ -1,4 +1,5 @@
-// What the programs share: recorded cases cut from standard input, a refusal told in words and numbers, the front of a buffer written.
+// Shared by the programs: recorded cases from standard input, a refusal in words and numbers, the front of a buffer
+// written.
 ghost use mathlib.Core.Path.{_≡_};
 ghost use Prim.Native.Nat.{_+_, _≤_};
 ghost use lib.ListN.{length};

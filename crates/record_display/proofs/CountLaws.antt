@@ -17,13 +17,13 @@ use Rattle.model.specs.Output.{outputAfter}
 use Rattle.model.specs.Calls.{writeAnswer}
 use Rattle.model.specs.Parts.{printLine}
 use Rattle.format.specs.Put.{over, pair}
-use Rattle.record_display.specs.Fields.{FieldsOf, separated, numberTexts, lastLen, lastField, headOf, max-head, shapeFields, shapeLine, Fitting}
+use Rattle.record_display.specs.Fields.{FieldsOf, separated, numberTexts, lastLen, lastField, headOf, max-head, fieldsText, lineText, Fitting}
 use Rattle.record_display.specs.Lines.{counted}
-use Rattle.record_display.specs.declared.shape.Last.the-variants as L
-use Rattle.record_display.specs.declared.shape.Fields.{Fields}
+use Rattle.record_display.specs.declared.fields.Last.the-variants as L
+use Rattle.record_display.specs.declared.fields.Fields.{Fields}
 use Rattle.format.proofs.OverLaws.{second-at, second-room, second-fits, second-len, second-out}
 use Rattle.record_display.proofs.FieldLaws.{head-first, inside-nothing}
-use Rattle.record_display.proofs.ShapeLaws.{line-first, line-len, line-within, line-fits, line-kept, line-out, fits-any}
+use Rattle.record_display.proofs.RecordFieldLaws.{line-first, line-len, line-within, line-fits, line-kept, line-out, fits-any}
 use Rattle.record_display.proofs.LineLaws.{print-room, print-written, print-out}
 
 -- ---- the line
@@ -41,17 +41,17 @@ abbrev head : ℕ → ℕ → Bytes
 head line count = headOf Kd.LineData (numbers line count) 2
 
 abbrev fields : ℕ → ℕ → Bytes
-fields line count = shapeFields [] Kd.LineData (numbers line count) 2 L.Nothing
+fields line count = fieldsText [] Kd.LineData (numbers line count) 2 L.Nothing
 
 abbrev whole : ℕ → ℕ → Bytes
-whole line count = shapeLine [] Kd.LineData (numbers line count) 2 L.Nothing
+whole line count = lineText [] Kd.LineData (numbers line count) 2 L.Nothing
 
 head-both : (line count : ℕ) → head line count ≡ tag ++ both line count
 unfolding headOf separated numberTexts
 head-both line count = ap (λ (l : Bytes). tag ++ (58 ∷ decimal line ++ 44 ∷ l)) (append-nil (decimal count))
 
 fields-head : (line count : ℕ) → fields line count ≡ head line count
-unfolding shapeFields separated lastField
+unfolding fieldsText separated lastField
 fields-head line count = append-nil (head line count)
 
 module _ (line count : ℕ) (old : Bytes) (room : length (whole line count) ≤ length old) where
@@ -101,24 +101,24 @@ module _ (line count : ℕ) (old : Bytes) (room : length (whole line count) ≤ 
 
 -- ---- it is what the printer answers
 
-abbrev countShape : ℕ → ℕ → Fields
-countShape line count = record { kind = Kd.LineData; numbers = numbers line count; count = 2; last = L.Nothing }
+abbrev lineFields : ℕ → ℕ → Fields
+lineFields line count = record { kind = Kd.LineData; numbers = numbers line count; count = 2; last = L.Nothing }
 
-shaped : (line count : ℕ) → FieldsOf (counted line count) (countShape line count)
-shaped line count = record { kind = refl; few = lit≤ tt; long = lit≤ tt; numbers = refl; last = refl }
+line-fields : (line count : ℕ) → FieldsOf (counted line count) (lineFields line count)
+line-fields line count = record { kind = refl; few = lit≤ tt; long = lit≤ tt; numbers = refl; last = refl }
 
-fitting : (line count room : ℕ) → max-head ≤ room → Fitting (countShape line count) room true
+fitting : (line count room : ℕ) → max-head ≤ room → Fitting (lineFields line count) room true
 unfolding lastLen
 fitting line count room h = fits-any 0 (lit≤ tt) refl h
 
 module _ (line count : ℕ) where
   pub counted-room : (room : ℕ) → max-head ≤ room → length (whole line count) ≤ room
-  counted-room room h = print-room [] (counted line count) (countShape line count) (shaped line count) true (inside-nothing L.Nothing 0 refl) refl (fitting line count room h) refl
+  counted-room room h = print-room [] (counted line count) (lineFields line count) (line-fields line count) true (inside-nothing L.Nothing 0 refl) refl (fitting line count room h) refl
 
   pub counted-written : (room n : ℕ) → max-head ≤ room → n ≡ length (whole line count) → Written n ≡ writeAnswer (printLine defaultTag [] (counted line count) room)
   counted-written room n h e =
-      print-written [] (counted line count) (countShape line count) (shaped line count) true (inside-nothing L.Nothing 0 refl) refl (fitting line count room h) refl n e
+      print-written [] (counted line count) (lineFields line count) (line-fields line count) true (inside-nothing L.Nothing 0 refl) refl (fitting line count room h) refl n e
 
   pub counted-out : (old out : Bytes) → max-head ≤ length old → out ≡ over (whole line count) old → out ≡ outputAfter (printLine defaultTag [] (counted line count) (length old)) old
   counted-out old out h e =
-      print-out [] (counted line count) (countShape line count) (shaped line count) true (inside-nothing L.Nothing 0 refl) refl old out (fitting line count (length old) h) refl e
+      print-out [] (counted line count) (lineFields line count) (line-fields line count) true (inside-nothing L.Nothing 0 refl) refl old out (fitting line count (length old) h) refl e

@@ -1,4 +1,4 @@
--- A shape's fields: its tag, its numbers one by one, and its last field. Assumes nothing.
+-- A record's fields: its tag, its numbers one by one, and its last field. Assumes nothing.
 use Prim.Native.Nat.{ℕ, zero, suc, _+_, _-_, _^_, _≤_, _<_}
 use mathlib.Core.Path.{_≡_, refl, sym, ap, _∙_}
 use mathlib.Core.List.{List, [], _∷_, _++_, append-assoc, append-nil}
@@ -21,8 +21,8 @@ use Rattle.model.specs.Output.{written, outputAfter}
 use Rattle.format.specs.Put.{putLen, over}
 use Rattle.scan.proofs.ByteLaws.{drop-end, drop-next}
 use Rattle.record_display.specs.Fields.{TagOf, separated, numberTexts, lastLen, lastField, inside, sepAfter, headOf}
-use Rattle.record_display.specs.declared.shape.Last.{Last}
-use Rattle.record_display.specs.declared.shape.Last.the-variants as L
+use Rattle.record_display.specs.declared.fields.Last.{Last}
+use Rattle.record_display.specs.declared.fields.Last.the-variants as L
 use Rattle.record_display.specs.declared.tag.Tag.{Tag}
 use Rattle.format.proofs.OverLaws.{lent-size, over-more, put-len, put-over, to-end}
 
@@ -84,7 +84,7 @@ module _ (last : Last) (p : Part) (is : last ≡ L.Text p) where
     unfolding separated lastField
     text-out sep old out h = rw (is, append-nil) (rw same-part at h)
 
--- the numbers of a shape, one by one
+-- a record's numbers, one by one
 getD-shown : (numbers : List ℕ) (count i : ℕ) → i < count → count ≤ length numbers → getD (numberTexts numbers count) i [] ≡ decimal (getD numbers i 0)
 unfolding numberTexts
 getD-shown [] count i h l = absurd (omega arith)

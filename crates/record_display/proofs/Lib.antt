@@ -1,4 +1,4 @@
 pub mod FieldLaws
-pub mod ShapeLaws
+pub mod RecordFieldLaws
 pub mod LineLaws
 mod CountLaws

@@ -1,4 +1,4 @@
--- The line of a record's shape is the model's line, and what the printer answers. Assumes nothing.
+-- The line of a record's fields is the model's line, and what the printer answers. Assumes nothing.
 use Prim.Native.Nat.{ℕ, _+_, _-_, _*_, _^_, _≤_, _<_, min}
 use mathlib.Core.Path.{_≡_, refl, sym, ap, _∙_}
 use mathlib.Core.List.{List, [], _∷_, _++_, map, append-assoc, append-nil}
@@ -29,13 +29,13 @@ use Rattle.model.specs.Calls.{writeAnswer}
 use Rattle.model.specs.Parts.{partOf, takenIn, checksumIn, recordIn, printLine}
 use Rattle.format.specs.Put.{over}
 use Rattle.format.proofs.PutLaws.{written-fits}
-use Rattle.record_display.specs.Fields.{FieldsOf, separated, numberTexts, lastLen, lastField, inside, sepAfter, headOf, max-head, shapeFields, shapeLine, Fitting, neededAt, kindOf, numbersOf, lastOf}
+use Rattle.record_display.specs.Fields.{FieldsOf, separated, numberTexts, lastLen, lastField, inside, sepAfter, headOf, max-head, fieldsText, lineText, Fitting, neededAt, kindOf, numbersOf, lastOf}
 use Rattle.record_display.specs.Lines.{lineOf, lineIn}
-use Rattle.record_display.specs.declared.shape.Last.{Last}
-use Rattle.record_display.specs.declared.shape.Last.the-variants as L
-use Rattle.record_display.specs.declared.shape.Fields.{Fields}
+use Rattle.record_display.specs.declared.fields.Last.{Last}
+use Rattle.record_display.specs.declared.fields.Last.the-variants as L
+use Rattle.record_display.specs.declared.fields.Fields.{Fields}
 use Rattle.model.specs.declared.WriteAnswer.the-variants.{Written, Refused}
-use Rattle.record_display.proofs.ShapeLaws.{after-numbers, fields-len, line-len}
+use Rattle.record_display.proofs.RecordFieldLaws.{after-numbers, fields-len, line-len}
 
 inside-most : (t : Bytes) (l : Last) → inside (length t) l ≡ true → length t * 1 < 2 ^ 63 → lastLen l ≤ 9223372036854775808
 unfolding inside lastLen
@@ -127,17 +127,17 @@ module _ (t : Bytes) (a : Record) (s : Fields) (w : FieldsOf a s) where
   form : Kind → List ℕ → Last → Bytes
   form kind ns last = defaultTag kind ++ separated 58 (map decimal ns ++ lastField t last) ++ (10 ∷ [])
 
-  shape-form : shapeLine t (s .kind) (s .numbers) (s .count) (s .last) ≡ form (s .kind) (take (s .count) (s .numbers)) (s .last)
-  unfolding shapeLine shapeFields headOf numberTexts form
-  shape-form =
+  fields-form : lineText t (s .kind) (s .numbers) (s .count) (s .last) ≡ form (s .kind) (take (s .count) (s .numbers)) (s .last)
+  unfolding lineText fieldsText headOf numberTexts form
+  fields-form =
       ap (λ (l : Bytes). l ++ (10 ∷ []))
       (append-assoc (defaultTag (s .kind)) (separated 58 (numberTexts (s .numbers) (s .count))) (separated (sepAfter (s .count)) (lastField t (s .last)))
       ∙ ap (λ (l : Bytes). defaultTag (s .kind) ++ l) (sym (after-numbers (s .numbers) (s .count) (lastField t (s .last)) (w .long))))
 
-  shape-printed : shapeLine t (s .kind) (s .numbers) (s .count) (s .last) ≡ printed t a
+  fields-printed : lineText t (s .kind) (s .numbers) (s .count) (s .last) ≡ printed t a
   unfolding printed form
-  shape-printed =
-      shape-form
+  fields-printed =
+      fields-form
       ∙ ap (λ (k : Kind). form k (take (s .count) (s .numbers)) (s .last)) (w .kind)
       ∙ ap (λ (ns : List ℕ). form (kindOf a) ns (s .last)) (w .numbers)
       ∙ ap (λ (l : Last). form (kindOf a) (numbersOf a) l) (w .last)
@@ -169,7 +169,7 @@ module _ (t : Bytes) (a : Record) (s : Fields) (w : FieldsOf a s) where
         needed =
             is
             ∙ line-len t (s .kind) (s .count) (s .numbers) (s .last) _ (fields-len t (s .kind) (s .count) (s .numbers) (s .last) _ _ print-within refl refl)
-            ∙ ap length shape-printed
+            ∙ ap length fields-printed
 
         pub line-measured : n ≡ length (lineIn t a)
         line-measured = needed ∙ ap length (sym (line-printed t a (tested-of true yes)))
@@ -200,16 +200,16 @@ module _ (t : Bytes) (a : Record) (s : Fields) (w : FieldsOf a s) where
         unfolding written
         fits-in = line-inside t a room (tested-of true yes) ∙ rw (le-leb (length (printed t a)) room room-enough)
 
-        pub print-room : length (shapeLine t (s .kind) (s .numbers) (s .count) (s .last)) ≤ room
-        print-room = rw shape-printed room-enough
+        pub print-room : length (lineText t (s .kind) (s .numbers) (s .count) (s .last)) ≤ room
+        print-room = rw fields-printed room-enough
 
-        pub print-written : (n : ℕ) → n ≡ length (shapeLine t (s .kind) (s .numbers) (s .count) (s .last)) → Written n ≡ writeAnswer (printLine defaultTag t a room)
+        pub print-written : (n : ℕ) → n ≡ length (lineText t (s .kind) (s .numbers) (s .count) (s .last)) → Written n ≡ writeAnswer (printLine defaultTag t a room)
         unfolding writeAnswer
-        print-written n e = rw (fits-in, e, shape-printed)
+        print-written n e = rw (fits-in, e, fields-printed)
 
-      pub print-out : {f : Bool} (old out : Bytes) → Fitting s (length old) f → f ≡ true → out ≡ over (shapeLine t (s .kind) (s .numbers) (s .count) (s .last)) old → out ≡ outputAfter (printLine defaultTag t a (length old)) old
+      pub print-out : {f : Bool} (old out : Bytes) → Fitting s (length old) f → f ≡ true → out ≡ over (lineText t (s .kind) (s .numbers) (s .count) (s .last)) old → out ≡ outputAfter (printLine defaultTag t a (length old)) old
       unfolding outputAfter
-      print-out old out fit good e = rw (fits-in fit good) (rw shape-printed at e)
+      print-out old out fit good e = rw (fits-in fit good) (rw fields-printed at e)
 
 -- ---- what the printer leaves, for callers with room
 

@@ -19,9 +19,9 @@ use Rattle.model.specs.declared.Record.the-variants.{TestName, SourceFile, Func
 use Rattle.model.specs.Bytes.{Bytes, ascii}
 use Rattle.model.specs.Number.{decimal}
 use Rattle.model.specs.Tags.{defaultTag}
-use Rattle.record_display.specs.declared.shape.Last.{Last}
-use Rattle.record_display.specs.declared.shape.Last.the-variants as L
-use Rattle.record_display.specs.declared.shape.Fields.{Fields}
+use Rattle.record_display.specs.declared.fields.Last.{Last}
+use Rattle.record_display.specs.declared.fields.Last.the-variants as L
+use Rattle.record_display.specs.declared.fields.Fields.{Fields}
 use Rattle.record_display.specs.declared.tag.Tag.{Tag}
 
 -- the numbers of a record, then "-" or a text
@@ -88,7 +88,7 @@ pub record TagOf (kind : Kind) (r : Tag) : Type 0 where
   pub few : r .len ≤ 13
   pub is : take (r .len) (r .bytes) ≡ defaultTag kind
 
--- a shape holds a record's kind, numbers and last field
+-- the fields are a record's kind, numbers and last field
 pub record FieldsOf (a : Record) (s : Fields) : Type 0 where
   pub kind : s .kind ≡ kindOf a
   pub few : s .count ≤ 4
@@ -119,7 +119,7 @@ unfoldable pub separated : ℕ → List Bytes → Bytes
 separated sep [] = []
 separated sep (f ∷ fs) = sep ∷ f ++ separated 44 fs
 
--- the numbers of a shape
+-- the numbers as texts
 unfoldable pub numberTexts : List ℕ → ℕ → List Bytes
 numberTexts numbers count = map decimal (take count numbers)
 
@@ -127,7 +127,7 @@ numberTexts numbers count = map decimal (take count numbers)
 unfoldable pub sepAfter : ℕ → ℕ
 sepAfter count = cond (eqb count 0) 58 44
 
--- the tag and the numbers of a shape
+-- the tag and the numbers
 unfoldable pub headOf : Kind → List ℕ → ℕ → Bytes
 headOf kind numbers count = defaultTag kind ++ separated 58 (numberTexts numbers count)
 
@@ -135,14 +135,14 @@ headOf kind numbers count = defaultTag kind ++ separated 58 (numberTexts numbers
 abbrev pub max-head : ℕ
 max-head = 98
 
--- all fields of a shape, and its line
-unfoldable pub shapeFields : Bytes → Kind → List ℕ → ℕ → Last → Bytes
-shapeFields t kind numbers count last = headOf kind numbers count ++ separated (sepAfter count) (lastField t last)
+-- all fields, and the line
+unfoldable pub fieldsText : Bytes → Kind → List ℕ → ℕ → Last → Bytes
+fieldsText t kind numbers count last = headOf kind numbers count ++ separated (sepAfter count) (lastField t last)
 
-unfoldable pub shapeLine : Bytes → Kind → List ℕ → ℕ → Last → Bytes
-shapeLine t kind numbers count last = shapeFields t kind numbers count last ++ (10 ∷ [])
+unfoldable pub lineText : Bytes → Kind → List ℕ → ℕ → Last → Bytes
+lineText t kind numbers count last = fieldsText t kind numbers count last ++ (10 ∷ [])
 
--- r says whether a line of a shape is at most room bytes long
+-- r says whether the line is at most room bytes long
 pub record Fitting (s : Fields) (room : ℕ) (r : Bool) : Type 0 where
   pub is : r ≡ leb (length (headOf (s .kind) (s .numbers) (s .count)) + lastLen (s .last) + 1) room
 

@@ -9,8 +9,8 @@ ghost use Rattle.model.specs.Tags.{defaultTag};
 ghost use Rattle.record_display.specs.Fields.{neededAt};
 ghost use Rattle.record_display.specs.Lines.{lineIn, counted};
 
+mod fields;
 mod put;
-mod shape;
 mod tag;
 
 use model::Checksum;
@@ -35,10 +35,10 @@ fn refusal(fault: Fault, needed: u64) -> Refusal
 pub fn line_len(text: &[u8], record: Record) -> usize
     ensures { λ r. ⌜ r ≡ length (lineIn (now (text .entry)) «record») ⌝ }
 {
-    let shape = shape::fields_of(record);
-    let last = shape.last;
-    if shape::is_inside(last, text.len()) {
-        return put::line_len(shape);
+    let fields = fields::fields_of(record);
+    let last = fields.last;
+    if fields::is_inside(last, text.len()) {
+        return put::line_len(fields);
     }
     0
 }
@@ -48,14 +48,14 @@ pub fn print_line(text: &[u8], record: Record, out: &mut [u8]) -> WriteAnswer
     ensures { λ r. ⌜ r ≡ writeAnswer (printLine defaultTag (now (text .entry)) «record» (length (now (out .entry)))) ⌝ }
     ensures { λ _. ⌜ now (out .exit) ≡ outputAfter (printLine defaultTag (now (text .entry)) «record» (length (now (out .entry)))) (now (out .entry)) ⌝ }
 {
-    let shape = shape::fields_of(record);
-    let last = shape.last;
-    if shape::is_inside(last, text.len()) {
-        if put::fits(shape, out.len()) {
-            let n = put::put_line(shape, text, out);
+    let fields = fields::fields_of(record);
+    let last = fields.last;
+    if fields::is_inside(last, text.len()) {
+        if put::fits(fields, out.len()) {
+            let n = put::put_line(fields, text, out);
             return WriteAnswer::Written(n);
         }
-        let needed = put::line_len(shape);
+        let needed = put::line_len(fields);
         return WriteAnswer::Refused(refusal(Fault::OutputTooShort, needed as u64));
     }
     WriteAnswer::Refused(refusal(Fault::PartOutside, 0))

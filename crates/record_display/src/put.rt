@@ -1,4 +1,4 @@
-// A shape's line measured and written, field by field, each into the rest of the output.
+// A record's line measured and written, field by field, each into the rest of the output.
 ghost use mathlib.Core.Path.{_≡_};
 ghost use Prim.Native.Nat.{_+_, _≤_, _<_};
 ghost use mathlib.Core.List.{[], _∷_};
@@ -7,11 +7,11 @@ ghost use lib.ListN.{length};
 ghost use Rattle.model.specs.declared.Kind.the-variants as Kd;
 ghost use Rattle.model.specs.Number.{decimal};
 ghost use Rattle.format.specs.Put.{over};
-ghost use Rattle.record_display.specs.declared.shape.Last.the-variants as L;
-ghost use Rattle.record_display.specs.Fields.{separated, numberTexts, lastLen, lastField, inside, sepAfter, headOf, max-head, shapeFields, shapeLine, Fitting};
-use crate::shape;
-use crate::shape::Fields;
-use crate::shape::Last;
+ghost use Rattle.record_display.specs.declared.fields.Last.the-variants as L;
+ghost use Rattle.record_display.specs.Fields.{separated, numberTexts, lastLen, lastField, inside, sepAfter, headOf, max-head, fieldsText, lineText, Fitting};
+use crate::fields;
+use crate::fields::Fields;
+use crate::fields::Last;
 use crate::tag;
 use model::Kind;
 
@@ -89,30 +89,30 @@ fn head_len(kind: Kind, numbers: [u64; 4], count: usize) -> usize
     tag::tag_len(kind) + numbers_len(numbers, count)
 }
 
-// The length of a shape's line.
-pub fn line_len(shape: Fields) -> usize
-    requires { ⌜ (shape .count ≤ 4) × (lastLen (shape .last) ≤ 9223372036854775808) ⌝ }
-    ensures { λ r. ⌜ (r ≡ length (headOf (shape .kind) (shape .numbers) (shape .count)) + lastLen (shape .last) + 1) × (r ≤ max-head + lastLen (shape .last)) ⌝ }
+// The length of a record's line.
+pub fn line_len(fields: Fields) -> usize
+    requires { ⌜ (fields .count ≤ 4) × (lastLen (fields .last) ≤ 9223372036854775808) ⌝ }
+    ensures { λ r. ⌜ (r ≡ length (headOf (fields .kind) (fields .numbers) (fields .count)) + lastLen (fields .last) + 1) × (r ≤ max-head + lastLen (fields .last)) ⌝ }
 {
-    let kind = shape.kind;
-    let numbers = shape.numbers;
-    let last = shape.last;
-    head_len(kind, numbers, shape.count) + shape::last_len(last) + 1
+    let kind = fields.kind;
+    let numbers = fields.numbers;
+    let last = fields.last;
+    head_len(kind, numbers, fields.count) + fields::last_len(last) + 1
 }
 
 // The tag, four numbers and byte 10 are at most so many bytes: `max-head` in specs/Fields.antt.
 pub const MAX_HEAD: usize = 98;
 
-// Whether a shape's line is at most room bytes long. Where any tag and numbers fit, they are not measured.
-pub fn fits(shape: Fields, room: usize) -> bool
-    requires { ⌜ (shape .count ≤ 4) × (lastLen (shape .last) ≤ 9223372036854775808) ⌝ }
-    ensures { λ r. ⌜ Fitting shape room r ⌝ }
+// Whether a record's line is at most room bytes long. Where any tag and numbers fit, they are not measured.
+pub fn fits(fields: Fields, room: usize) -> bool
+    requires { ⌜ (fields .count ≤ 4) × (lastLen (fields .last) ≤ 9223372036854775808) ⌝ }
+    ensures { λ r. ⌜ Fitting fields room r ⌝ }
 {
-    let last = shape.last;
-    if MAX_HEAD + shape::last_len(last) <= room {
+    let last = fields.last;
+    if MAX_HEAD + fields::last_len(last) <= room {
         return true;
     }
-    line_len(shape) <= room
+    line_len(fields) <= room
 }
 
 // Writes the tag and the numbers at the front of out.
@@ -125,7 +125,7 @@ fn put_head(kind: Kind, numbers: [u64; 4], count: usize, out: &mut [u8]) -> usiz
     at + n
 }
 
-// Writes all fields of a shape at the front of out.
+// Writes all fields of a record at the front of out.
 fn put_fields(
     kind: Kind,
     numbers: [u64; 4],
@@ -135,9 +135,9 @@ fn put_fields(
     out: &mut [u8],
 ) -> usize
     requires { ⌜ (count ≤ 4) × (inside (length (now text)) last ≡ true) ⌝ }
-    requires { ⌜ length (shapeFields (now text) kind numbers count last) ≤ length (now out) ⌝ }
-    ensures { λ r. ⌜ r ≡ length (shapeFields (now (text .entry)) kind numbers count last) ⌝ }
-    ensures { λ _. ⌜ now (out .exit) ≡ over (shapeFields (now (text .entry)) kind numbers count last) (now (out .entry)) ⌝ }
+    requires { ⌜ length (fieldsText (now text) kind numbers count last) ≤ length (now out) ⌝ }
+    ensures { λ r. ⌜ r ≡ length (fieldsText (now (text .entry)) kind numbers count last) ⌝ }
+    ensures { λ _. ⌜ now (out .exit) ≡ over (fieldsText (now (text .entry)) kind numbers count last) (now (out .entry)) ⌝ }
 {
     let at = put_head(kind, numbers, count, out);
     let sep = sep_after(count);
@@ -145,26 +145,26 @@ fn put_fields(
     at + n
 }
 
-// Writes the line of a shape at the front of out.
-pub fn put_line(shape: Fields, text: &[u8], out: &mut [u8]) -> usize
-    requires { ⌜ (shape .count ≤ 4) × (inside (length (now text)) (shape .last) ≡ true) ⌝ }
-    requires { ⌜ length (shapeLine (now text) (shape .kind) (shape .numbers) (shape .count) (shape .last)) ≤ length (now out) ⌝ }
-    ensures { λ r. ⌜ r ≡ length (shapeLine (now (text .entry)) (shape .kind) (shape .numbers) (shape .count) (shape .last)) ⌝ }
-    ensures { λ _. ⌜ now (out .exit) ≡ over (shapeLine (now (text .entry)) (shape .kind) (shape .numbers) (shape .count) (shape .last)) (now (out .entry)) ⌝ }
+// Writes the line of a record at the front of out.
+pub fn put_line(fields: Fields, text: &[u8], out: &mut [u8]) -> usize
+    requires { ⌜ (fields .count ≤ 4) × (inside (length (now text)) (fields .last) ≡ true) ⌝ }
+    requires { ⌜ length (lineText (now text) (fields .kind) (fields .numbers) (fields .count) (fields .last)) ≤ length (now out) ⌝ }
+    ensures { λ r. ⌜ r ≡ length (lineText (now (text .entry)) (fields .kind) (fields .numbers) (fields .count) (fields .last)) ⌝ }
+    ensures { λ _. ⌜ now (out .exit) ≡ over (lineText (now (text .entry)) (fields .kind) (fields .numbers) (fields .count) (fields .last)) (now (out .entry)) ⌝ }
 {
-    let kind = shape.kind;
-    let numbers = shape.numbers;
-    let last = shape.last;
-    let end = put_fields(kind, numbers, shape.count, last, text, out);
+    let kind = fields.kind;
+    let numbers = fields.numbers;
+    let last = fields.last;
+    let end = put_fields(kind, numbers, fields.count, last, text, out);
     out[end] = 10;
     end + 1
 }
 
 // Writes the line of a DA with no checksum at the front of out.
 pub fn put_line_data(line: u64, count: u64, out: &mut [u8]) -> usize
-    requires { ⌜ length (shapeLine [] Kd.LineData (line ∷ count ∷ []) 2 L.Nothing) ≤ length (now out) ⌝ }
-    ensures { λ r. ⌜ r ≡ length (shapeLine [] Kd.LineData (line ∷ count ∷ []) 2 L.Nothing) ⌝ }
-    ensures { λ _. ⌜ now (out .exit) ≡ over (shapeLine [] Kd.LineData (line ∷ count ∷ []) 2 L.Nothing) (now (out .entry)) ⌝ }
+    requires { ⌜ length (lineText [] Kd.LineData (line ∷ count ∷ []) 2 L.Nothing) ≤ length (now out) ⌝ }
+    ensures { λ r. ⌜ r ≡ length (lineText [] Kd.LineData (line ∷ count ∷ []) 2 L.Nothing) ⌝ }
+    ensures { λ _. ⌜ now (out .exit) ≡ over (lineText [] Kd.LineData (line ∷ count ∷ []) 2 L.Nothing) (now (out .entry)) ⌝ }
 {
     let at = tag::put_tag(Kind::LineData, out);
     let n = format::put_pair(b':', line, b',', count, &mut out[at..]);

@@ -1,4 +1,4 @@
--- A whole line: its end trimmed, its tag told, its body read. Assumes nothing.
+-- A whole line: its end trimmed, its tag recognised, its body read. Assumes nothing.
 use Prim.Native.Nat.{ℕ, _+_, _≤_, _<_}
 use mathlib.Core.Path.{_≡_, refl, sym, ap, _∙_}
 use mathlib.Core.List.{[], _∷_, _++_, append-assoc, append-nil}

@@ -1,4 +1,4 @@
--- What the field readers promise, told by the model's definitions. Assumes nothing.
+-- What the field readers promise, in the model's definitions. Assumes nothing.
 use Prim.Native.Nat.{ℕ, _+_, _≤_}
 use mathlib.Core.Path.{_≡_}
 use lib.ListN.{length}
@@ -24,7 +24,7 @@ numberRefusal field (N.Fault fault) = refusedAt fault field
 numberRefusal field (N.Last value) = refusedAt FieldNotFound (field + 1)
 numberRefusal field (N.More value next) = refusedAt TooManyFields 0
 
--- a number read in the part of a line from start on: what follows its comma is told as a position of the line
+-- a number read in the part of a line from start on: what follows its comma is a position of the line
 abbrev pub inLine : ℕ → Number → Number
 inLine start (N.Last value) = N.Last value
 inLine start (N.More value next) = N.More value (start + next)

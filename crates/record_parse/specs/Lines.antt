@@ -1,4 +1,4 @@
--- What the readers of the kinds of line promise, told by the model's definitions. Assumes nothing.
+-- What the readers of the kinds of line promise, in the model's definitions. Assumes nothing.
 use Prim.Native.Nat.{ℕ, _+_}
 use mathlib.Core.Path.{_≡_}
 use mathlib.Core.Bool.{true, false}

@@ -50,8 +50,9 @@ fn long_field(start: usize, rest: &[u8], max: u64) -> Number
     Number::More { value, next }
 }
 
-// A number up to max; short tells it if it is short. The part rest starts at a position of the line, and so does what follows the
-// number's comma. The caller asks for short, since the compiler inlines two functions of this size and not one of twice the size.
+// Reads a number up to max; `short` has it already if it is short. The part `rest` starts at a position of the line,
+// and so does what follows the number's comma. The caller computes `short`, since the compiler inlines two functions of
+// this size and not one of twice the size.
 pub(crate) fn number_field(start: usize, rest: &[u8], short: Short, max: u64) -> Number
     requires { ⌜ start + length (now rest) < 2 ^ 64 ⌝ }
     requires { ⌜ ShortRead (now rest) short ⌝ }

@@ -64,7 +64,7 @@ fn body_at(n: usize, colon: usize) -> usize
     colon
 }
 
-// Where the tag ends. Most lines are DA and BRDA: they are told without a search for the colon.
+// The end of the tag. Most lines are DA and BRDA: these are recognised without a search for the colon.
 fn tag_end(s: &[u8]) -> usize
     ensures { λ r. ⌜ (r ≡ length (before 58 (now (s .entry)))) × (r ≤ length (now (s .entry))) ⌝ }
 {

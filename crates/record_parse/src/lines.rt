@@ -69,7 +69,7 @@ pub(crate) fn read_function_data(line: &[u8], at: usize) -> LineAnswer
     LineAnswer::Read(Record::FunctionData { count, name })
 }
 
-// The end of a BRDA body: a taken count, which short tells if it is short, or "-" for none.
+// The end of a BRDA body: a taken count, which `short` has already if it is short, or "-" for none.
 fn read_taken(line: u32, block: u32, branch: u32, short: Short, rest: &[u8]) -> LineAnswer
     requires { ⌜ ShortRead (now rest) short ⌝ }
     ensures { λ r. ⌜ TakenRead line block branch (now (rest .entry)) r ⌝ }

@@ -1,4 +1,4 @@
--- Answers by the case that was met. Assumes nothing.
+-- Answers by case. Assumes nothing.
 use Prim.Native.Nat.{ℕ}
 use mathlib.Core.Path.{_≡_, sym, _∙_}
 use mathlib.Core.Bool.{true, false}
@@ -16,7 +16,7 @@ use Rattle.section.specs.declared.Step.the-variants as S
 use Rattle.section.specs.Reading.{AllInMain}
 use Rattle.report_parser.specs.declared.LineStep.the-variants as L
 use Rattle.report_parser.specs.declared.TextAnswer.the-variants as T
-use Rattle.report_parser.specs.Reader.{atLine, faultAt, refusedLine, refusedStep, Ended}
+use Rattle.report_parser.specs.Reader.{atLine, faultAt, refusedLine, refusedStep, TextFinished}
 
 module _ (number : ℕ) (r : Refusal) where
   pub line-is-refused : (got : LineAnswer) (q : Refusal) → got ≡ A.Refused q → r ≡ atLine number q → L.Refused r ≡ refusedLine number got
@@ -34,9 +34,9 @@ module _ (number : ℕ) (r : Refusal) where
 -- ---- the text's end
 
 pub ended-inside : {text ws : List ℕ} {index number : ℕ} {st : State} {r : Refusal} → st .inside ≡ true → r ≡ faultAt number UnexpectedEof
-    → Ended text ws ws index st number (T.Refused r)
-ended-inside i h = record { kept = 0; is = rw (i, h); settled = λ o. let z : true ≡ false = sym i ∙ o in impossible cc }
+    → TextFinished text ws ws index st number (T.Refused r)
+ended-inside i h = record { kept = 0; is = rw (i, h); in-main = λ o. let z : true ≡ false = sym i ∙ o in impossible cc }
 
 pub ended-outside : {text ws ws′ : List ℕ} {index number kept : ℕ} {st : State} → st .inside ≡ false → AllInMain text ws ws′ index st kept
-    → Ended text ws ws′ index st number (T.Read kept (st .used))
-ended-outside {kept = kept} i σ = record { kept = kept; is = rw i; settled = λ o. σ }
+    → TextFinished text ws ws′ index st number (T.Read kept (st .used))
+ended-outside {kept = kept} i σ = record { kept = kept; is = rw i; in-main = λ o. σ }

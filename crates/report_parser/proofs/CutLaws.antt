@@ -1,4 +1,4 @@
--- A text's lines, one after the other: the next line is what stands before the next byte 10. Assumes nothing.
+-- A text's lines: the next line is what comes before the next byte 10. Assumes nothing.
 use Prim.Native.Nat.{ℕ, suc, _+_, _≤_, _<_}
 use native.Mathlib.Omega.{arith}
 use native.Mathlib.Numerals.{add-one}
@@ -17,7 +17,7 @@ use Rattle.model.proofs.TextLaws.{lines-seam}
 use Rattle.compare.proofs.SplitLaws.{split-free}
 use Rattle.scan.proofs.ByteLaws.{drop-end}
 
--- ---- what stands before a separator
+-- ---- what comes before a separator
 
 before-free : (sep : ℕ) (xs : Bytes) → Free sep (before sep xs)
 unfolding before
@@ -28,7 +28,7 @@ before-free sep (b ∷ bs) = go (eqb b sep) refl (before-free sep bs)
     go true e f = tt
     go false e f = (e, f)
 
--- a list is what stands before the first separator, or that, the separator and the rest
+-- a list is what comes before the first separator, or that, the separator and the rest
 abbrev Parted : ℕ → Bytes → Bytes → Type 0
 Parted sep xs p = (p ≡ xs) ⊎ ((ys : Bytes) × (xs ≡ p ++ sep ∷ ys))
 

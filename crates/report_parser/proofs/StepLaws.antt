@@ -62,7 +62,7 @@ pub data FoundOrHit (k : ℕ) : Type 0 where
   foundBranches : 7 ≤ k → k < 9 → FoundOrHit k
   foundLines : 10 ≤ k → k < 12 → FoundOrHit k
 
--- k is the number of a line that is entered
+-- k is the number of a line that adds an item
 pub data Added (k : ℕ) : Type 0 where
   functionEntered : 2 ≤ k → k < 4 → Added k
   branchEntered : k ≡ 6 → Added k

@@ -1,4 +1,4 @@
--- The whole text: the loop's start, its turns and its end. Assumes nothing.
+-- The whole text: the loop's start, its iterations and its end. Assumes nothing.
 use Prim.Native.Nat.{ℕ, _+_, _-_, _*_, _^_, _≤_, _<_}
 use native.Mathlib.Omega.{arith}
 use mathlib.Core.Path.{_≡_, refl, sym, ap, _∙_}
@@ -17,7 +17,7 @@ use Rattle.report_parser.specs.declared.LineStep.{LineStep}
 use Rattle.report_parser.specs.declared.LineStep.the-variants as L
 use Rattle.report_parser.specs.declared.TextAnswer.{TextAnswer}
 use Rattle.report_parser.specs.declared.TextAnswer.the-variants as T
-use Rattle.report_parser.specs.Reader.{leftAt, Progress, AfterLine, LineDone, Ended, TextRead}
+use Rattle.report_parser.specs.Reader.{leftAt, Progress, AfterLine, LineDone, TextFinished, TextRead}
 use Rattle.report_parser.proofs.LoopLaws.{start-progress, done-inside, done-outside}
 
 -- before the first line
@@ -26,7 +26,7 @@ pub text-start : (text ws : List ℕ) (index limit from : ℕ) (st : State) → 
     → ((text words : List ℕ) (index : ℕ) → stateOf text words index st ≡ outside [] []) → Progress text ws index limit from from 1 st
 text-start text ws index limit from st room valid state = start-progress text ws index limit from st (valid text ws index limit room) (state text ws index)
 
--- a turn
+-- one iteration
 module _ (text ws ws′ : List ℕ) (index limit from at number : ℕ) (st : State) (p : Progress text ws index limit from at number st) (got : LineStep)
     (done : LineDone text ws ws′ index limit at number st got) where
   pub text-refused : (r : Refusal) → got ≡ L.Refused r → TextRead text ws′ index limit from (T.Refused r)
@@ -55,13 +55,13 @@ number-fits text ws index limit from at number st p h b = record { fits = omega 
 
 -- past the last line
 pub text-done : (text ws ws′ : List ℕ) (index limit from at number : ℕ) (st : State) (r : TextAnswer) → Progress text ws index limit from at number st
-    → length text ≤ at → Ended text ws ws′ index st number r → TextRead text ws′ index limit from r
+    → length text ≤ at → TextFinished text ws ws′ index st number r → TextRead text ws′ index limit from r
 text-done text ws ws′ index limit from at number st r p end ε = go (st .inside) refl
   where
     go : (b : Bool) → st .inside ≡ b → TextRead text ws′ index limit from r
     go true i = rw (ε .is, i) (record { is = sym (done-inside text ws index limit at number st end i) ∙ p .left; held = tt })
     go false i =
-        let σ = ε .settled i in
+        let σ = ε .in-main i in
         rw (ε .is, i) (record {
           is = ap accepted (σ .entries) ∙ sym (done-outside text ws index limit at number st end i) ∙ p .left;
           held = (σ .sections, p .valid .space .most, main-few (p .valid) σ);

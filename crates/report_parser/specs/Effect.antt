@@ -73,7 +73,8 @@ checksumOf (Lent.LinesFound found) = Ck.Absent
 checksumOf (Lent.LinesHit hit) = Ck.Absent
 checksumOf Lent.EndOfRecord = Ck.Absent
 
--- what FN, FNDA, BRDA and DA enter, their texts being parts of these bytes; the others enter nothing, and their item is never asked for
+-- the item that FN, FNDA, BRDA and DA add, their texts being parts of these bytes; the others add none, and their item
+-- is never used
 abbrev pub itemIn : Bytes → LentRecord → Item
 itemIn bytes (Lent.TestName p) = lineItem 0 0 none
 itemIn bytes (Lent.SourceFile p) = lineItem 0 0 none
@@ -113,7 +114,7 @@ movedChecksum at Ck.Absent = Ck.Absent
 
 -- ---- what a record does
 
--- the row that the record of a line enters
+-- the row that the record of a line adds
 pub record RowOf (at len : ℕ) (lent : LentRecord) (r : Row) : Type 0 where
   pub is : (text : Bytes) → itemOf text r ≡ itemIn (drop at text) lent
   pub inner : (text : Bytes) → at + len ≤ length text → ItemRow text r

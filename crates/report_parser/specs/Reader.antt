@@ -41,7 +41,7 @@ atLine line r = record { fault = r .fault; text = r .text; line = line; field = 
 abbrev pub faultAt : ℕ → Fault → Refusal
 faultAt line fault = record { fault = fault; text = 0; line = line; field = 0; needed = 0 }
 
--- what is refused, at its line; a value that is none is told as an unknown record
+-- the refusal at its line; an answer that is no refusal becomes an unknown record
 abbrev pub refusedLine : ℕ → LineAnswer → LineStep
 refusedLine number (A.Refused r) = L.Refused (atLine number r)
 refusedLine number (A.Read made) = L.Refused (faultAt number UnknownRecord)
@@ -54,11 +54,11 @@ refusedStep number (S.Next st) = L.Refused (faultAt number UnknownRecord)
 abbrev pub endedText : State → ℕ → ℕ → TextAnswer
 endedText st kept number = cond (st .inside) (T.Refused (faultAt number UnexpectedEof)) (T.Read kept (st .used))
 
--- where none is, all entries that are kept are settled
-pub record Ended (text ws ws′ : List ℕ) (index : ℕ) (st : State) (number : ℕ) (r : TextAnswer) : Type 0 where
+-- where none is open, all kept entries are in main
+pub record TextFinished (text ws ws′ : List ℕ) (index : ℕ) (st : State) (number : ℕ) (r : TextAnswer) : Type 0 where
   pub kept : ℕ
   pub is : r ≡ endedText st kept number
-  pub settled : st .inside ≡ false → AllInMain text ws ws′ index st kept
+  pub in-main : st .inside ≡ false → AllInMain text ws ws′ index st kept
 
 -- after a line: the next one starts at `next`, and what is left gives the same answer; or that is the refusal
 abbrev pub AfterLine : Bytes → List ℕ → ℕ → ℕ → ℕ → ℕ → Answer Report → LineStep → Type 0

@@ -1,5 +1,6 @@
-// What one record does to the reading state (document 01, "Sections"): "TN lines, then lines of other tags, then end_of_record". TN names
-// the next section, SF gives the path, FN, FNDA, BRDA and DA are entered, and found and hit lines only open the section.
+// The effect of one record on the reading state (document 01, "Sections"): "TN lines, then lines of other tags, then
+// end_of_record". TN names the next section, SF gives the path, FN, FNDA, BRDA and DA add an item, and found and hit
+// lines only open the section.
 use model::Checksum;
 use model::Part;
 use model::Record;
@@ -88,7 +89,7 @@ fn move_checksum(checksum: Checksum, at: usize, len: usize) -> Checksum
     }
 }
 
-// The row that an FN, FNDA, BRDA or DA line enters; no other record is asked.
+// The row that an FN, FNDA, BRDA or DA line adds; it is called for no other record.
 fn item_row(record: Record, at: usize, len: usize) -> Row
     requires { ⌜ (at + len ≤ u64-max) × TextsWithin len «record» ⌝ }
     ensures { λ r. ⌜ RowOf at len «record» r ⌝ }

@@ -11,7 +11,7 @@ ghost use mathlib.Core.Path.{_≡_};
 ghost use Prim.Native.Nat.{_≤_, _<_};
 ghost use lib.ListN.{length};
 ghost use Rattle.section.specs.Reading.{SectionRoom, HoldsState};
-ghost use Rattle.report_parser.specs.Reader.{atLine, faultAt, refusedLine, refusedStep, LineDone, Ended, TextRead};
+ghost use Rattle.report_parser.specs.Reader.{atLine, faultAt, refusedLine, refusedStep, LineDone, TextFinished, TextRead};
 
 // The state after a line and where the next line starts, or why the text is refused.
 enum LineStep {
@@ -97,8 +97,8 @@ fn read_line_at(
     LineStep::Next { state: after, next }
 }
 
-// The text's end: a section must not be open, and the late ones are settled.
-fn ended(
+// The text's end: no section may be open, and the kept sections are merged and compacted.
+fn finish_text(
     text: &[u8],
     words: &mut [u64],
     index: usize,
@@ -107,7 +107,7 @@ fn ended(
     number: u64,
 ) -> TextAnswer
     requires { ⌜ HoldsState (now text) (now words) index limit state ⌝ }
-    ensures { λ r. ⌜ Ended (now (text .entry)) (now (words .entry)) (now (words .exit)) index state number r ⌝ }
+    ensures { λ r. ⌜ TextFinished (now (text .entry)) (now (words .entry)) (now (words .exit)) index state number r ⌝ }
 {
     let inside = state.inside;
     if inside {
@@ -148,5 +148,5 @@ pub fn read_lines(
             }
         }
     }
-    ended(text, words, index, limit, state, number)
+    finish_text(text, words, index, limit, state, number)
 }

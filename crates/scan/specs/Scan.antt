@@ -1,4 +1,4 @@
--- What the reading functions of this crate promise, told by the model's definitions. Assumes nothing.
+-- What the reading functions of this crate promise, in the model's definitions. Assumes nothing.
 use Prim.Native.Nat.{ℕ, _+_, _*_, _≤_}
 use mathlib.Core.Path.{_≡_}
 use mathlib.Core.Bool.{Bool, _||_}

@@ -229,7 +229,7 @@ module _ (n y : ℕ) where
       let rest : y * 2 ^ (j * 8) * 256 / 256 ≡ y * 2 ^ (j * 8) = omega arith in
       rw (suc-add j n, shift-more y j, valueFrom, low, rest) (value-up j)
 
--- what stands above the digits is left
+-- what is above the digits is removed
 low-byte : (n x : ℕ) → x % 2 ^ (suc n * 8) % 256 ≡ x % 256
 low-byte n x = ap (λ (k : ℕ). x % 2 ^ k % 256) (suc-mul n 8) ∙ mod-mod-pow x (n * 8) 8
 

@@ -22,7 +22,7 @@ unfoldable pub valueFrom : ℕ → ℕ → ℕ → ℕ
 valueFrom value zero x = value
 valueFrom value (suc n) x = valueFrom (value * 10 + x % 256) n (x / 256)
 
--- what is told of a number that is read up to max
+-- the meaning of an answer about a number up to max
 abbrev pub shortIs : ℕ → Bytes → Short → Type 0
 shortIs max s (Last value) = NumberRead max s (N.Last value)
 shortIs max s (More value next) = NumberRead max s (N.More value next)

@@ -1,5 +1,5 @@
-// A number of at most eight digits read at once: its bytes are one word, so that no branch depends on how many digits there are. What is
-// not told here, crate text reads digit by digit.
+// SWAR parse: reads a number of at most eight digits as one word, so that no branch depends on how many digits there
+// are. Crate scan reads all other numbers digit by digit.
 ghost use mathlib.Core.Path.{_≡_};
 ghost use Prim.Native.Nat.{_+_, _≤_, _<_, min};
 ghost use lib.ListN.{length, take, drop};

@@ -1,4 +1,4 @@
--- A line that enters an item. Assumes nothing.
+-- A line that adds an item. Assumes nothing.
 use mathlib.Core.Path.{_≡_, refl, sym, ap, _∙_}
 use mathlib.Core.Logic.{_⊎_, inl, inr}
 use mathlib.Core.Bool.{Bool, true, false, cond}
@@ -100,7 +100,7 @@ module _ {text ws : List ℕ} {index limit : ℕ} {st : State} (ζ : HoldsState 
   size : length (S .kept) + st .tombstones ≡ st .kept
   size = kept-size ζ
 
-  -- what is entered is counted, once its number is known as far as it must be
+  -- after the row is added, the entries are counted as far as needed
   module _ {ws₁ ws′ : List ℕ} {s t : OpenSizes} (ε : RowAdded text ws ws₁ index (st .used) (index + capacity limit) (st .kept + 1) (st .sizes) r adds (Items s))
       (φ : FlushedIfOver text ws₁ ws′ index (st .used) (index + capacity limit) (st .kept + 1) (limit + st .tombstones) s t) where
     -- the items that the model has
@@ -197,21 +197,21 @@ added-none {text} {ws} {index} {limit} {st} ζ r adds h =
 -- ---- what `on_item` owes, once there are rows for the section itself and for one item more
 
 -- the row for the section itself is there
-pub header-free : {ws ws′ : List ℕ} {index limit own : ℕ} {st : State} → StateRoom ws index limit st → RowReserved ws ws′ index (st .used) limit (st .kept) own
-    → st .kept < limit + st .tombstones → st .kept < own
-header-free {limit = limit} {own = own} {st = st} ς ρ h = go (ρ .free)
+pub header-free : {ws ws′ : List ℕ} {index limit header : ℕ} {st : State} → StateRoom ws index limit st → RowReserved ws ws′ index (st .used) limit (st .kept) header
+    → st .kept < limit + st .tombstones → st .kept < header
+header-free {limit = limit} {header = header} {st = st} ς ρ h = go (ρ .free)
   where
-    go : (st .kept < own) ⊎ (own ≡ capacity limit) → st .kept < own
+    go : (st .kept < header) ⊎ (header ≡ capacity limit) → st .kept < header
     go (inl q) = q
     go (inr q) = omega (arith, ς .tombstones)
 
-module _ {text ws ws₁ : List ℕ} {index limit own : ℕ} {st : State} (ζ : HoldsState text ws index limit st)
-    (ρ : RowReserved ws ws₁ index (st .used) limit (st .kept) own)
-    (len : length ws₁ ≡ length ws) (h : st .kept < own) where
-  pub header-room : endOf (st .kept + 1) (st .sizes) ≤ own
+module _ {text ws ws₁ : List ℕ} {index limit header : ℕ} {st : State} (ζ : HoldsState text ws index limit st)
+    (ρ : RowReserved ws ws₁ index (st .used) limit (st .kept) header)
+    (len : length ws₁ ≡ length ws) (h : st .kept < header) where
+  pub header-room : endOf (st .kept + 1) (st .sizes) ≤ header
   header-room = more-valid ζ ρ len .open-items h .room
 
-  module _ {ws₂ : List ℕ} {used : ℕ} (ρ′ : RowReserved ws₁ ws₂ index own limit (endOf (st .kept + 1) (st .sizes)) used)
+  module _ {ws₂ : List ℕ} {used : ℕ} (ρ′ : RowReserved ws₁ ws₂ index header limit (endOf (st .kept + 1) (st .sizes)) used)
       (len′ : length ws₂ ≡ length ws₁) where
     there : HoldsState text ws₂ index limit (withUsed st used)
     there = more-valid (more-valid ζ ρ len) ρ′ len′

@@ -43,14 +43,14 @@ use Rattle.section.proofs.ItemLaws.{count-open, header-free}
 abbrev none : Part
 none = record { start = 0; len = 0 }
 
-next-outside : {text ws : List ℕ} {index limit : ℕ} (kept late dead used : ℕ) (test : Part) (report : Report)
-    → keptAt text ws index (kept - late) late ≡ report
-    → SectionRoom ws index limit → used ≤ capacity limit → dead ≤ slack limit → late ≤ kept → length report ≤ limit
-    → InParts text ws index used (kept - late) late dead → PartInside text test
-    → StepOf text ws index limit (counted limit (accepted (outside report (partIn text test)))) (Next (withClosed kept late dead used test))
+next-outside : {text ws : List ℕ} {index limit : ℕ} (kept delta tombstones used : ℕ) (test : Part) (report : Report)
+    → keptAt text ws index (kept - delta) delta ≡ report
+    → SectionRoom ws index limit → used ≤ capacity limit → tombstones ≤ slack limit → delta ≤ kept → length report ≤ limit
+    → InParts text ws index used (kept - delta) delta tombstones → PartInside text test
+    → StepOf text ws index limit (counted limit (accepted (outside report (partIn text test)))) (Next (withClosed kept delta tombstones used test))
 unfolding outside entries insertAll mergeItems tabulate
-next-outside {text} {ws} {index} {limit} kept late dead used test report e ρ m d l f σ i =
-    let same : length report + dead ≡ kept - late + late = ap (λ (x : Report). length x + dead) (sym e) ∙ kept-length σ in
+next-outside {text} {ws} {index} {limit} kept delta tombstones used test report e ρ m d l f σ i =
+    let same : length report + tombstones ≡ kept - delta + delta = ap (λ (x : Report). length x + tombstones) (sym e) ∙ kept-length σ in
     record {
       is =
           ap (λ (x : Report). accepted (outside x (partIn text test))) e
@@ -108,8 +108,8 @@ module _ {text ws : List ℕ} {index limit : ℕ} {st : State} (path : Part) (ζ
     valid = tt;
   }
 
-  pub open-next : {ws′ : List ℕ} {own : ℕ} → RowReserved ws ws′ index (st .used) limit (st .kept) own → st .kept < limit + st .tombstones → length ws′ ≡ length ws
-      → PartInside text path → StepOf text ws′ index limit answer (Next (withOpen st own (st .sizes) path))
+  pub open-next : {ws′ : List ℕ} {header : ℕ} → RowReserved ws ws′ index (st .used) limit (st .kept) header → st .kept < limit + st .tombstones → length ws′ ≡ length ws
+      → PartInside text path → StepOf text ws′ index limit answer (Next (withOpen st header (st .sizes) path))
   unfolding open-section
   open-next ρ h len i =
       record {
@@ -126,7 +126,7 @@ module _ {text ws : List ℕ} {index limit : ℕ} {st : State} (path : Part) (ζ
 pub items-inside : {text ws : List ℕ} {index limit : ℕ} {st : State} → HoldsState text ws index limit st → rowsOf (st .sizes) ≢ 0 → st .kept < st .used
 items-inside ζ h = by-inside ζ (λ o. o) (λ z e. absurd (h z))
 
--- and all its rows but the dead are within the limit
+-- and all its rows but the tombstones are within the limit
 items-fit : {text ws : List ℕ} {index limit : ℕ} {st : State} → HoldsState text ws index limit st → rowsOf (st .sizes) ≢ 0
     → st .kept + 1 + length (stateOf text ws index st .items) ≤ limit + st .tombstones
 items-fit {text} {ws} {index} {limit} {st} ζ h = go (st .inside) (ζ .opened) (ζ .fits)
@@ -167,12 +167,12 @@ kept-most test path (i ∷ items) kept =
     let same : Report = filter (λ e. isEq (compareSections key (sectionKey e))) kept in
     let low : Report = filter (λ e. isGreater (compareSections key (sectionKey e))) kept in
     let high : Report = filter (λ e. isLess (compareSections key (sectionKey e))) kept in
-    let own : List Item = sectionItem (spellingOf path same) ∷ i ∷ items in
+    let header : List Item = sectionItem (spellingOf path same) ∷ i ∷ items in
     omega (
       arith,
-      length-append low (map (inSection key) own ++ high),
-      length-append (map (inSection key) own) high,
-      length-map own (inSection key),
+      length-append low (map (inSection key) header ++ high),
+      length-append (map (inSection key) header) high,
+      length-map header (inSection key),
       others-most key kept,
     )
 
@@ -186,7 +186,7 @@ module _ {text ws : List ℕ} {index limit : ℕ} {st : State} (ζ : HoldsState 
       (next-outside (st .kept) (st .delta) (st .tombstones) (st .used) none _ refl (ζ .space .room) (ζ .space .most) (ζ .space .tombstones) (ζ .space .delta)
       (kept-few ζ) (ζ .sections) (omega arith))
 
-  -- all n items are settled, and then the section is kept
+  -- all n items are in main, and then the section is committed
   module _ {ws₁ : List ℕ} {n : ℕ} (ς : AllFlushed text ws ws₁ index (st .used) (st .kept + 1) (st .sizes) n) where
     older : Unchanged (row ws index) (row ws₁ index) 0 (st .kept)
     older k p q = ς .others k p (omega arith)

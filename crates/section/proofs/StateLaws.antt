@@ -20,7 +20,7 @@ use Rattle.section_upsert.proofs.UpsertLaws.{parted-none}
 use Rattle.section_tail.specs.declared.OpenSizes.{OpenSizes}
 use Rattle.section_tail.specs.Tail.{insertAll, rowsOf, endOf, itemsOf, OpenSection, TailFlushed}
 use Rattle.section_tail.proofs.ItemLaws.{same-held, same-inserted}
-use Rattle.section_tail.proofs.UpsertLaws.{none-open as none-settled}
+use Rattle.section_tail.proofs.UpsertLaws.{none-open as none-in-main}
 use Rattle.section.specs.declared.State.{State}
 use Rattle.section.specs.declared.Step.{Step}
 use Rattle.section.specs.declared.Step.the-variants.{Next}
@@ -90,7 +90,7 @@ none-open {s = s} σ l z =
     let x : s .main ≡ 0 = omega arith in
     let y : s .delta ≡ 0 = omega arith in
     record {
-      parts = rw (x, y) (parted-none (none-settled σ l));
+      parts = rw (x, y) (parted-none (none-in-main σ l));
       alone = λ h. y;
       room = omega arith;
       inner = λ k m. absurd (omega arith);
@@ -107,7 +107,7 @@ by-inside {C} {text} {ws} {index} {limit} {st} ζ f g = go (st .inside) (ζ .ope
     go true o = f o
     go false o = g o (no-items text ws index (st .kept + 1) (st .sizes) o)
 
--- inside, all rows but the dead are within the limit
+-- inside, all rows but the tombstones are within the limit
 pub rows-fit : {text ws : List ℕ} {index limit : ℕ} {st : State} → HoldsState text ws index limit st → st .kept < limit + st .tombstones
     → st .kept + 1 + rowsOf (st .sizes) ≤ limit + st .tombstones
 rows-fit {limit = limit} {st = st} ζ h = go (st .inside) (ζ .opened) (ζ .fits)
@@ -129,7 +129,7 @@ full-outside {text} {ws} {index} {limit} {st} ζ h = go (st .inside) (ζ .opened
 pub kept-rows : {text ws : List ℕ} {index limit : ℕ} {st : State} → HoldsState text ws index limit st → mainOf st + st .delta ≡ st .kept
 kept-rows ζ = omega (arith, ζ .space .delta)
 
--- and all but the dead are entries
+-- and all but the tombstones are entries
 pub kept-size : {text ws : List ℕ} {index limit : ℕ} {st : State} → HoldsState text ws index limit st
     → length (stateOf text ws index st .kept) + st .tombstones ≡ st .kept
 kept-size ζ = kept-length (ζ .sections) ∙ kept-rows ζ
@@ -209,7 +209,7 @@ module _ {text ws ws′ : List ℕ} {index limit place r : ℕ} {st : State} (ζ
           (λ o. same-held text ws ws′ index (st .kept + 1) (st .sizes) (λ k p q. ρ .rows k p (omega (arith, items-below o))))
           (λ z e. no-items text ws′ index (st .kept + 1) (st .sizes) z ∙ sym e)
 
--- a state whose own row has a place may be inside
+-- a state whose header row is in use may be inside
 pub inside-valid : {text ws : List ℕ} {index limit : ℕ} {st : State} {path : Part} → HoldsState text ws index limit st → st .kept < st .used
     → st .kept + 1 + rowsOf (st .sizes) ≤ limit + st .tombstones → PartInside text path
     → HoldsState text ws index limit (withOpen st (st .used) (st .sizes) path)
@@ -230,9 +230,9 @@ inside-valid ζ h f i = record {
   path = i;
 }
 
-pub outside-valid : {text ws : List ℕ} {index limit kept late dead used : ℕ} {test : Part} → SectionRoom ws index limit → used ≤ capacity limit
-    → dead ≤ slack limit → late ≤ kept → kept ≤ limit + dead
-    → InParts text ws index used (kept - late) late dead → PartInside text test → HoldsState text ws index limit (withClosed kept late dead used test)
+pub outside-valid : {text ws : List ℕ} {index limit kept delta tombstones used : ℕ} {test : Part} → SectionRoom ws index limit → used ≤ capacity limit
+    → tombstones ≤ slack limit → delta ≤ kept → kept ≤ limit + tombstones
+    → InParts text ws index used (kept - delta) delta tombstones → PartInside text test → HoldsState text ws index limit (withClosed kept delta tombstones used test)
 outside-valid ρ m d l f σ i = record {
   space = record { room = ρ; store = σ .main .store; delta = l; kept = omega (arith, σ .delta .room); most = m; tombstones = d };
   sections = σ;

@@ -25,11 +25,11 @@ use Rattle.section_commit.specs.Commit.{KeptSections, reportOf}
 
 -- ---- the words
 
--- how many dead rows may stay
+-- the largest number of tombstones
 abbrev pub slack : ℕ → ℕ
 slack limit = limit / 8
 
--- how many rows there are: one for each entry within the limit, and some for the dead
+-- the number of rows: one for each entry within the limit, and the slack for tombstones
 abbrev pub capacity : ℕ → ℕ
 capacity limit = limit + slack limit
 
@@ -47,7 +47,7 @@ pub record RowReserved (ws ws′ : List ℕ) (index used limit place r : ℕ) : 
   pub free : (place < r) ⊎ (r ≡ capacity limit)
   pub spare : UnchangedOutside ws ws′ 0 (index + capacity limit)
 
--- the same items of the open section, whose rows are at most `most`, or none is queued
+-- the same items of the open section, whose rows are at most `most`, or which has no tail
 pub record FlushedIfOver (text ws ws′ : List ℕ) (index used spare at most : ℕ) (s r : OpenSizes) : Type 0 where
   pub items : itemsOf text ws′ index at r ≡ itemsOf text ws index at s
   pub still : OpenSection text ws′ index used spare at r
@@ -69,10 +69,10 @@ withOpen st used sizes path = record {
 }
 
 abbrev pub withClosed : ℕ → ℕ → ℕ → ℕ → Part → State
-withClosed kept late dead used test = record {
+withClosed kept delta tombstones used test = record {
   kept = kept;
-  delta = late;
-  tombstones = dead;
+  delta = delta;
+  tombstones = tombstones;
   used = used;
   sizes = record { main = 0; delta = 0; tail = 0; flushes = 0 };
   inside = false;
@@ -80,7 +80,7 @@ withClosed kept late dead used test = record {
   path = record { start = 0; len = 0 };
 }
 
--- how many of the kept rows are settled
+-- the number of kept rows in main
 abbrev pub mainOf : State → ℕ
 mainOf st = st .kept - st .delta
 
@@ -98,12 +98,12 @@ stateOf text ws index st = record {
   items = itemsOf text ws index (st .kept + 1) (st .sizes);
 }
 
--- inside, the section's own row has a place; outside, nothing is open
+-- inside, the section's header row is in use; outside, nothing is open
 abbrev pub Opened : Bool → State → Type 0
 Opened true st = st .kept < st .used
 Opened false st = rowsOf (st .sizes) ≡ 0
 
--- all rows but the dead are within the limit
+-- all rows but the tombstones are within the limit
 abbrev pub RowsWithinLimit : Bool → ℕ → State → Type 0
 RowsWithinLimit true limit st = st .kept + 1 + rowsOf (st .sizes) ≤ limit + st .tombstones
 RowsWithinLimit false limit st = st .kept ≤ limit + st .tombstones

@@ -1,5 +1,5 @@
-// One text read section by section (document 01, "Sections"): the state between two lines, and what a record does to it. Each step
-// answers the model's next state, read back from the words, or the fault; entries are counted after the record took effect.
+// The reading state between two lines, and the effect of each record on it (document 01, "Sections"). Each step answers the model's next
+// state, read back from the words, or the fault; entries are counted after the record took effect.
 use model::Fault;
 use model::Part;
 use section_commit::KeptSizes;
@@ -22,7 +22,7 @@ ghost use Rattle.table_item.specs.Combining.{Adds, combineOf};
 ghost use Rattle.section_tail.specs.Tail.{OpenSection};
 ghost use Rattle.section.specs.Reading.{slack, capacity, SectionRoom, RowReserved, FlushedIfOver, withOpen, withClosed, keptSizesOf, stateOf, StateRoom, HoldsState, StepBy, AllInMain};
 
-// How many rows are kept, how many of them are late ones behind the settled, and how many of the settled are dead; how many rows are in
+// The state between two lines: the number of kept rows, of those in the delta, and of tombstones; the number of rows in
 // use; the sizes of the open section; the last test name and path.
 pub struct State {
     pub kept: usize,
@@ -40,17 +40,17 @@ pub enum Step {
     Refused(Fault),
 }
 
-// For so many entries one dead row may stay.
+// One tombstone may remain for so many entries.
 const ENTRIES_PER_TOMBSTONE: usize = 8;
 
-// How many dead rows may stay: `slack` in specs/Reading.antt.
+// The largest number of tombstones: `slack` in specs/Reading.antt.
 pub fn slack(limit: usize) -> usize
     ensures { λ r. ⌜ r ≡ slack limit ⌝ }
 {
     limit / ENTRIES_PER_TOMBSTONE
 }
 
-// How many rows there are: one for each entry within the limit, and some for the dead.
+// The number of rows: one for each entry within the limit, and the slack for tombstones.
 pub fn capacity(limit: usize) -> usize
     requires { ⌜ capacity limit < 2 ^ 64 ⌝ }
     ensures { λ r. ⌜ r ≡ capacity limit ⌝ }
@@ -58,7 +58,7 @@ pub fn capacity(limit: usize) -> usize
     limit + slack(limit)
 }
 
-// The kept rows in their parts.
+// The sizes of the kept sections.
 fn kept_sizes(state: State) -> KeptSizes
     requires { ⌜ state .delta ≤ state .kept ⌝ }
     ensures { λ r. ⌜ r ≡ keptSizesOf state ⌝ }
@@ -70,7 +70,7 @@ fn kept_sizes(state: State) -> KeptSizes
     }
 }
 
-// A section is open.
+// The state with an open section.
 fn with_open(state: State, used: usize, sizes: OpenSizes, path: Part) -> State
     ensures { λ r. ⌜ r ≡ withOpen state used sizes path ⌝ }
 {
@@ -87,7 +87,7 @@ fn with_open(state: State, used: usize, sizes: OpenSizes, path: Part) -> State
     }
 }
 
-// No section is open.
+// The state with no open section.
 fn with_closed(kept: usize, delta: usize, tombstones: usize, used: usize, test: Part) -> State
     ensures { λ r. ⌜ r ≡ withClosed kept delta tombstones used test ⌝ }
 {
@@ -119,7 +119,7 @@ pub fn start() -> State
     with_closed(0, 0, 0, 0, none)
 }
 
-// One row more, if all are in use up to `place` and there is one. Answers the number of rows in use.
+// Appends a row where position `place` is not in use yet and a row is free. Answers the number of rows in use.
 fn reserve_row(words: &mut [u64], index: usize, used: usize, limit: usize, place: usize) -> usize
     requires { ⌜ Store (now words) index used × SectionRoom (now words) index limit × (used ≤ capacity limit) × (place ≤ used) ⌝ }
     ensures { λ r. ⌜ RowReserved (now (words .entry)) (now (words .exit)) index used limit place r ⌝ }
@@ -134,7 +134,7 @@ fn reserve_row(words: &mut [u64], index: usize, used: usize, limit: usize, place
     used
 }
 
-// The sizes of the open section, exact where its rows are more than `most`: there the queue is settled.
+// Flushes the tail where the open section ends past `most`, so that its sizes are exact there.
 fn flush_if_over(
     text: &[u8],
     words: &mut [u64],
@@ -155,7 +155,7 @@ fn flush_if_over(
     flush_tail(text, words, index, used, spare, at, sizes)
 }
 
-// FN, FNDA, BRDA and DA: the row is entered into the open section, which it opens if none is.
+// FN, FNDA, BRDA and DA: adds the row to the open section, and opens one if none is open.
 pub fn on_item(
     text: &[u8],
     words: &mut [u64],
@@ -175,9 +175,9 @@ pub fn on_item(
     }
     let sizes = state.sizes;
     let path = state.path;
-    let own = reserve_row(words, index, state.used, limit, kept);
+    let header_used = reserve_row(words, index, state.used, limit, kept);
     let end = kept + 1 + sizes.main + sizes.delta + sizes.tail;
-    let used = reserve_row(words, index, own, limit, end);
+    let used = reserve_row(words, index, header_used, limit, end);
     let spare = index + capacity(limit);
     match add_row(
         text,
@@ -234,7 +234,7 @@ pub fn on_source_file(
     Step::Next(with_open(state, used, state.sizes, path))
 }
 
-// end_of_record: the open section is kept, all its items settled, unless nothing is in it.
+// end_of_record: commits the open section, all its items in main, unless it is empty.
 pub fn on_end_of_record(
     text: &[u8],
     words: &mut [u64],
@@ -281,7 +281,7 @@ pub fn on_end_of_record(
     Step::Next(with_closed(kept, after.delta, after.tombstones, used, none))
 }
 
-// The end of the text: all kept entries are settled. Answers how many there are.
+// The end of the text: merges and compacts, so that all kept entries are in main. Answers how many there are.
 pub fn finish(text: &[u8], words: &mut [u64], index: usize, limit: usize, state: State) -> usize
     requires { ⌜ HoldsState (now text) (now words) index limit state ⌝ }
     ensures { λ r. ⌜ AllInMain (now (text .entry)) (now (words .entry)) (now (words .exit)) index state r ⌝ }

@@ -1,4 +1,4 @@
--- All are settled, and the dead are dropped. Assumes nothing.
+-- The delta is merged, and the tombstones are compacted. Assumes nothing.
 use mathlib.Core.Path.{_≡_, refl, sym, ap, subst, _∙_}
 use mathlib.Core.Logic.{_≢_}
 use mathlib.Core.Bool.{Bool, true, false}
@@ -22,31 +22,31 @@ use Rattle.section_commit.specs.Commit.{keptAt, InParts, KeptSections, S
 use Rattle.section_commit.proofs.HeldLaws.{all-main, kept-main}
 use Rattle.section_commit.proofs.PairLaws.{all-at, Pairs, pairs-tabulate, pairs-at, pairs-select}
 
-module _ {text ws ws′ : List ℕ} {index used settled dead r : ℕ} (π : InParts text ws index used settled 0 dead) (σ : Store ws′ index used)
-    (ς : Compacted (row ws index) (row ws′ index) settled r) where
+module _ {text ws ws′ : List ℕ} {index used main-size deleted r : ℕ} (π : InParts text ws index used main-size 0 deleted) (σ : Store ws′ index used)
+    (ς : Compacted (row ws index) (row ws′ index) main-size r) where
   abbrev E : ℕ → Row
   E = rowsFrom ws index 0
 
   abbrev G : ℕ → Row
   G = rowsFrom ws′ index 0
 
-  -- the rows that are left are the living
-  rows : tabulate G r ≡ liveRows E settled
+  -- the remaining rows are the live ones
+  rows : tabulate G r ≡ liveRows E main-size
   rows =
       tabulate-cong G (row ws′ index) r (λ k l. ap (row ws′ index) (let e : 0 + k ≡ k = omega arith in e))
       ∙ ς .rows
-      ∙ ap (filter isLive) (tabulate-cong (row ws index) E settled (λ k l. ap (row ws index) (let e : k ≡ 0 + k = omega arith in e)))
+      ∙ ap (filter isLive) (tabulate-cong (row ws index) E main-size (λ k l. ap (row ws index) (let e : k ≡ 0 + k = omega arith in e)))
 
-  -- what each living row had, each has
-  each : (P : Row → Type 0) → ((k : ℕ) → k < settled → isLive (E k) ≡ true → P (E k)) → (k : ℕ) → k < r → P (G k)
-  each P h = all-at P G r (subst (All P) (sym rows) (live-each P E settled h))
+  -- what holds of each live row holds of each remaining row
+  each : (P : Row → Type 0) → ((k : ℕ) → k < main-size → isLive (E k) ≡ true → P (E k)) → (k : ℕ) → k < r → P (G k)
+  each P h = all-at P G r (subst (All P) (sym rows) (live-each P E main-size h))
 
   abbrev InOrder : Row → Row → Type 0
   InOrder a b = compareSections (keyOf text a) (keyOf text b) ≢ Ordering·gt
 
   ordered : (i j : ℕ) → i < j → j < r → InOrder (G i) (G j)
   ordered = pairs-at InOrder G r (subst (Pairs InOrder) (sym rows)
-      (pairs-select InOrder isLive (tabulate E settled) (pairs-tabulate InOrder E settled (π .main .rows .ordered))))
+      (pairs-select InOrder isLive (tabulate E main-size) (pairs-tabulate InOrder E main-size (π .main .rows .ordered))))
 
   sections : SectionsFrom text ws′ index used 0 r
   sections = record {
@@ -55,18 +55,18 @@ module _ {text ws ws′ : List ℕ} {index used settled dead r : ℕ} (π : InPa
     rows = record { whole = each (RowInBounds text) (λ k l a. π .main .rows .whole k l); ordered = ordered };
   }
 
-  entries : entriesFrom text ws′ index 0 r ≡ keptAt text ws index settled 0
-  entries = sym (map-tabulate (entryOf text) G r) ∙ ap (map (entryOf text)) rows ∙ sym (kept-main text ws index settled)
+  entries : entriesFrom text ws′ index 0 r ≡ keptAt text ws index main-size 0
+  entries = sym (map-tabulate (entryOf text) G r) ∙ ap (map (entryOf text)) rows ∙ sym (kept-main text ws index main-size)
 
   pub compacted-parts : InParts text ws′ index used r 0 0
   compacted-parts = all-main sections (each (λ (a : Row). isLive a ≡ true) (λ k l a. a))
 
-  -- what `merge_and_compact` owes, once all are settled
-  pub main-compacted : {ws₀ : List ℕ} {p : KeptSizes} → SameReport text ws₀ ws index used p (record { main = settled; delta = 0; tombstones = dead })
+  -- what `merge_and_compact` promises, after the delta is merged
+  pub main-compacted : {ws₀ : List ℕ} {p : KeptSizes} → SameReport text ws₀ ws index used p (record { main = main-size; delta = 0; tombstones = deleted })
       → MergedAndCompacted text ws₀ ws′ index used p r
   main-compacted same = record { report = entries ∙ same .report; held = compacted-parts }
 
--- where as many live as there are, each does
+-- where all n rows count as live, each row is live
 live-full : (f : ℕ → Row) (n : ℕ) → length (liveRows f n) ≡ n → (k : ℕ) → k < n → isLive (f k) ≡ true
 unfolding tabulate filter
 live-full f zero e k l = absurd (omega arith)
@@ -79,15 +79,15 @@ live-full f (suc n) e k l = go (isLive (f 0)) refl e k l (live-full (λ i. f (su
     go false t e k l rest = absurd (omega (arith, live-most (λ i. f (suc i)) n))
 
 -- and so none is to be dropped
-pub main-whole : {text ws₀ ws : List ℕ} {index used settled : ℕ} {p : KeptSizes}
-    → SameReport text ws₀ ws index used p (record { main = settled; delta = 0; tombstones = 0 }) → MergedAndCompacted text ws₀ ws index used p settled
-main-whole {text} {ws₀} {ws} {index} {used} {settled} same =
-    let all : (k : ℕ) → k < settled → isLive (rowsFrom ws index 0 k) ≡ true = live-full (rowsFrom ws index 0) settled (omega (arith, same .held .count)) in
+pub main-whole : {text ws₀ ws : List ℕ} {index used main-size : ℕ} {p : KeptSizes}
+    → SameReport text ws₀ ws index used p (record { main = main-size; delta = 0; tombstones = 0 }) → MergedAndCompacted text ws₀ ws index used p main-size
+main-whole {text} {ws₀} {ws} {index} {used} {main-size} same =
+    let all : (k : ℕ) → k < main-size → isLive (rowsFrom ws index 0 k) ≡ true = live-full (rowsFrom ws index 0) main-size (omega (arith, same .held .count)) in
     record {
       report =
-          sym (map-tabulate (entryOf text) (rowsFrom ws index 0) settled)
-          ∙ ap (map (entryOf text)) (sym (live-all (rowsFrom ws index 0) settled all))
-          ∙ sym (kept-main text ws index settled)
+          sym (map-tabulate (entryOf text) (rowsFrom ws index 0) main-size)
+          ∙ ap (map (entryOf text)) (sym (live-all (rowsFrom ws index 0) main-size all))
+          ∙ sym (kept-main text ws index main-size)
           ∙ same .report;
       held = same .held;
     }

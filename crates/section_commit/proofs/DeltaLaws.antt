@@ -1,4 +1,4 @@
--- Late sections: their places among the settled ones, and what comes of settling them. Assumes nothing.
+-- The delta's insert positions in main, and the merge of the delta. Assumes nothing.
 use mathlib.Core.Path.{_≡_, refl, sym, ap, subst, _∙_}
 use mathlib.Core.Logic.{_≢_}
 use mathlib.Core.Bool.{Bool, true, false}
@@ -39,64 +39,64 @@ use Rattle.section_commit.proofs.HeldLaws.{position-as, parts-as, kept-
 use Rattle.section_commit.proofs.MarkLaws.{markOf, compareMarks, marks-order, Front, live-entries-both}
 use Rattle.section_commit.proofs.PairLaws.{pairs-tabulate}
 
--- ---- the place of a late entry
+-- ---- the insert position of an entry of the delta
 
--- an own row says it
-pub position-cached : {text ws : List ℕ} {index used settled late dead : ℕ} (j : ℕ) {a : Row} → InParts text ws index used settled late dead → j < late
-    → a ≡ rowsFrom ws index settled j → kindOf a ≡ 0 → PositionOf text ws index settled j (a .k1)
-position-cached {text} {ws} {index} {used} {settled} j π l e h =
-    subst (λ (b : Row). PositionOf text ws index settled j (b .k1)) (sym e) (π .positions j l (ap kindOf (sym e) ∙ h))
+-- a header row has it cached
+pub position-cached : {text ws : List ℕ} {index used main-size delta-size deleted : ℕ} (j : ℕ) {a : Row} → InParts text ws index used main-size delta-size deleted → j < delta-size
+    → a ≡ rowsFrom ws index main-size j → kindOf a ≡ 0 → PositionOf text ws index main-size j (a .k1)
+position-cached {text} {ws} {index} {used} {main-size} j π l e h =
+    subst (λ (b : Row). PositionOf text ws index main-size j (b .k1)) (sym e) (π .positions j l (ap kindOf (sym e) ∙ h))
 
 -- an entry of the section of the one before it
-pub position-again : (text : Bytes) (ws : List ℕ) (index settled i j : ℕ) {r : ℕ} {a b : Row} → a ≡ rowsFrom ws index settled j
-    → b ≡ rowsFrom ws index settled i
-    → true ≡ isEq (compareSections (keyOf text a) (keyOf text b)) → PositionOf text ws index settled i r → PositionOf text ws index settled j r
-position-again text ws index settled i j {r} {a} {b} p q e c =
-    let z : keyOf text (rowsFrom ws index settled i) ≡ keyOf text (rowsFrom ws index settled j) =
+pub position-again : (text : Bytes) (ws : List ℕ) (index main-size i j : ℕ) {r : ℕ} {a b : Row} → a ≡ rowsFrom ws index main-size j
+    → b ≡ rowsFrom ws index main-size i
+    → true ≡ isEq (compareSections (keyOf text a) (keyOf text b)) → PositionOf text ws index main-size i r → PositionOf text ws index main-size j r
+position-again text ws index main-size i j {r} {a} {b} p q e c =
+    let z : keyOf text (rowsFrom ws index main-size i) ≡ keyOf text (rowsFrom ws index main-size j) =
     ap (keyOf text) (sym q) ∙ sym (sections-order .equal (is-eq (compareSections (keyOf text a) (keyOf text b)) (sym e))) ∙ ap (keyOf text) p in
-    subst (λ (k : SectionKey). PartitionPoint (PastRow false text (rowsFrom ws index 0) k) settled r) z c
+    subst (λ (k : SectionKey). PartitionPoint (PastRow false text (rowsFrom ws index 0) k) main-size r) z c
 
 -- an entry as the store handed it out
-pub position-row : (text : Bytes) (ws : List ℕ) (index settled j : ℕ) {r : ℕ} {a : Row} → a ≡ rowsFrom ws index settled j
-    → PartitionPoint (PastRow false text (rowsFrom ws index 0) (keyOf text a)) settled r → PositionOf text ws index settled j r
-position-row text ws index settled j {r} p c = subst (λ (a : Row). PartitionPoint (PastRow false text (rowsFrom ws index 0) (keyOf text a)) settled r) p c
+pub position-row : (text : Bytes) (ws : List ℕ) (index main-size j : ℕ) {r : ℕ} {a : Row} → a ≡ rowsFrom ws index main-size j
+    → PartitionPoint (PastRow false text (rowsFrom ws index 0) (keyOf text a)) main-size r → PositionOf text ws index main-size j r
+position-row text ws index main-size j {r} p c = subst (λ (a : Row). PartitionPoint (PastRow false text (rowsFrom ws index 0) (keyOf text a)) main-size r) p c
 
--- ---- the loop: the places of the first j are noted
+-- ---- the loop: the insert positions of the first j are written
 
-pub record WritingPositions (text ws₀ ws : List ℕ) (index spare settled late j : ℕ) : Type 0 where
+pub record WritingPositions (text ws₀ ws : List ℕ) (index spare main-size delta-size j : ℕ) : Type 0 where
   pub size : length ws ≡ length ws₀
-  pub most : j ≤ late
-  pub kept : UnchangedOutside ws₀ ws spare (spare + late)
-  pub places : (i : ℕ) → i < j → PositionOf text ws₀ index settled i (word ws (spare + i))
+  pub most : j ≤ delta-size
+  pub kept : UnchangedOutside ws₀ ws spare (spare + delta-size)
+  pub places : (i : ℕ) → i < j → PositionOf text ws₀ index main-size i (word ws (spare + i))
 
-pub writing-none : (text ws : List ℕ) (index spare settled late : ℕ) → WritingPositions text ws ws index spare settled late 0
-writing-none text ws index spare settled late = record {
+pub writing-none : (text ws : List ℕ) (index spare main-size delta-size : ℕ) → WritingPositions text ws ws index spare main-size delta-size 0
+writing-none text ws index spare main-size delta-size = record {
   size = refl;
   most = omega arith;
   kept = record { below = λ k l. refl; above = λ k l. refl };
   places = λ i l. absurd (omega arith);
 }
 
-module _ {text ws₀ ws : List ℕ} {index used spare settled late dead j : ℕ} (π : InParts text ws₀ index used settled late dead) (b : index + used ≤ spare)
-    (η : WritingPositions text ws₀ ws index spare settled late j) where
-  same : Unchanged (row ws₀ index) (row ws index) 0 (settled + late)
+module _ {text ws₀ ws : List ℕ} {index used spare main-size delta-size deleted j : ℕ} (π : InParts text ws₀ index used main-size delta-size deleted) (b : index + used ≤ spare)
+    (η : WritingPositions text ws₀ ws index spare main-size delta-size j) where
+  same : Unchanged (row ws₀ index) (row ws index) 0 (main-size + delta-size)
   same k l h = behind-rows (π .main .store) (η .kept) b k l (omega (arith, π .delta .room))
 
-  later : Unchanged (row ws₀ index) (row ws index) settled (settled + late)
+  later : Unchanged (row ws₀ index) (row ws index) main-size (main-size + delta-size)
   later k l h = same k (omega arith) h
 
-  same-keys : (k : ℕ) → k < settled → keyOf text (rowsFrom ws index 0 k) ≡ keyOf text (rowsFrom ws₀ index 0 k)
+  same-keys : (k : ℕ) → k < main-size → keyOf text (rowsFrom ws index 0 k) ≡ keyOf text (rowsFrom ws₀ index 0 k)
   same-keys k l = ap (keyOf text) (same (0 + k) (omega arith) (omega arith))
 
-  pub writing-parts : InParts text ws index used settled late dead
+  pub writing-parts : InParts text ws index used main-size delta-size deleted
   writing-parts = parts-as ws used π (behind-store (π .main .store) (η .kept) b (η .size)) (π .delta .room) same
 
-  -- the one before is noted
-  pub writing-last : j < late → 0 < j → PositionOf text ws index settled (j - 1) (word ws (spare + (j - 1)))
+  -- the one before is written
+  pub writing-last : j < delta-size → 0 < j → PositionOf text ws index main-size (j - 1) (word ws (spare + (j - 1)))
   writing-last l z = position-as ws π same-keys later (j - 1) (omega arith) (η .places (j - 1) (omega arith))
 
-  pub writing-next : (r : ℕ) → j < late → spare + late ≤ length ws₀ → PositionOf text ws index settled j r
-      → WritingPositions text ws₀ (set ws (spare + j) r) index spare settled late (j + 1)
+  pub writing-next : (r : ℕ) → j < delta-size → spare + delta-size ≤ length ws₀ → PositionOf text ws index main-size j r
+      → WritingPositions text ws₀ (set ws (spare + j) r) index spare main-size delta-size (j + 1)
   writing-next r l room c = record {
     size = simp length-set (η .size);
     most = omega arith;
@@ -112,25 +112,25 @@ module _ {text ws₀ ws : List ℕ} {index used spare settled late dead j : ℕ}
         rw z (η .places i (omega arith)));
   }
 
-pub writing-done : {text ws₀ ws : List ℕ} {index spare settled late j : ℕ} → WritingPositions text ws₀ ws index spare settled late j → late ≤ j
-    → PositionsWritten text ws₀ ws index spare settled late
+pub writing-done : {text ws₀ ws : List ℕ} {index spare main-size delta-size j : ℕ} → WritingPositions text ws₀ ws index spare main-size delta-size j → delta-size ≤ j
+    → PositionsWritten text ws₀ ws index spare main-size delta-size
 writing-done η h = record { kept = η .kept; places = λ i l. η .places i (omega arith) }
 
--- ---- settled
+-- ---- the merged parts
 
 not-past : (o : Ordering) → isPast false o ≡ false → o ≢ Ordering·gt
 not-past Ordering·lt g h = impossible cc
 not-past Ordering·eq g h = impossible cc
 not-past Ordering·gt g h = impossible cc
 
--- a row that is not less than the key of a living one, and dead where it has that key, comes behind it
+-- a row that is not less than the key of a live one, and deleted where it has that key, comes behind it
 mark-behind : (o : Ordering) (b : Bool) → o ≢ Ordering·gt → (o ≡ Ordering·eq → b ≡ false) → lex o (compare 0 (if b then 0 else 1)) ≡ Ordering·lt
 mark-behind Ordering·lt b g h = refl
 mark-behind Ordering·eq b g h = rw (h refl) refl
 mark-behind Ordering·gt b g h = absurd (g refl)
 
-module _ {text ws ws₁ : List ℕ} {index used spare settled late dead : ℕ} (π : InParts text ws index used settled late dead)
-    (ν : PositionsWritten text ws ws₁ index spare settled late) where
+module _ {text ws ws₁ : List ℕ} {index used spare main-size delta-size deleted : ℕ} (π : InParts text ws index used main-size delta-size deleted)
+    (ν : PositionsWritten text ws ws₁ index spare main-size delta-size) where
   abbrev position : ℕ → ℕ
   position j = word ws₁ (spare + j)
 
@@ -138,25 +138,25 @@ module _ {text ws ws₁ : List ℕ} {index used spare settled late dead : ℕ} (
   x i = rowsFrom ws index 0 i
 
   abbrev y : ℕ → Row
-  y j = rowsFrom ws index settled j
+  y j = rowsFrom ws index main-size j
 
-  past : (j i : ℕ) → j < late → i < position j → compareSections (keyOf text (x i)) (keyOf text (y j)) ≡ Ordering·lt
+  past : (j i : ℕ) → j < delta-size → i < position j → compareSections (keyOf text (x i)) (keyOf text (y j)) ≡ Ordering·lt
   past j i l m = sections-order .less (goes-greater _ (ν .places j l .past i m))
 
-  rest : (j i : ℕ) → j < late → position j ≤ i → i < settled → compareSections (keyOf text (y j)) (keyOf text (x i)) ≢ Ordering·gt
+  rest : (j i : ℕ) → j < delta-size → position j ≤ i → i < main-size → compareSections (keyOf text (y j)) (keyOf text (x i)) ≢ Ordering·gt
   rest j i l m h = not-past _ (ν .places j l .rest i m h)
 
-  pub cached-rising : Ascending position settled late
+  pub cached-rising : Ascending position main-size delta-size
   cached-rising = record {
     most = λ j l. ν .places j l .most;
     rising = λ i j l h. by-eq i j (λ e. omega (arith, ap position e)) (λ e. by-lt (position j) (position i) (λ z. absurd (back i j (omega arith) h z)) (λ z. z));
   }
     where
       -- an entry between the two places would come before itself
-      back : (i j : ℕ) → i < j → j < late → position j < position i → ⊥
+      back : (i j : ℕ) → i < j → j < delta-size → position j < position i → ⊥
       back i j l h z =
           let a : compareSections (keyOf text (x (position j))) (keyOf text (y i)) ≡ Ordering·lt = past i (position j) (omega arith) z in
-          rest j (position j) h (omega arith) (omega (arith, ν .places i (let q : i < late = omega arith in q) .most))
+          rest j (position j) h (omega arith) (omega (arith, ν .places i (let q : i < delta-size = omega arith in q) .most))
           (up (compareSections (keyOf text (y i)) (keyOf text (y j))) refl a)
         where
           up : (o : Ordering) → compareSections (keyOf text (y i)) (keyOf text (y j)) ≡ o
@@ -166,14 +166,14 @@ module _ {text ws ws₁ : List ℕ} {index used spare settled late dead : ℕ} (
           up Ordering·eq e a = let k : keyOf text (y i) ≡ keyOf text (y j) = sections-order .equal e in rw k at (sections-order .greater a)
           up Ordering·gt e a = absurd (π .delta .rows .ordered i j l h e)
 
-  same-key : (i j : ℕ) → compareSections (keyOf text (y j)) (keyOf text (x i)) ≡ Ordering·eq → i < settled → j < late → isLive (x i) ≡ false
+  same-key : (i j : ℕ) → compareSections (keyOf text (y j)) (keyOf text (x i)) ≡ Ordering·eq → i < main-size → j < delta-size → isLive (x i) ≡ false
   same-key i j e l h = go (isLive (x i)) refl
     where
       go : (b : Bool) → isLive (x i) ≡ b → isLive (x i) ≡ false
       go true t = absurd (π .apart i j l t h e)
       go false t = t
 
-  positions : InsertPositions (markOf text) compareMarks x y position settled late
+  positions : InsertPositions (markOf text) compareMarks x y position main-size delta-size
   positions = record {
     most = λ j l. ν .places j l .most;
     past = λ j i l m. rw (past j i l m);
@@ -181,7 +181,7 @@ module _ {text ws ws₁ : List ℕ} {index used spare settled late dead : ℕ} (
         (λ e. same-key i j e h l));
   }
 
-  front : (i j : ℕ) → i < j → j < settled → Front text (x i) (x j)
+  front : (i j : ℕ) → i < j → j < main-size → Front text (x i) (x j)
   front i j l h d a = go (compareSections (keyOf text (x i)) (keyOf text (x j))) refl
     where
       go : (o : Ordering) → compareSections (keyOf text (x i)) (keyOf text (x j)) ≡ o → compareSections (keyOf text (x i)) (keyOf text (x j)) ≡ Ordering·lt
@@ -190,58 +190,58 @@ module _ {text ws ws₁ : List ℕ} {index used spare settled late dead : ℕ} (
       go Ordering·gt e = absurd (π .main .rows .ordered i j l h e)
 
   module _ {ws₂ : List ℕ} (b : index + used ≤ spare) (σ : Store ws₂ index used)
-      (ω : Interleaved (row ws₁ index) (row ws₂ index) (λ j. word ws₁ (spare + j)) used 0 settled late) where
+      (ω : Interleaved (row ws₁ index) (row ws₂ index) (λ j. word ws₁ (spare + j)) used 0 main-size delta-size) where
     abbrev z : ℕ → Row
     z k = rowsFrom ws₂ index 0 k
 
-    room : 0 + settled + late ≤ used
+    room : 0 + main-size + delta-size ≤ used
     room = omega (arith, π .delta .room)
 
-    interleaved : Interleaved (row ws index) (row ws₂ index) position used 0 settled late
+    interleaved : Interleaved (row ws index) (row ws₂ index) position used 0 main-size delta-size
     interleaved = interleaved-as room (λ k l. behind-rows (π .main .store) (ν .kept) b k (omega arith) l) (λ k l. refl) ω
 
-    second : (j : ℕ) → row ws index (0 + settled + j) ≡ row ws index (settled + j)
-    second j = ap (row ws index) (let e : 0 + settled + j ≡ settled + j = omega arith in e)
+    second : (j : ℕ) → row ws index (0 + main-size + j) ≡ row ws index (main-size + j)
+    second j = ap (row ws index) (let e : 0 + main-size + j ≡ main-size + j = omega arith in e)
 
     -- the rows after are those of both parts
-    mixed : tabulate z (settled + late) ≡ mergeSorted (markOf text) compareMarks (tabulate x settled) (tabulate y late)
+    mixed : tabulate z (main-size + delta-size) ≡ mergeSorted (markOf text) compareMarks (tabulate x main-size) (tabulate y delta-size)
     mixed =
         accepted-inj (sym (interleaved-pass (λ (r : Row). r) interleaved {x = x} {y = y} {z = z} (λ i l. refl) (λ j l. sym (second j)) (λ k l. refl)
         (markOf text) compareMarks (λ e f. accepted e) marks-order positions cached-rising)
-        ∙ pass-merge (markOf text) compareMarks (tabulate x settled) (tabulate y late))
+        ∙ pass-merge (markOf text) compareMarks (tabulate x main-size) (tabulate y delta-size))
 
-    report : liveEntriesOf text z (settled + late) ≡ keptAt text ws index settled late
+    report : liveEntriesOf text z (main-size + delta-size) ≡ keptAt text ws index main-size delta-size
     report =
         ap (λ (l : List Row). map (entryOf text) (filter isLive l)) mixed
-        ∙ live-entries-both text (tabulate x settled) (tabulate y late) (pairs-tabulate (Front text) x settled front)
-        (all-tabulate (λ r. isLive r ≡ true) y late (π .live))
-        ∙ ap (mergeReports (liveEntriesOf text x settled)) (map-tabulate (entryOf text) y late)
+        ∙ live-entries-both text (tabulate x main-size) (tabulate y delta-size) (pairs-tabulate (Front text) x main-size front)
+        (all-tabulate (λ r. isLive r ≡ true) y delta-size (π .live))
+        ∙ ap (mergeReports (liveEntriesOf text x main-size)) (map-tabulate (entryOf text) y delta-size)
 
     abbrev InOrder : Row → Row → Type 0
     InOrder a b = compareSections (keyOf text a) (keyOf text b) ≢ Ordering·gt
 
-    whole : (m : ℕ) → 0 ≤ m → m < 0 + settled + late → RowInBounds text (row ws index m)
-    whole m l h = by-lt m settled
+    whole : (m : ℕ) → 0 ≤ m → m < 0 + main-size + delta-size → RowInBounds text (row ws index m)
+    whole m l h = by-lt m main-size
         (λ z. let e : 0 + m ≡ m = omega arith in rw e at (π .main .rows .whole m z))
-        (λ z. let e : settled + (m - settled) ≡ m = omega arith in rw e at (π .delta .rows .whole (m - settled) (omega arith)))
+        (λ z. let e : main-size + (m - main-size) ≡ m = omega arith in rw e at (π .delta .rows .whole (m - main-size) (omega arith)))
 
-    ordered : (k l : ℕ) → k < l → l < settled + late → InOrder (z k) (z l)
+    ordered : (k l : ℕ) → k < l → l < main-size + delta-size → InOrder (z k) (z l)
     ordered = interleaved-pairs cached-rising interleaved InOrder (π .main .rows .ordered)
         (λ i j l h. rw (second i, second j) (π .delta .rows .ordered i j l h))
         (λ i j l h. rw (second j) (less-not-greater (past j i l h)))
         (λ i j l h m. rw (second j) (rest j i l h m))
 
-    -- of two rows of one section, the first lives if the second does
+    -- of two rows of one section, the first is live if the second is
     abbrev LivesToo : Row → Row → Type 0
     LivesToo a b = compareSections (keyOf text a) (keyOf text b) ≡ Ordering·eq → isLive b ≡ true → isLive a ≡ true
 
-    fronts : (k l : ℕ) → k < l → l < settled + late → LivesToo (z k) (z l)
+    fronts : (k l : ℕ) → k < l → l < main-size + delta-size → LivesToo (z k) (z l)
     fronts = interleaved-pairs cached-rising interleaved LivesToo (π .front)
         (λ i j l h e a. rw (second i) (π .live i (omega arith)))
         (λ i j l h. rw (second j) (λ e a. let q : Ordering·lt ≡ Ordering·eq = sym (past j i l h) ∙ e in impossible cc))
         (λ i j l h m e a. rw (second j) (π .live j l))
 
-    sections : SectionsFrom text ws₂ index used 0 (settled + late)
+    sections : SectionsFrom text ws₂ index used 0 (main-size + delta-size)
     sections = record {
       store = σ;
       room = omega (arith, room);
@@ -251,9 +251,9 @@ module _ {text ws ws₁ : List ℕ} {index used spare settled late dead : ℕ} (
       };
     }
 
-    pub main-all : SameReport text ws ws₂ index used (record { main = settled; delta = late; tombstones = dead })
-        (record { main = settled + late; delta = 0; tombstones = dead })
+    pub main-all : SameReport text ws ws₂ index used (record { main = main-size; delta = delta-size; tombstones = deleted })
+        (record { main = main-size + delta-size; delta = 0; tombstones = deleted })
     main-all = record {
-      report = kept-main text ws₂ index (settled + late) ∙ report;
-      held = none-delta sections fronts (omega (arith, live-entries-length text z (settled + late), ap length report, kept-length π));
+      report = kept-main text ws₂ index (main-size + delta-size) ∙ report;
+      held = none-delta sections fronts (omega (arith, live-entries-length text z (main-size + delta-size), ap length report, kept-length π));
     }

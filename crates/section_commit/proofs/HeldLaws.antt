@@ -1,4 +1,4 @@
--- The parts of the kept sections: rows that are as they were, how many entries there are, and where none is late. Assumes nothing.
+-- The parts of the kept sections: unchanged rows, the number of entries, and an empty delta. Assumes nothing.
 use mathlib.Core.Path.{_≡_, sym, ap, ap₂, subst, _∙_}
 use mathlib.Core.Bool.{Bool, true, false}
 use mathlib.Core.List.{List, [], _∷_, map}
@@ -21,7 +21,7 @@ use Rattle.table_item.proofs.AllLaws.{all-tabulate}
 use Rattle.section_commit.specs.Commit.{mergeReports, liveEntriesOf, keptAt, InParts, PositionOf}
 use Rattle.section_commit.proofs.MergeLaws.{merged-none, merged-length}
 
--- ---- the entries of the living
+-- ---- the entries of live rows
 
 all-map : {A B : Type 0} (P : B → Type 0) (f : A → B) (l : List A) → All (λ a. P (f a)) l → All P (map f l)
 all-map P f [] h = tt
@@ -57,70 +57,70 @@ partition-as e c = record {
   rest = λ k l h. e k h ∙ c .rest k l h;
 }
 
--- the late rows are as they were, and the settled ones have the keys that they had
-module _ {text ws : List ℕ} (ws′ : List ℕ) {index used settled late dead : ℕ} (π : InParts text ws index used settled late dead)
-    (keys : (k : ℕ) → k < settled → keyOf text (rowsFrom ws′ index 0 k) ≡ keyOf text (rowsFrom ws index 0 k))
-    (s : Unchanged (row ws index) (row ws′ index) settled (settled + late)) where
-  delta-row : (j : ℕ) → j < late → rowsFrom ws′ index settled j ≡ rowsFrom ws index settled j
-  delta-row j l = s (settled + j) (omega arith) (omega arith)
+-- the rows of the delta are unchanged, and those of main keep their keys
+module _ {text ws : List ℕ} (ws′ : List ℕ) {index used main-size delta-size deleted : ℕ} (π : InParts text ws index used main-size delta-size deleted)
+    (keys : (k : ℕ) → k < main-size → keyOf text (rowsFrom ws′ index 0 k) ≡ keyOf text (rowsFrom ws index 0 k))
+    (s : Unchanged (row ws index) (row ws′ index) main-size (main-size + delta-size)) where
+  delta-row : (j : ℕ) → j < delta-size → rowsFrom ws′ index main-size j ≡ rowsFrom ws index main-size j
+  delta-row j l = s (main-size + j) (omega arith) (omega arith)
 
-  pub position-as : (j : ℕ) {r : ℕ} → j < late → PositionOf text ws index settled j r → PositionOf text ws′ index settled j r
+  pub position-as : (j : ℕ) {r : ℕ} → j < delta-size → PositionOf text ws index main-size j r → PositionOf text ws′ index main-size j r
   position-as j l c = partition-as
       (λ k h. ap₂ (λ (a b : SectionKey). isPast false (compareSections a b)) (ap (keyOf text) (delta-row j l)) (keys k h))
       c
 
-  pub cached-as : (j : ℕ) → j < late → kindOf (rowsFrom ws′ index settled j) ≡ 0
-      → PositionOf text ws′ index settled j (rowsFrom ws′ index settled j .k1)
+  pub cached-as : (j : ℕ) → j < delta-size → kindOf (rowsFrom ws′ index main-size j) ≡ 0
+      → PositionOf text ws′ index main-size j (rowsFrom ws′ index main-size j .k1)
   cached-as j l h =
-      subst (λ (r : Row). PositionOf text ws′ index settled j (r .k1)) (sym (delta-row j l))
+      subst (λ (r : Row). PositionOf text ws′ index main-size j (r .k1)) (sym (delta-row j l))
       (position-as j l (π .positions j l (ap kindOf (sym (delta-row j l)) ∙ h)))
 
-pub parts-as : {text ws : List ℕ} (ws′ : List ℕ) {index used settled late dead : ℕ} (used′ : ℕ) → InParts text ws index used settled late dead
+pub parts-as : {text ws : List ℕ} (ws′ : List ℕ) {index used main-size delta-size deleted : ℕ} (used′ : ℕ) → InParts text ws index used main-size delta-size deleted
     → Store ws′ index used′
-    → settled + late ≤ used′ → Unchanged (row ws index) (row ws′ index) 0 (settled + late) → InParts text ws′ index used′ settled late dead
-parts-as {text} {ws} ws′ {index} {used} {settled} {late} {dead} used′ π σ room s =
-    let later : Unchanged (row ws index) (row ws′ index) settled (settled + late) = λ k l h. s k (omega arith) h in
-    let early : (k : ℕ) → k < settled → rowsFrom ws′ index 0 k ≡ rowsFrom ws index 0 k = λ k l. s (0 + k) (omega arith) (omega arith) in
+    → main-size + delta-size ≤ used′ → Unchanged (row ws index) (row ws′ index) 0 (main-size + delta-size) → InParts text ws′ index used′ main-size delta-size deleted
+parts-as {text} {ws} ws′ {index} {used} {main-size} {delta-size} {deleted} used′ π σ room s =
+    let later : Unchanged (row ws index) (row ws′ index) main-size (main-size + delta-size) = λ k l h. s k (omega arith) h in
+    let early : (k : ℕ) → k < main-size → rowsFrom ws′ index 0 k ≡ rowsFrom ws index 0 k = λ k l. s (0 + k) (omega arith) (omega arith) in
     record {
       main = same-from ws′ used′ (π .main) σ (omega arith) (λ k l h. s k l (omega arith));
       delta = same-from ws′ used′ (π .delta) σ room later;
       front = λ i j l h. rw (early i (omega arith), early j h) (π .front i j l h);
-      live = λ j l. rw (later (settled + j) (omega arith) (omega arith)) (π .live j l);
-      apart = λ i j l a h. rw (early i l, later (settled + j) (omega arith) (omega arith)) (π .apart i j l (ap isLive (sym (early i l)) ∙ a) h);
+      live = λ j l. rw (later (main-size + j) (omega arith) (omega arith)) (π .live j l);
+      apart = λ i j l a h. rw (early i l, later (main-size + j) (omega arith) (omega arith)) (π .apart i j l (ap isLive (sym (early i l)) ∙ a) h);
       positions = cached-as ws′ π (λ k l. ap (keyOf text) (early k l)) later;
-      count = ap (λ (l : List Row). length l + dead) (live-cong (rowsFrom ws′ index 0) (rowsFrom ws index 0) settled early) ∙ π .count;
+      count = ap (λ (l : List Row). length l + deleted) (live-cong (rowsFrom ws′ index 0) (rowsFrom ws index 0) main-size early) ∙ π .count;
     }
 
-pub kept-as : (text ws ws′ : List ℕ) (index settled late : ℕ) → Unchanged (row ws index) (row ws′ index) 0 (settled + late)
-    → keptAt text ws′ index settled late ≡ keptAt text ws index settled late
-kept-as text ws ws′ index settled late s =
+pub kept-as : (text ws ws′ : List ℕ) (index main-size delta-size : ℕ) → Unchanged (row ws index) (row ws′ index) 0 (main-size + delta-size)
+    → keptAt text ws′ index main-size delta-size ≡ keptAt text ws index main-size delta-size
+kept-as text ws ws′ index main-size delta-size s =
     ap₂ mergeReports
-    (live-entries-cong text (rowsFrom ws′ index 0) (rowsFrom ws index 0) settled (λ k l. s (0 + k) (omega arith) (omega arith)))
-    (tabulate-cong (λ k. entryOf text (rowsFrom ws′ index settled k)) (λ k. entryOf text (rowsFrom ws index settled k)) late
-    (λ k l. ap (entryOf text) (s (settled + k) (omega arith) (omega arith))))
+    (live-entries-cong text (rowsFrom ws′ index 0) (rowsFrom ws index 0) main-size (λ k l. s (0 + k) (omega arith) (omega arith)))
+    (tabulate-cong (λ k. entryOf text (rowsFrom ws′ index main-size k)) (λ k. entryOf text (rowsFrom ws index main-size k)) delta-size
+    (λ k l. ap (entryOf text) (s (main-size + k) (omega arith) (omega arith))))
 
 -- ---- how many entries there are
 
--- all rows but the dead
-pub kept-length : {text ws : List ℕ} {index used settled late dead : ℕ} → InParts text ws index used settled late dead
-    → length (keptAt text ws index settled late) + dead ≡ settled + late
-kept-length {text} {ws} {index} {used} {settled} {late} {dead} π =
-    let all : length (keptAt text ws index settled late)
-    ≡ length (liveEntriesOf text (rowsFrom ws index 0) settled) + length (entriesFrom text ws index settled late) =
-    merged-length (liveEntriesOf text (rowsFrom ws index 0) settled) (entriesFrom text ws index settled late)
-    (live-entries-each text _ (rowsFrom ws index 0) settled
-    (λ i l a. all-tabulate _ (λ k. entryOf text (rowsFrom ws index settled k)) late
-    (λ j h e. π .apart i j l a h (ap (compareSections (keyOf text (rowsFrom ws index settled j))) (sections-order .equal e)
-    ∙ sections-order .same (keyOf text (rowsFrom ws index settled j)))))) in
-    omega (arith, all, live-entries-length text (rowsFrom ws index 0) settled, length-tabulate (λ k. entryOf text (rowsFrom ws index settled k)) late, π .count)
+-- all rows but the tombstones
+pub kept-length : {text ws : List ℕ} {index used main-size delta-size deleted : ℕ} → InParts text ws index used main-size delta-size deleted
+    → length (keptAt text ws index main-size delta-size) + deleted ≡ main-size + delta-size
+kept-length {text} {ws} {index} {used} {main-size} {delta-size} {deleted} π =
+    let all : length (keptAt text ws index main-size delta-size)
+    ≡ length (liveEntriesOf text (rowsFrom ws index 0) main-size) + length (entriesFrom text ws index main-size delta-size) =
+    merged-length (liveEntriesOf text (rowsFrom ws index 0) main-size) (entriesFrom text ws index main-size delta-size)
+    (live-entries-each text _ (rowsFrom ws index 0) main-size
+    (λ i l a. all-tabulate _ (λ k. entryOf text (rowsFrom ws index main-size k)) delta-size
+    (λ j h e. π .apart i j l a h (ap (compareSections (keyOf text (rowsFrom ws index main-size j))) (sections-order .equal e)
+    ∙ sections-order .same (keyOf text (rowsFrom ws index main-size j)))))) in
+    omega (arith, all, live-entries-length text (rowsFrom ws index 0) main-size, length-tabulate (λ k. entryOf text (rowsFrom ws index main-size k)) delta-size, π .count)
 
--- ---- none is late
+-- ---- the delta is empty
 
 module _ {text ws : List ℕ} {index used n : ℕ} (σ : SectionsFrom text ws index used 0 n) where
-  pub none-delta : {dead : ℕ}
+  pub none-delta : {deleted : ℕ}
       → ((i j : ℕ) → i < j → j < n → compareSections (keyOf text (rowsFrom ws index 0 i)) (keyOf text (rowsFrom ws index 0 j)) ≡ Ordering·eq
       → isLive (rowsFrom ws index 0 j) ≡ true → isLive (rowsFrom ws index 0 i) ≡ true)
-      → length (liveRows (rowsFrom ws index 0) n) + dead ≡ n → InParts text ws index used n 0 dead
+      → length (liveRows (rowsFrom ws index 0) n) + deleted ≡ n → InParts text ws index used n 0 deleted
   none-delta front count = record {
     main = σ;
     delta = record {
@@ -135,7 +135,7 @@ module _ {text ws : List ℕ} {index used n : ℕ} (σ : SectionsFrom text ws in
     count = count;
   }
 
-  -- and none is dead
+  -- and there is no tombstone
   pub all-main : ((k : ℕ) → k < n → isLive (rowsFrom ws index 0 k) ≡ true) → InParts text ws index used n 0 0
   all-main a = none-delta (λ i j l h e q. a i (omega arith))
       (omega (arith, ap length (live-all (rowsFrom ws index 0) n a), length-tabulate (rowsFrom ws index 0) n))

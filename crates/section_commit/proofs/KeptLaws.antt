@@ -1,4 +1,4 @@
--- A section kept among settled and late ones: among the late, or in place of settled ones of its key that die. Assumes nothing.
+-- A section committed: to the delta, or in place of rows of main that have its key. Assumes nothing.
 use mathlib.Core.Path.{_≡_, refl, sym, ap, ap₂, _∙_}
 use mathlib.Core.Logic.{_≢_}
 use mathlib.Core.Bool.{Bool, true, false}
@@ -53,17 +53,17 @@ use Rattle.section_commit.proofs.CommittedLaws.{
   placed-report,
 }
 
-module _ {text ws : List ℕ} {index used settled late dead n lo₀ hi₀ : ℕ} {key : Row} (π : InParts text ws index used settled late dead)
-    (ο : SortedItems text ws index used (settled + late + 1) n) (z : n ≢ 0) (ν : NamesInBounds text key) (tag : key .tag ≡ 0)
-    (ρ₀ : IsEqualRange text (rowsFrom ws index 0) settled (keyOf text key) lo₀ hi₀) where
+module _ {text ws : List ℕ} {index used main-size delta-size deleted n lo₀ hi₀ : ℕ} {key : Row} (π : InParts text ws index used main-size delta-size deleted)
+    (ο : SortedItems text ws index used (main-size + delta-size + 1) n) (z : n ≢ 0) (ν : NamesInBounds text key) (tag : key .tag ≡ 0)
+    (ρ₀ : IsEqualRange text (rowsFrom ws index 0) main-size (keyOf text key) lo₀ hi₀) where
   abbrev E : ℕ → Row
   E = rowsFrom ws index 0
 
   abbrev F : ℕ → Row
-  F = rowsFrom ws index settled
+  F = rowsFrom ws index main-size
 
   abbrev its : List Item
-  its = itemsAt text ws index (settled + late + 1) n
+  its = itemsAt text ws index (main-size + delta-size + 1) n
 
   abbrev keeping : Report → Report
   keeping = keepSection (testOf text key) (pathOf text key) its
@@ -71,32 +71,32 @@ module _ {text ws : List ℕ} {index used settled late dead n lo₀ hi₀ : ℕ}
   kept-some : (kept : Report) → keeping kept ≡ replaceSection (testOf text key) (pathOf text key) its kept
   kept-some kept = keep-some (testOf text key) (pathOf text key) its kept (rw length-tabulate z)
 
-  -- the living of the settled entries, by the key
-  main-parts : liveEntriesOf text E settled ≡ livesLow text E lo₀ ++ (livesIn text E lo₀ hi₀ ++ livesHigh text E settled lo₀ hi₀)
-  main-parts = live-entries-three text E settled lo₀ hi₀ (range-ends ρ₀) (ρ₀ .high .most)
+  -- the live entries of main, by the key
+  main-parts : liveEntriesOf text E main-size ≡ livesLow text E lo₀ ++ (livesIn text E lo₀ hi₀ ++ livesHigh text E main-size lo₀ hi₀)
+  main-parts = live-entries-three text E main-size lo₀ hi₀ (range-ends ρ₀) (ρ₀ .high .most)
 
-  -- ---- among the late ones, where no settled entry of the key lives
+  -- ---- into the delta, where main has no live entry of the key
 
-  module _ (ws₁ : List ℕ) {lo₁ hi₁ : ℕ} {own : Row} (ρ₁ : IsEqualRange text F late (keyOf text key) lo₁ hi₁) (late-has : lo₀ < hi₀ → lo₁ < hi₁)
-      (placed : own ≡ withPosition key lo₀) (ς : Spliced F (rowsFrom ws₁ index settled) late late n lo₁ hi₁ own)
-      (below : Unchanged (row ws index) (row ws₁ index) 0 settled) (σ : Store ws₁ index used) where
-    foreign : (i : ℕ) → i < settled → isLive (E i) ≡ true → compareSections (keyOf text key) (keyOf text (E i)) ≢ Ordering·eq
+  module _ (ws₁ : List ℕ) {lo₁ hi₁ : ℕ} {header : Row} (ρ₁ : IsEqualRange text F delta-size (keyOf text key) lo₁ hi₁) (delta-size-has : lo₀ < hi₀ → lo₁ < hi₁)
+      (placed : header ≡ withPosition key lo₀) (ς : Spliced F (rowsFrom ws₁ index main-size) delta-size delta-size n lo₁ hi₁ header)
+      (below : Unchanged (row ws index) (row ws₁ index) 0 main-size) (σ : Store ws₁ index used) where
+    foreign : (i : ℕ) → i < main-size → isLive (E i) ≡ true → compareSections (keyOf text key) (keyOf text (E i)) ≢ Ordering·eq
     foreign i l a q =
         by-lt lo₁ hi₁
         (λ h. π .apart i lo₁ l a (omega (arith, ρ₁ .high .most))
         (ap (λ (k : SectionKey). compareSections k (keyOf text (E i))) (sym (sections-order .equal (range-in ρ₁ lo₁ (omega arith) h))) ∙ q))
         (λ h. by-lt i lo₀
         (λ p. let x : Ordering·gt ≡ Ordering·eq = sym (range-before ρ₀ i p) ∙ q in impossible cc)
-        (λ p. by-lt i hi₀ (λ r. let e : lo₁ < hi₁ = late-has (omega arith) in omega arith)
+        (λ p. by-lt i hi₀ (λ r. let e : lo₁ < hi₁ = delta-size-has (omega arith) in omega arith)
         (λ r. let x : Ordering·lt ≡ Ordering·eq = sym (range-behind ρ₀ i r l) ∙ q in impossible cc)))
 
     none-here : livesIn text E lo₀ hi₀ ≡ []
     none-here = none-live-entries text E lo₀ hi₀ (λ k p q a. foreign k (omega (arith, ρ₀ .high .most)) a (range-in ρ₀ k p q))
 
-    main-none : liveEntriesOf text E settled ≡ livesLow text E lo₀ ++ livesHigh text E settled lo₀ hi₀
-    main-none = main-parts ∙ ap (λ (l : Report). livesLow text E lo₀ ++ (l ++ livesHigh text E settled lo₀ hi₀)) none-here
+    main-none : liveEntriesOf text E main-size ≡ livesLow text E lo₀ ++ livesHigh text E main-size lo₀ hi₀
+    main-none = main-parts ∙ ap (λ (l : Report). livesLow text E lo₀ ++ (l ++ livesHigh text E main-size lo₀ hi₀)) none-here
 
-    spliced : Spliced F (rowsFrom ws₁ index settled) late late n lo₁ hi₁ (withPosition key lo₀)
+    spliced : Spliced F (rowsFrom ws₁ index main-size) delta-size delta-size n lo₁ hi₁ (withPosition key lo₀)
     spliced = rw placed at ς
 
     named : NamesInBounds text (withPosition key lo₀)
@@ -105,24 +105,24 @@ module _ {text ws : List ℕ} {index used settled late dead n lo₀ hi₀ : ℕ}
     first-live : lo₁ < hi₁ → F lo₁ .tag ≢ tombstone-tag
     first-live h t = let x : true ≡ false = sym (π .live lo₁ (omega (arith, ρ₁ .high .most))) ∙ tag-deleted (F lo₁) t in impossible cc
 
-    header-said : HeaderAs text (withPosition key lo₀) (spellingOf (pathOf text key) (runAt text F lo₁ hi₁)) (rowsFrom ws₁ index settled lo₁)
+    header-said : HeaderAs text (withPosition key lo₀) (spellingOf (pathOf text key) (runAt text F lo₁ hi₁)) (rowsFrom ws₁ index main-size lo₁)
     header-said = header-entry (π .delta .rows) named tag ρ₁ first-live (spliced .header)
 
-    pub committed-delta : {r : ℕ} → r ≡ lo₁ + (n + 1) + (late - hi₁) → Committed text ws ws₁ index used (three settled late dead) n key (three settled r dead)
+    pub committed-delta : {r : ℕ} → r ≡ lo₁ + (n + 1) + (delta-size - hi₁) → Committed text ws ws₁ index used (three main-size delta-size deleted) n key (three main-size r deleted)
     committed-delta count = rw count (record {
       report =
           delta-report π (ο .inner) (ο .room) named tag foreign (ρ₀ .low) refl ρ₁ spliced below σ header-said
           ∙ ap (λ (l : Report). mergeReports l (lowerAt text F lo₁
-          ++ (map (inSection (keyOf text key)) (sectionItem (spellingOf (pathOf text key) (runAt text F lo₁ hi₁)) ∷ its) ++ higherAt text F late lo₁ hi₁)))
+          ++ (map (inSection (keyOf text key)) (sectionItem (spellingOf (pathOf text key) (runAt text F lo₁ hi₁)) ∷ its) ++ higherAt text F delta-size lo₁ hi₁)))
           main-none
-          ∙ second-by-second (testOf text key) (pathOf text key) its (livesLow text E lo₀) [] (livesHigh text E settled lo₀ hi₀) (lowerAt text F lo₁)
-          (runAt text F lo₁ hi₁) (higherAt text F late lo₁ hi₁) (low-live-entries ρ₀) tt (high-live-entries ρ₀) (lower-all ρ₁) (range-all ρ₁) (higher-all ρ₁)
-          ∙ sym (kept-some (keptAt text ws index settled late)
+          ∙ second-by-second (testOf text key) (pathOf text key) its (livesLow text E lo₀) [] (livesHigh text E main-size lo₀ hi₀) (lowerAt text F lo₁)
+          (runAt text F lo₁ hi₁) (higherAt text F delta-size lo₁ hi₁) (low-live-entries ρ₀) tt (high-live-entries ρ₀) (lower-all ρ₁) (range-all ρ₁) (higher-all ρ₁)
+          ∙ sym (kept-some (keptAt text ws index main-size delta-size)
           ∙ ap (replaceSection (testOf text key) (pathOf text key) its) (ap₂ mergeReports main-none (parts ρ₁)));
       held = delta-held π (ο .inner) (ο .room) named tag foreign (ρ₀ .low) refl ρ₁ spliced below σ header-said;
     })
 
-  -- ---- the spelling, where settled entries have the key
+  -- ---- the spelling, where main has entries of the key
 
   module _ {spelled : Row} (ω : HeaderRow (E lo₀) lo₀ hi₀ key spelled) where
     first-in : lo₀ < hi₀ → isLive (E lo₀) ≡ true → (l : Report) × (livesIn text E lo₀ hi₀ ≡ entryOf text (E lo₀) ∷ l)
@@ -157,114 +157,114 @@ module _ {text ws : List ℕ} {index used settled late dead n lo₀ hi₀ : ℕ}
     spelled-path : sectionItem (pathOf text spelled) ≡ sectionItem (spellingOf (pathOf text key) (livesIn text E lo₀ hi₀))
     spelled-path = sym (section-item text spelled (omega (arith, spelled-tag))) ∙ ap (λ (e : Entry). e .item) (spelled-as .is)
 
-    -- ---- the settled ones of the key die
+    -- ---- the rows of main that have the key are marked deleted
 
-    module _ {ws′ : List ℕ} {buried place : ℕ} (σ′ : Store ws′ index used) (β : MarkedDeleted (row ws index) (row ws′ index) used lo₀ hi₀ buried)
-        (ρ₁ : IsEqualRange text F late (keyOf text key) place place) where
+    module _ {ws′ : List ℕ} {marked place : ℕ} (σ′ : Store ws′ index used) (β : MarkedDeleted (row ws index) (row ws′ index) used lo₀ hi₀ marked)
+        (ρ₁ : IsEqualRange text F delta-size (keyOf text key) place place) where
       abbrev E′ : ℕ → Row
       E′ = rowsFrom ws′ index 0
 
       abbrev F′ : ℕ → Row
-      F′ = rowsFrom ws′ index settled
+      F′ = rowsFrom ws′ index main-size
 
-      π′ : InParts text ws′ index used settled late (dead + buried)
+      π′ : InParts text ws′ index used main-size delta-size (deleted + marked)
       π′ = marked-parts π ρ₀ σ′ β
 
-      -- the rows behind the settled ones stay
-      behind : (k : ℕ) → k < late → F′ k ≡ F k
-      behind k l = marked-later π ρ₀ σ′ β (settled + k) (omega arith) (omega (arith, π .delta .room))
+      -- the rows behind main are unchanged
+      behind : (k : ℕ) → k < delta-size → F′ k ≡ F k
+      behind k l = marked-later π ρ₀ σ′ β (main-size + k) (omega arith) (omega (arith, π .delta .room))
 
-      item-row : (k : ℕ) → k < n → row ws′ index (settled + late + 1 + k) ≡ row ws index (settled + late + 1 + k)
-      item-row k l = marked-later π ρ₀ σ′ β (settled + late + 1 + k) (omega arith) (omega (arith, ο .room))
+      item-row : (k : ℕ) → k < n → row ws′ index (main-size + delta-size + 1 + k) ≡ row ws index (main-size + delta-size + 1 + k)
+      item-row k l = marked-later π ρ₀ σ′ β (main-size + delta-size + 1 + k) (omega arith) (omega (arith, ο .room))
 
-      ι′ : (k : ℕ) → k < n → ItemRow text (row ws′ index (settled + late + 1 + k))
+      ι′ : (k : ℕ) → k < n → ItemRow text (row ws′ index (main-size + delta-size + 1 + k))
       ι′ k l = rw (item-row k l) (ο .inner k l)
 
-      same-items : itemsAt text ws′ index (settled + late + 1) n ≡ its
-      same-items = tabulate-cong (itemFrom text ws′ index (settled + late + 1)) (itemFrom text ws index (settled + late + 1)) n
+      same-items : itemsAt text ws′ index (main-size + delta-size + 1) n ≡ its
+      same-items = tabulate-cong (itemFrom text ws′ index (main-size + delta-size + 1)) (itemFrom text ws index (main-size + delta-size + 1)) n
           (λ k l. ap (itemOf text) (item-row k l))
 
-      delta-none : entriesFrom text ws index settled late ≡ lowerAt text F place ++ higherAt text F late place place
+      delta-none : entriesFrom text ws index main-size delta-size ≡ lowerAt text F place ++ higherAt text F delta-size place place
       delta-none = parts-none ρ₁ (omega arith)
 
       -- a cut by the key, among rows of the same keys
-      partition-again : (own : Row) (f g : ℕ → Row) {m r : ℕ} (b : Bool) → keyOf text own ≡ keyOf text key
-          → ((k : ℕ) → k < m → keyOf text (g k) ≡ keyOf text (f k)) → PartitionPoint (PastRow b text f (keyOf text key)) m r → PartitionPoint (PastRow b text g (keyOf text own)) m r
-      partition-again own f g b e keys c = partition-as (λ k l. ap₂ (λ (x y : SectionKey). isPast b (compareSections x y)) e (keys k l)) c
+      partition-again : (header : Row) (f g : ℕ → Row) {m r : ℕ} (b : Bool) → keyOf text header ≡ keyOf text key
+          → ((k : ℕ) → k < m → keyOf text (g k) ≡ keyOf text (f k)) → PartitionPoint (PastRow b text f (keyOf text key)) m r → PartitionPoint (PastRow b text g (keyOf text header)) m r
+      partition-again header f g b e keys c = partition-as (λ k l. ap₂ (λ (x y : SectionKey). isPast b (compareSections x y)) e (keys k l)) c
 
-      before : keptAt text ws index settled late
-          ≡ mergeReports (livesLow text E lo₀ ++ (livesIn text E lo₀ hi₀ ++ livesHigh text E settled lo₀ hi₀))
-          (lowerAt text F place ++ higherAt text F late place place)
+      before : keptAt text ws index main-size delta-size
+          ≡ mergeReports (livesLow text E lo₀ ++ (livesIn text E lo₀ hi₀ ++ livesHigh text E main-size lo₀ hi₀))
+          (lowerAt text F place ++ higherAt text F delta-size place place)
       before = ap₂ mergeReports main-parts delta-none
 
       abbrev new : Report
       new = map (inSection (keyOf text key)) (sectionItem (spellingOf (pathOf text key) (livesIn text E lo₀ hi₀)) ∷ its)
 
-      new-as : (own : Row) → keyOf text own ≡ keyOf text key
-          → map (inSection (keyOf text own)) (sectionItem (spellingOf (pathOf text key) (livesIn text E lo₀ hi₀)) ∷ itemsAt text ws′ index (settled + late + 1) n) ≡ new
-      new-as own e = ap₂ (λ (k : SectionKey) (l : List Item). map (inSection k) (sectionItem (spellingOf (pathOf text key) (livesIn text E lo₀ hi₀)) ∷ l)) e same-items
+      new-as : (header : Row) → keyOf text header ≡ keyOf text key
+          → map (inSection (keyOf text header)) (sectionItem (spellingOf (pathOf text key) (livesIn text E lo₀ hi₀)) ∷ itemsAt text ws′ index (main-size + delta-size + 1) n) ≡ new
+      new-as header e = ap₂ (λ (k : SectionKey) (l : List Item). map (inSection k) (sectionItem (spellingOf (pathOf text key) (livesIn text E lo₀ hi₀)) ∷ l)) e same-items
 
-      -- the section comes among the late ones
-      module _ (ws₁ : List ℕ) {own : Row} (placed : own ≡ withPosition spelled lo₀)
-          (ς : Spliced F′ (rowsFrom ws₁ index settled) late late n place place own) (below : Unchanged (row ws′ index) (row ws₁ index) 0 settled)
+      -- the section is spliced into the delta
+      module _ (ws₁ : List ℕ) {header : Row} (placed : header ≡ withPosition spelled lo₀)
+          (ς : Spliced F′ (rowsFrom ws₁ index main-size) delta-size delta-size n place place header) (below : Unchanged (row ws′ index) (row ws₁ index) 0 main-size)
           (σ : Store ws₁ index used) where
         abbrev cached-row : Row
         cached-row = withPosition spelled lo₀
 
-        spliced₁ : Spliced F′ (rowsFrom ws₁ index settled) late late n place place (withPosition spelled lo₀)
+        spliced₁ : Spliced F′ (rowsFrom ws₁ index main-size) delta-size delta-size n place place (withPosition spelled lo₀)
         spliced₁ = rw placed at ς
 
         named₁ : NamesInBounds text (withPosition spelled lo₀)
         named₁ = record { test = spelled-as .whole .named .test; path = spelled-as .whole .named .path }
 
-        run₁ : IsEqualRange text F′ late (keyOf text (withPosition spelled lo₀)) place place
+        run₁ : IsEqualRange text F′ delta-size (keyOf text (withPosition spelled lo₀)) place place
         run₁ = record {
           low = partition-again (withPosition spelled lo₀) F F′ false spelled-key (λ k l. ap (keyOf text) (behind k l)) (ρ₁ .low);
           high = partition-again (withPosition spelled lo₀) F F′ true spelled-key (λ k l. ap (keyOf text) (behind k l)) (ρ₁ .high);
         }
 
-        header-there : rowsFrom ws₁ index settled place ≡ withPosition spelled lo₀
+        header-there : rowsFrom ws₁ index main-size place ≡ withPosition spelled lo₀
         header-there = spliced₁ .header .new (omega arith)
 
-        header-said₁ : HeaderAs text (withPosition spelled lo₀) (spellingOf (pathOf text key) (livesIn text E lo₀ hi₀)) (rowsFrom ws₁ index settled place)
+        header-said₁ : HeaderAs text (withPosition spelled lo₀) (spellingOf (pathOf text key) (livesIn text E lo₀ hi₀)) (rowsFrom ws₁ index main-size place)
         header-said₁ = rw header-there (record {
           whole = record { named = named₁; good = omega (arith, spelled-tag) };
           is = ap (inSection (keyOf text (withPosition spelled lo₀))) (section-item text (withPosition spelled lo₀) (omega (arith, spelled-tag)) ∙ spelled-path);
         })
 
-        foreign₁ : (i : ℕ) → i < settled → isLive (E′ i) ≡ true → compareSections (keyOf text (withPosition spelled lo₀)) (keyOf text (E′ i)) ≢ Ordering·eq
+        foreign₁ : (i : ℕ) → i < main-size → isLive (E′ i) ≡ true → compareSections (keyOf text (withPosition spelled lo₀)) (keyOf text (E′ i)) ≢ Ordering·eq
         foreign₁ i l a q = marked-foreign π ρ₀ σ′ β i l a (sym (ap₂ compareSections spelled-key (marked-keys π ρ₀ σ′ β i l)) ∙ q)
 
-        place₁ : PartitionPoint (PastRow false text E′ (keyOf text (withPosition spelled lo₀))) settled lo₀
+        place₁ : PartitionPoint (PastRow false text E′ (keyOf text (withPosition spelled lo₀))) main-size lo₀
         place₁ = partition-again (withPosition spelled lo₀) E E′ false spelled-key (marked-keys π ρ₀ σ′ β) (ρ₀ .low)
 
         lower-same : lowerAt text F′ place ≡ lowerAt text F place
         lower-same = tabulate-cong (λ k. entryOf text (F′ k)) (λ k. entryOf text (F k)) place
             (λ k l. ap (entryOf text) (behind k (omega (arith, ρ₁ .low .most))))
 
-        higher-same : higherAt text F′ late place place ≡ higherAt text F late place place
-        higher-same = tabulate-cong (λ k. entryOf text (F′ (place + (place - place + k)))) (λ k. entryOf text (F (place + (place - place + k)))) (late - place)
+        higher-same : higherAt text F′ delta-size place place ≡ higherAt text F delta-size place place
+        higher-same = tabulate-cong (λ k. entryOf text (F′ (place + (place - place + k)))) (λ k. entryOf text (F (place + (place - place + k)))) (delta-size - place)
             (λ k l. ap (entryOf text) (behind (place + (place - place + k)) (omega arith)))
 
-        pub committed-moved : {r : ℕ} → r ≡ place + (n + 1) + (late - place)
-            → Committed text ws ws₁ index used (three settled late dead) n key (three settled r (dead + buried))
+        pub committed-moved : {r : ℕ} → r ≡ place + (n + 1) + (delta-size - place)
+            → Committed text ws ws₁ index used (three main-size delta-size deleted) n key (three main-size r (deleted + marked))
         committed-moved count = rw count (record {
           report =
               delta-report π′ ι′ (ο .room) named₁ spelled-tag foreign₁ place₁ refl run₁ spliced₁ below σ header-said₁
               ∙ ap₂ mergeReports (marked-live-entries π ρ₀ σ′ β) (ap₂ _++_ lower-same (ap₂ _++_ (new-as (withPosition spelled lo₀) spelled-key) higher-same))
-              ∙ first-by-second (testOf text key) (pathOf text key) its (livesLow text E lo₀) (livesIn text E lo₀ hi₀) (livesHigh text E settled lo₀ hi₀)
-              (lowerAt text F place) [] (higherAt text F late place place) (low-live-entries ρ₀) (in-live-entries ρ₀) (high-live-entries ρ₀) (lower-all ρ₁) tt (higher-all ρ₁)
-              ∙ sym (kept-some (keptAt text ws index settled late) ∙ ap (replaceSection (testOf text key) (pathOf text key) its) before);
+              ∙ first-by-second (testOf text key) (pathOf text key) its (livesLow text E lo₀) (livesIn text E lo₀ hi₀) (livesHigh text E main-size lo₀ hi₀)
+              (lowerAt text F place) [] (higherAt text F delta-size place place) (low-live-entries ρ₀) (in-live-entries ρ₀) (high-live-entries ρ₀) (lower-all ρ₁) tt (higher-all ρ₁)
+              ∙ sym (kept-some (keptAt text ws index main-size delta-size) ∙ ap (replaceSection (testOf text key) (pathOf text key) its) before);
           held = delta-held π′ ι′ (ο .room) named₁ spelled-tag foreign₁ place₁ refl run₁ spliced₁ below σ header-said₁;
         })
 
       -- the section comes in place of some of them
-      module _ (ws₁ : List ℕ) (fits : n + 1 ≤ hi₀ - lo₀) (ς : Spliced E′ (rowsFrom ws₁ index 0) (settled + late) (settled + late) n lo₀ (lo₀ + (n + 1)) spelled)
+      module _ (ws₁ : List ℕ) (fits : n + 1 ≤ hi₀ - lo₀) (ς : Spliced E′ (rowsFrom ws₁ index 0) (main-size + delta-size) (main-size + delta-size) n lo₀ (lo₀ + (n + 1)) spelled)
           (σ : Store ws₁ index used) where
         named₂ : NamesInBounds text spelled
         named₂ = spelled-as .whole .named
 
-        run₂ : IsEqualRange text E′ settled (keyOf text spelled) lo₀ hi₀
+        run₂ : IsEqualRange text E′ main-size (keyOf text spelled) lo₀ hi₀
         run₂ = record {
           low = partition-again spelled E E′ false spelled-key (marked-keys π ρ₀ σ′ β) (ρ₀ .low);
           high = partition-again spelled E E′ true spelled-key (marked-keys π ρ₀ σ′ β) (ρ₀ .high);
@@ -273,7 +273,7 @@ module _ {text ws : List ℕ} {index used settled late dead n lo₀ hi₀ : ℕ}
         deleted : (k : ℕ) → lo₀ ≤ k → k < hi₀ → isLive (E′ k) ≡ false
         deleted k l h = tag-deleted (E′ k) (marked-deleted π ρ₀ σ′ β k l h)
 
-        foreign₂ : (j : ℕ) → j < late → compareSections (keyOf text spelled) (keyOf text (F′ j)) ≢ Ordering·eq
+        foreign₂ : (j : ℕ) → j < delta-size → compareSections (keyOf text spelled) (keyOf text (F′ j)) ≢ Ordering·eq
         foreign₂ j l q =
             let e : compareSections (keyOf text key) (keyOf text (F j)) ≡ Ordering·eq =
             sym (ap₂ compareSections spelled-key (ap (keyOf text) (behind j l))) ∙ q in
@@ -290,38 +290,38 @@ module _ {text ws : List ℕ} {index used settled late dead n lo₀ hi₀ : ℕ}
           is = ap (inSection (keyOf text spelled)) (section-item text spelled (omega (arith, spelled-tag)) ∙ spelled-path);
         })
 
-        pub room : n + 1 ≤ dead + buried
+        pub room : n + 1 ≤ deleted + marked
         room = deleted-room π′ ι′ named₂ spelled-tag run₂ fits deleted foreign₂ ς σ header-said₂
 
         low-same : livesLow text E′ lo₀ ≡ livesLow text E lo₀
         low-same = ap (map (entryOf text)) (live-cong E′ E lo₀ (λ k l. β .below (0 + k) (omega arith) (omega arith)))
 
-        high-same : livesHigh text E′ settled lo₀ hi₀ ≡ livesHigh text E settled lo₀ hi₀
-        high-same = ap (map (entryOf text)) (live-cong (λ k. E′ (lo₀ + (hi₀ - lo₀ + k))) (λ k. E (lo₀ + (hi₀ - lo₀ + k))) (settled - hi₀)
+        high-same : livesHigh text E′ main-size lo₀ hi₀ ≡ livesHigh text E main-size lo₀ hi₀
+        high-same = ap (map (entryOf text)) (live-cong (λ k. E′ (lo₀ + (hi₀ - lo₀ + k))) (λ k. E (lo₀ + (hi₀ - lo₀ + k))) (main-size - hi₀)
             (λ k l. β .above (0 + (lo₀ + (hi₀ - lo₀ + k))) (omega (arith, range-ends ρ₀)) (omega (arith, range-ends ρ₀, π .main .room))))
 
-        delta-same : entriesFrom text ws′ index settled late ≡ lowerAt text F place ++ higherAt text F late place place
-        delta-same = tabulate-cong (λ k. entryOf text (F′ k)) (λ k. entryOf text (F k)) late (λ k l. ap (entryOf text) (behind k l)) ∙ delta-none
+        delta-same : entriesFrom text ws′ index main-size delta-size ≡ lowerAt text F place ++ higherAt text F delta-size place place
+        delta-same = tabulate-cong (λ k. entryOf text (F′ k)) (λ k. entryOf text (F k)) delta-size (λ k l. ap (entryOf text) (behind k l)) ∙ delta-none
 
-        pub committed-placed : Committed text ws ws₁ index used (three settled late dead) n key (three settled late (dead + buried - (n + 1)))
+        pub committed-placed : Committed text ws ws₁ index used (three main-size delta-size deleted) n key (three main-size delta-size (deleted + marked - (n + 1)))
         committed-placed = record {
           report =
               placed-report π′ ι′ named₂ spelled-tag run₂ fits deleted foreign₂ ς σ header-said₂
               ∙ ap₂ mergeReports (ap₂ _++_ low-same (ap₂ _++_ (new-as spelled spelled-key) high-same)) delta-same
-              ∙ first-by-first (testOf text key) (pathOf text key) its (livesLow text E lo₀) (livesIn text E lo₀ hi₀) (livesHigh text E settled lo₀ hi₀)
-              (lowerAt text F place) [] (higherAt text F late place place) (low-live-entries ρ₀) (in-live-entries ρ₀) (high-live-entries ρ₀) (lower-all ρ₁) tt (higher-all ρ₁)
-              ∙ sym (kept-some (keptAt text ws index settled late) ∙ ap (replaceSection (testOf text key) (pathOf text key) its) before);
+              ∙ first-by-first (testOf text key) (pathOf text key) its (livesLow text E lo₀) (livesIn text E lo₀ hi₀) (livesHigh text E main-size lo₀ hi₀)
+              (lowerAt text F place) [] (higherAt text F delta-size place place) (low-live-entries ρ₀) (in-live-entries ρ₀) (high-live-entries ρ₀) (lower-all ρ₁) tt (higher-all ρ₁)
+              ∙ sym (kept-some (keptAt text ws index main-size delta-size) ∙ ap (replaceSection (testOf text key) (pathOf text key) its) before);
           held = placed-held π′ ι′ named₂ spelled-tag run₂ fits deleted foreign₂ ς σ header-said₂;
         }
 
 -- ---- what the calls of `commit` ask
 
-module _ {text ws : List ℕ} {index used settled late dead lo hi : ℕ} {key : SectionKey} (π : InParts text ws index used settled late dead)
-    (ρ : IsEqualRange text (rowsFrom ws index 0) settled key lo hi) where
+module _ {text ws : List ℕ} {index used main-size delta-size deleted lo hi : ℕ} {key : SectionKey} (π : InParts text ws index used main-size delta-size deleted)
+    (ρ : IsEqualRange text (rowsFrom ws index 0) main-size key lo hi) where
   at-zero : (k : ℕ) → rowsFrom ws index 0 k ≡ row ws index k
   at-zero k = ap (row ws index) (let e : 0 + k ≡ k = omega arith in e)
 
-  -- of the rows of a key, the living come first
+  -- of the rows of a key, the live ones come first
   pub range-front : (i j : ℕ) → lo ≤ i → i < j → j < hi → isLive (row ws index j) ≡ true → isLive (row ws index i) ≡ true
   range-front i j p q h a =
       ap isLive (sym (at-zero i))
@@ -330,22 +330,22 @@ module _ {text ws : List ℕ} {index used settled late dead lo hi : ℕ} {key : 
       ∙ sections-order .same key)
       (ap isLive (at-zero j) ∙ a)
 
-  -- where one lives, no late one has the key
-  pub none-delta-has : lo < hi → isLive (row ws index lo) ≡ true → (place : ℕ) × IsEqualRange text (rowsFrom ws index settled) late key place place
+  -- where one is live, the delta does not have the key
+  pub none-delta-has : lo < hi → isLive (row ws index lo) ≡ true → (place : ℕ) × IsEqualRange text (rowsFrom ws index main-size) delta-size key place place
   none-delta-has l a = range-absent key (π .delta .rows) (λ j h q. π .apart lo j (omega (arith, ρ .high .most)) (ap isLive (at-zero lo) ∙ a) h
       (ap₂ compareSections (sym (sections-order .equal q)) (sym (sections-order .equal (range-in ρ lo (omega arith) l))) ∙ sections-order .same key))
 
--- where the run of a key ends, and how many of its rows die, as far as `omega` needs it
-pub record Bounds (settled late dead used n lo hi buried : ℕ) : Type 0 where
+-- the end of a key's equal range, and how many of its rows are marked, as far as `omega` needs it
+pub record Bounds (main-size delta-size deleted used n lo hi marked : ℕ) : Type 0 where
   pub ends : lo ≤ hi
-  pub most : hi ≤ settled
-  pub rows : settled + late + 1 + n ≤ used
-  pub died : dead ≤ settled
-  pub lived : buried ≤ hi - lo
+  pub most : hi ≤ main-size
+  pub rows : main-size + delta-size + 1 + n ≤ used
+  pub died : deleted ≤ main-size
+  pub lived : marked ≤ hi - lo
 
-pub bounds : {text ws : List ℕ} {g : ℕ → Row} {index used settled late dead n lo hi buried : ℕ} {key : SectionKey} → InParts text ws index used settled late dead
-    → IsEqualRange text (rowsFrom ws index 0) settled key lo hi → settled + late + 1 + n ≤ used
-    → MarkedDeleted (row ws index) g used lo hi buried → Bounds settled late dead used n lo hi buried
+pub bounds : {text ws : List ℕ} {g : ℕ → Row} {index used main-size delta-size deleted n lo hi marked : ℕ} {key : SectionKey} → InParts text ws index used main-size delta-size deleted
+    → IsEqualRange text (rowsFrom ws index 0) main-size key lo hi → main-size + delta-size + 1 + n ≤ used
+    → MarkedDeleted (row ws index) g used lo hi marked → Bounds main-size delta-size deleted used n lo hi marked
 bounds {ws = ws} {index = index} {lo = lo} {hi = hi} π ρ room β = record {
   ends = range-ends ρ;
   most = ρ .high .most;
@@ -354,6 +354,6 @@ bounds {ws = ws} {index = index} {lo = lo} {hi = hi} π ρ room β = record {
   lived = omega (arith, β .count, live-most (λ k. row ws index (lo + k)) (hi - lo));
 }
 
--- a run of no entries, told by its start
+-- an empty range, given by its start
 pub range-at : {text : Bytes} {f : ℕ → Row} {n lo hi : ℕ} {key : SectionKey} → IsEqualRange text f n key lo hi → hi ≤ lo → IsEqualRange text f n key lo lo
 range-at {lo = lo} {hi = hi} ρ h = let e : hi ≡ lo = omega (arith, range-ends ρ) in rw e at ρ

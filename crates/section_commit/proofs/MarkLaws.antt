@@ -1,5 +1,5 @@
--- Rows of two parts as one, the dead among them: by section, and in a section the living first. Of that the living are the two reports as one.
--- Assumes nothing.
+-- Rows of main and delta in one order, tombstones included: by section, and in a section the live rows first. Of these
+-- the live rows are the merged report. Assumes nothing.
 use mathlib.Core.Path.{_≡_, refl, sym, ap, _∙_}
 use mathlib.Core.Bool.{Bool, true, false}
 use mathlib.Core.List.{List, [], _∷_, map}
@@ -20,7 +20,7 @@ use Rattle.table_section.specs.Sections.{entryOf, keyOf}
 use Rattle.section_commit.specs.Commit.{mergeSorted, mergeReports}
 use Rattle.section_commit.proofs.PairLaws.{Pairs}
 
--- a section's key, and whether the row is dead
+-- a section's key, and whether the row is deleted
 abbrev pub Mark : Type 0
 Mark = SectionKey × ℕ
 
@@ -43,7 +43,7 @@ module _ (text : Bytes) where
   abbrev both : List Row → List Row → List Row
   both xs ys = mergeSorted (markOf text) compareMarks xs ys
 
-  -- a living row behind a dead one is of a later section
+  -- a live row behind a deleted one is of a greater section
   abbrev pub Front : Row → Row → Type 0
   Front a b = isLive a ≡ false → isLive b ≡ true → compareSections (keyOf text a) (keyOf text b) ≡ Ordering·lt
 
@@ -66,7 +66,7 @@ module _ (text : Bytes) where
       let o : compareSections (sectionKey x) (sectionKey y) ≡ Ordering·gt = sections-order .greater (h .0) in
       rw o
 
-  -- the living behind a dead row that comes no earlier than y
+  -- the live rows behind a deleted row that is not less than y
   later : (x y : Row) → isLive x ≡ false → (o : Ordering) → compareSections (keyOf text x) (keyOf text y) ≡ o → (o ≡ Ordering·lt → ⊥)
       → (xs : List Row) → All (Front x) xs → All (λ e. compareSections (keyOf text y) (sectionKey e) ≡ Ordering·lt) (live-entries xs)
   unfolding filter
@@ -111,10 +111,10 @@ module _ (text : Bytes) where
           live-entries-some y _ (s .0)
           ∙ ap (λ (l : Report). entryOf text y ∷ l) (i ∙ ap (λ (l : Report). mergeReports l (entries ys)) (live-entries-some x xs t)) ∙ (rw e refl)
 
-      dead-later : isLive x ≡ false → (o : Ordering) → compareSections (keyOf text x) (keyOf text y) ≡ o → (o ≡ Ordering·lt → ⊥)
+      deleted-later : isLive x ≡ false → (o : Ordering) → compareSections (keyOf text x) (keyOf text y) ≡ o → (o ≡ Ordering·lt → ⊥)
           → live-entries (both (x ∷ xs) ys) ≡ mergeReports (live-entries (x ∷ xs)) (entries ys)
           → live-entries (y ∷ both (x ∷ xs) ys) ≡ mergeReports (live-entries xs) (entries (y ∷ ys))
-      dead-later t o e n i =
+      deleted-later t o e n i =
           live-entries-some y _ (s .0)
           ∙ ap (λ (l : Report). entryOf text y ∷ l) (i ∙ ap (λ (l : Report). mergeReports l (entries ys)) (live-entries-none x xs t))
           ∙ sym (before-all (entryOf text y) (entries ys) (live-entries xs) (later x y t o e n xs a))
@@ -128,13 +128,14 @@ module _ (text : Bytes) where
           ap live-entries (marked false t Ordering·lt e) ∙ live-entries-none x _ t ∙ rest (y ∷ ys) s
           ∙ ap (λ (l : Report). mergeReports l (entries (y ∷ ys))) (sym (live-entries-none x xs t))
       go false t Ordering·eq e i =
-          ap live-entries (marked false t Ordering·eq e) ∙ dead-later t Ordering·eq e (λ z. impossible cc) i
+          ap live-entries (marked false t Ordering·eq e) ∙ deleted-later t Ordering·eq e (λ z. impossible cc) i
           ∙ ap (λ (l : Report). mergeReports l (entries (y ∷ ys))) (sym (live-entries-none x xs t))
       go false t Ordering·gt e i =
-          ap live-entries (marked false t Ordering·gt e) ∙ dead-later t Ordering·gt e (λ z. impossible cc) i
+          ap live-entries (marked false t Ordering·gt e) ∙ deleted-later t Ordering·gt e (λ z. impossible cc) i
           ∙ ap (λ (l : Report). mergeReports l (entries (y ∷ ys))) (sym (live-entries-none x xs t))
 
-  -- THE LIVING OF BOTH: what lives of the rows of both parts is the living of the first and the entries of the second as one report
+  -- THE LIVE ROWS OF BOTH: the live rows of main and delta in one order are the merged report of main's live rows and
+  -- the delta's
   pub live-entries-both : (xs ys : List Row) → Pairs Front xs → Living ys → live-entries (both xs ys) ≡ mergeReports (live-entries xs) (entries ys)
   unfolding filter
   live-entries-both [] ys a s = all ys s

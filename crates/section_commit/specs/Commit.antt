@@ -1,5 +1,5 @@
--- The kept sections in two parts: settled ones, and behind them late ones, which come among these later. A settled entry that was replaced
--- stays where it stands, dead, until many are dropped together. Assumes nothing.
+-- The kept sections in two sorted parts: main, and behind it the delta, which is merged into main later. A replaced row
+-- of main is a tombstone until compaction. Assumes nothing.
 use Prim.Native.Nat.{ℕ, _+_, _<_, Ordering, Ordering·eq}
 use mathlib.Core.Path.{_≡_}
 use mathlib.Core.Logic.{_≢_}
@@ -40,15 +40,15 @@ module _ {E K : Type 0} (key : E → K) (cmp : K → K → Ordering) where
 abbrev pub mergeReports : Report → Report → Report
 mergeReports xs ys = mergeSorted sectionKey compareSections xs ys
 
--- the entries that the living of the first n rows f are
+-- the entries of the live ones of the first n rows f
 abbrev pub liveEntriesOf : Bytes → (ℕ → Row) → ℕ → Report
 liveEntriesOf text f n = map (entryOf text) (liveRows f n)
 
--- the report that the settled entries and the late ones behind them are
+-- the report of main and of the delta behind it
 abbrev pub keptAt : Bytes → List ℕ → ℕ → ℕ → ℕ → Report
-keptAt text ws index settled late = mergeReports (liveEntriesOf text (rowsFrom ws index 0) settled) (entriesFrom text ws index settled late)
+keptAt text ws index main-size delta-size = mergeReports (liveEntriesOf text (rowsFrom ws index 0) main-size) (entriesFrom text ws index main-size delta-size)
 
--- a section's own row that says its place among the settled entries
+-- a header row that caches its insert position in main
 abbrev pub withPosition : Row → ℕ → Row
 withPosition r place = record {
   test = r .test;
@@ -62,23 +62,23 @@ withPosition r place = record {
   count = r .count;
 }
 
--- r is the place of the j-th late entry: how many of the settled ones it goes behind
+-- r is the insert position of the delta's j-th entry: how many entries of main come before it
 abbrev pub PositionOf : Bytes → List ℕ → ℕ → ℕ → ℕ → ℕ → Type 0
-PositionOf text ws index settled j r = PartitionPoint (PastRow false text (rowsFrom ws index 0) (keyOf text (rowsFrom ws index settled j))) settled r
+PositionOf text ws index main-size j r = PartitionPoint (PastRow false text (rowsFrom ws index 0) (keyOf text (rowsFrom ws index main-size j))) main-size r
 
--- each part is in order, and late sections' own rows say their places; the dead are settled, behind the living of their section, and no
--- section lives in both parts
-pub record InParts (text ws : List ℕ) (index used settled late dead : ℕ) : Type 0 where
-  pub main : SectionsFrom text ws index used 0 settled
-  pub delta : SectionsFrom text ws index used settled late
-  pub front : (i j : ℕ) → i < j → j < settled
+-- each part is sorted, and the delta's header rows cache their insert positions; tombstones are in main, behind the
+-- live rows of their section, and no section is live in both parts
+pub record InParts (text ws : List ℕ) (index used main-size delta-size deleted : ℕ) : Type 0 where
+  pub main : SectionsFrom text ws index used 0 main-size
+  pub delta : SectionsFrom text ws index used main-size delta-size
+  pub front : (i j : ℕ) → i < j → j < main-size
       → compareSections (keyOf text (rowsFrom ws index 0 i)) (keyOf text (rowsFrom ws index 0 j)) ≡ Ordering·eq
       → isLive (rowsFrom ws index 0 j) ≡ true → isLive (rowsFrom ws index 0 i) ≡ true
-  pub live : (j : ℕ) → j < late → isLive (rowsFrom ws index settled j) ≡ true
-  pub apart : (i j : ℕ) → i < settled → isLive (rowsFrom ws index 0 i) ≡ true → j < late
-      → compareSections (keyOf text (rowsFrom ws index settled j)) (keyOf text (rowsFrom ws index 0 i)) ≢ Ordering·eq
-  pub positions : (j : ℕ) → j < late → kindOf (rowsFrom ws index settled j) ≡ 0 → PositionOf text ws index settled j (rowsFrom ws index settled j .k1)
-  pub count : length (liveRows (rowsFrom ws index 0) settled) + dead ≡ settled
+  pub live : (j : ℕ) → j < delta-size → isLive (rowsFrom ws index main-size j) ≡ true
+  pub apart : (i j : ℕ) → i < main-size → isLive (rowsFrom ws index 0 i) ≡ true → j < delta-size
+      → compareSections (keyOf text (rowsFrom ws index main-size j)) (keyOf text (rowsFrom ws index 0 i)) ≢ Ordering·eq
+  pub positions : (j : ℕ) → j < delta-size → kindOf (rowsFrom ws index main-size j) ≡ 0 → PositionOf text ws index main-size j (rowsFrom ws index main-size j .k1)
+  pub count : length (liveRows (rowsFrom ws index 0) main-size) + deleted ≡ main-size
 
 -- the words hold the parts
 abbrev pub KeptSections : List ℕ → List ℕ → ℕ → ℕ → KeptSizes → Type 0
@@ -88,33 +88,33 @@ KeptSections text ws index used p = InParts text ws index used (p .main) (p .del
 abbrev pub reportOf : Bytes → List ℕ → ℕ → KeptSizes → Report
 reportOf text ws index p = keptAt text ws index (p .main) (p .delta)
 
--- ---- the late ones settled
+-- ---- the delta merged
 
--- the words from spare on are the places of the late entries, and no other word has changed
-pub record PositionsWritten (text ws ws′ : List ℕ) (index spare settled late : ℕ) : Type 0 where
-  pub kept : UnchangedOutside ws ws′ spare (spare + late)
-  pub places : (j : ℕ) → j < late → PositionOf text ws index settled j (word ws′ (spare + j))
+-- the words from spare on are the delta's insert positions, and no other word has changed
+pub record PositionsWritten (text ws ws′ : List ℕ) (index spare main-size delta-size : ℕ) : Type 0 where
+  pub kept : UnchangedOutside ws ws′ spare (spare + delta-size)
+  pub places : (j : ℕ) → j < delta-size → PositionOf text ws index main-size j (word ws′ (spare + j))
 
 -- the parts have changed, and the report has not
 pub record SameReport (text ws ws′ : List ℕ) (index used : ℕ) (p r : KeptSizes) : Type 0 where
   pub report : reportOf text ws′ index r ≡ reportOf text ws index p
   pub held : KeptSections text ws′ index used r
 
--- all are settled, and none is dead: the first n entries are the report
+-- all entries are in main, and there is no tombstone: the first n entries are the report
 pub record MergedAndCompacted (text ws ws′ : List ℕ) (index used : ℕ) (p : KeptSizes) (n : ℕ) : Type 0 where
   pub report : entriesFrom text ws′ index 0 n ≡ reportOf text ws index p
   pub held : InParts text ws′ index used n 0 0
 
 -- ---- the end of a section
 
--- r has the test name, the path and the tag of the key, wherever they stand in the text
+-- r has the test name, the path and the tag of the key, at any offsets in the text
 pub record SameNameBytes (text : Bytes) (key r : Row) : Type 0 where
   pub named : NamesInBounds text r
   pub test : testOf text r ≡ testOf text key
   pub path : pathOf text r ≡ pathOf text key
   pub tag : r .tag ≡ key .tag
 
--- the open section behind the late ones is kept, as the model keeps it
+-- the open section, which follows the delta, is kept as the model keeps it
 pub record Committed (text ws ws′ : List ℕ) (index used : ℕ) (p : KeptSizes) (n : ℕ) (key : Row) (r : KeptSizes) : Type 0 where
   pub report : reportOf text ws′ index r
       ≡ keepSection (testOf text key) (pathOf text key) (itemsAt text ws index (p .main + p .delta + 1) n) (reportOf text ws index p)

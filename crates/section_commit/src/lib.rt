@@ -1,8 +1,8 @@
-// Sections that end out of order: turning blocks of the index for each of them would move the index again and again. So they are late ones
-// at first, in order among themselves, behind the settled ones; and many of them are settled in one pass. The place among the settled ones
-// is looked up once, when a section ends, and noted in its own row, whose k1 means nothing else.
-// A settled section that is replaced is marked dead where it stands. The new one takes as many of its places as it needs, and comes among
-// the late ones where they are too few; many dead rows are dropped in one pass.
+// Commits a finished section to the kept ones: a sorted main part, a sorted delta behind it, and tombstones in main. A
+// section whose key is the greatest is appended to main. One that replaces a section of main overwrites it in place if
+// it fits there; main's rows of that key become tombstones. Any other section goes to the delta, which is merged into
+// main when it exceeds DELTA_ENTRIES. Its insert position in main is searched once, at commit, and cached in k1 of the
+// header row, which no header row uses otherwise.
 use table::Row;
 use table_section::EqualRange;
 use table_section::compare_sections;
@@ -22,26 +22,26 @@ ghost use Rattle.table_item.specs.SortedItems.{SortedItems};
 ghost use Rattle.table_section.specs.Sections.{keyOf, NamesInBounds, rowsFrom, IsEqualRange};
 ghost use Rattle.section_commit.specs.Commit.{withPosition, SameNameBytes, KeptSections, PositionOf, PositionsWritten, MergedAndCompacted, SameReport, Committed};
 
-// How many kept rows are settled, how many are late, and how many of the settled ones are dead.
+// The number of rows in main and in the delta, and how many of main's are tombstones.
 pub struct KeptSizes {
     pub main: usize,
     pub delta: usize,
     pub tombstones: usize,
 }
 
-// Late entries are settled when there are more than these.
+// The delta is merged when it has more entries than this.
 pub const DELTA_ENTRIES: usize = 1024;
 
-// A section's own row that says its place among the settled entries.
+// A header row that caches its insert position in main.
 fn with_position(key: Row, place: usize) -> Row
     ensures { λ r. ⌜ r ≡ withPosition key place ⌝ }
 {
-    let mut own = key;
-    own.k1 = place as u64;
-    own
+    let mut header = key;
+    header.k1 = place as u64;
+    header
 }
 
-// How many of the settled entries the j-th late one goes behind: an own row says it, and another entry goes behind as many as the one
+// The insert position in main of the delta's j-th entry. A header row has it cached; an item shares that of the entry
 // before it, if that is of the same section.
 fn position_of(
     text: &[u8],
@@ -56,22 +56,22 @@ fn position_of(
     requires { ⌜ (0 < j → PositionOf (now text) (now words) index (kept .main) (j - 1) (word (now words) (spare + (j - 1)))) ⌝ }
     ensures { λ r. ⌜ PositionOf (now (text .entry)) (now (words .entry)) index (kept .main) j r ⌝ }
 {
-    let settled = kept.main;
-    let entry = table::get(words, index, used, settled + j);
+    let main = kept.main;
+    let entry = table::get(words, index, used, main + j);
     if entry.tag / 2 == table_item::SECTION {
         return entry.k1 as usize;
     }
     if 0 < j {
-        let before = table::get(words, index, used, settled + (j - 1));
+        let before = table::get(words, index, used, main + (j - 1));
         if compare::is_equal(compare_sections(text, entry, before)) {
             return words[spare + (j - 1)] as usize;
         }
     }
-    let run = equal_range(text, words, index, used, 0, settled, entry);
-    run.lo
+    let range = equal_range(text, words, index, used, 0, main, entry);
+    range.lo
 }
 
-// The places of the late entries, noted in the words from `spare` on.
+// Writes the delta's insert positions to the words from `spare` on.
 fn write_positions(
     text: &[u8],
     words: &mut [u64],
@@ -91,7 +91,7 @@ fn write_positions(
     }
 }
 
-// The late entries come among the settled ones.
+// Merges the delta into main.
 fn merge_delta(
     text: &[u8],
     words: &mut [u64],
@@ -113,7 +113,7 @@ fn merge_delta(
     }
 }
 
-// The late entries come among the settled ones, and the dead are dropped. Answers how many entries there are.
+// Merges the delta into main and compacts the tombstones. Answers the number of entries.
 pub fn merge_and_compact(
     text: &[u8],
     words: &mut [u64],
@@ -132,7 +132,7 @@ pub fn merge_and_compact(
     table_tombstone::compact(words, index, used, all.main, spare)
 }
 
-// The late entries are settled when they are many, and the dead are dropped when there are more than `slack`.
+// Merges the delta when it is large, and compacts when there are more than `slack` tombstones.
 fn maintain(
     text: &[u8],
     words: &mut [u64],
@@ -160,7 +160,7 @@ fn maintain(
     kept
 }
 
-// Whether the first of the settled rows from lo up to hi, which have one key, is there and lives. Then no late one has that key.
+// True if the range is not empty and its first row is live: the delta then cannot contain the key.
 fn is_live_at(words: &[u64], index: usize, used: usize, lo: usize, hi: usize) -> bool
     requires { ⌜ Store (now words) index used × (hi ≤ used) ⌝ }
     ensures { λ r. ⌜ (r ≡ true → (lo < hi) × (isLive (row (now (words .entry)) index lo) ≡ true)) ⌝ }
@@ -172,8 +172,8 @@ fn is_live_at(words: &[u64], index: usize, used: usize, lo: usize, hi: usize) ->
     first.tag != table_item::TOMBSTONE
 }
 
-// The open section is kept, where a settled one that lives has its key, and as many rows at least: these die, and it comes in their place. No
-// other row moves.
+// Overwrites a live section of main that has the key and at least as many rows: its rows are marked deleted, and the
+// open section takes the first of their positions. No other row moves.
 fn commit_in_place(
     text: &[u8],
     words: &mut [u64],
@@ -193,21 +193,22 @@ fn commit_in_place(
 {
     let all = kept.main + kept.delta;
     let lo = range.lo;
-    let own = header_row(words, index, used, 0, lo, range.hi, key);
-    let dead = kept.tombstones + mark_deleted(words, index, used, lo, range.hi);
+    let header = header_row(words, index, used, 0, lo, range.hi, key);
+    let deleted = kept.tombstones + mark_deleted(words, index, used, lo, range.hi);
     let taken = EqualRange {
         lo: lo,
         hi: lo + (n + 1),
     };
-    splice(words, index, used, spare, 0, all, taken, n, own);
+    splice(words, index, used, spare, 0, all, taken, n, header);
     KeptSizes {
         main: kept.main,
         delta: kept.delta,
-        tombstones: dead - (n + 1),
+        tombstones: deleted - (n + 1),
     }
 }
 
-// The open section is kept among the late ones, at the place of its key, which none of them has. Settled rows that have it die.
+// Adds the open section to the delta, which does not have its key, at the insert position `position`. Rows of main that
+// have the key are marked deleted.
 fn commit_delta(
     text: &[u8],
     words: &mut [u64],
@@ -226,33 +227,33 @@ fn commit_delta(
     requires { ⌜ NamesInBounds (now text) key × (key .tag ≡ 0) × (index + used ≤ spare) × (spare + used + used ≤ length (now words)) ⌝ }
     ensures { λ r. ⌜ Committed (now (text .entry)) (now (words .entry)) (now (words .exit)) index used kept n key r ⌝ }
 {
-    let settled = kept.main;
+    let main = kept.main;
     let spelled = header_row(words, index, used, 0, range.lo, range.hi, key);
-    let dead = kept.tombstones + mark_deleted(words, index, used, range.lo, range.hi);
+    let deleted = kept.tombstones + mark_deleted(words, index, used, range.lo, range.hi);
     let among = EqualRange {
         lo: position,
         hi: position,
     };
-    let own = with_position(spelled, range.lo);
-    let many = splice(
+    let header = with_position(spelled, range.lo);
+    let grown = splice(
         words,
         index,
         used,
         spare,
-        settled,
+        main,
         kept.delta,
         among,
         n,
-        own,
+        header,
     );
     KeptSizes {
-        main: settled,
-        delta: many,
-        tombstones: dead,
+        main: main,
+        delta: grown,
+        tombstones: deleted,
     }
 }
 
-// The open section is kept among settled and late ones.
+// Commits the open section where its key is not the greatest.
 fn commit(
     text: &[u8],
     words: &mut [u64],
@@ -274,9 +275,9 @@ fn commit(
             return commit_in_place(text, words, index, used, spare, kept, range, n, key);
         }
     }
-    let settled = kept.main;
-    let late = kept.delta;
-    let among = equal_range(text, words, index, used, settled, late, key);
+    let main = kept.main;
+    let delta = kept.delta;
+    let among = equal_range(text, words, index, used, main, delta, key);
     if among.hi <= among.lo {
         return commit_delta(
             text,
@@ -291,17 +292,17 @@ fn commit(
             key,
         );
     }
-    let own = with_position(key, range.lo);
-    let many = splice(words, index, used, spare, settled, late, among, n, own);
+    let header = with_position(key, range.lo);
+    let grown = splice(words, index, used, spare, main, delta, among, n, header);
     KeptSizes {
-        main: settled,
-        delta: many,
+        main: main,
+        delta: grown,
         tombstones: kept.tombstones,
     }
 }
 
-// The section's key with the test name where the first kept row has it, if that is the same one. Then rows of one test name, as most texts
-// have, hold it at one place, and are compared without reading it.
+// The section's key with the first kept row's offset of the test name, if the names are equal. Most texts have one test name: their
+// rows then share its offset and are compared without reading it.
 fn with_known_test(
     text: &[u8],
     words: &[u64],
@@ -327,8 +328,8 @@ fn with_known_test(
     key
 }
 
-// The open section of n items is kept, unless it has none; not more than `slack` rows are left dead. Most texts have their sections in
-// order: then none is late and none dies. `spare` is where free words start.
+// Commits the open section of n items; an empty section is dropped. Leaves at most `slack` tombstones. Most texts have
+// their sections in order: then every section is appended to main. `spare` is the offset of free words.
 pub fn commit_section(
     text: &[u8],
     words: &mut [u64],
@@ -349,19 +350,19 @@ pub fn commit_section(
     if n == 0 {
         return kept;
     }
-    let settled = kept.main;
+    let main = kept.main;
     let known = with_known_test(text, words, index, used, kept, key);
-    let run = equal_range(text, words, index, used, 0, settled, known);
+    let range = equal_range(text, words, index, used, 0, main, known);
     if kept.delta == 0 {
-        if run.lo == settled {
-            let main = splice(words, index, used, spare, 0, settled, run, n, known);
+        if range.lo == main {
+            let grown = splice(words, index, used, spare, 0, main, range, n, known);
             return KeptSizes {
-                main: main,
+                main: grown,
                 delta: 0,
                 tombstones: kept.tombstones,
             };
         }
     }
-    let after = commit(text, words, index, used, spare, kept, run, n, known);
+    let after = commit(text, words, index, used, spare, kept, range, n, known);
     maintain(text, words, index, used, spare, after, slack)
 }

@@ -1,4 +1,4 @@
--- A row is entered into the open section with its queue: one law for each way out. Assumes nothing.
+-- A row is added to the open section with its tail: one law for each exit. Assumes nothing.
 use mathlib.Core.Path.{_≡_, refl, sym, ap, ap₂, _∙_}
 use mathlib.Core.Logic.{_≢_}
 use mathlib.Core.Bool.{Bool, true, false, not}
@@ -47,7 +47,7 @@ module _ {text ws : List ℕ} {index used spare at : ℕ} {s : OpenSizes} (r : R
   abbrev counted : List Item → Answer (List Item)
   counted l = bind (add itemKey compareBytes (combineOf adds) e l) (λ items. within used (at + length items) items)
 
-  -- ---- nothing is queued
+  -- ---- the tail is empty
 
   module _ (z : s .tail ≡ 0) {ws′ : List ℕ} where
     pub exact-items : {n p turns : ℕ} → Exact text ws ws′ index used spare at (s .main) (s .delta) r adds (E.Items n p)
@@ -74,7 +74,7 @@ module _ {text ws : List ℕ} {index used spare at : ℕ} {s : OpenSizes} (r : R
         exact-items (upserted-last text ws index used spare at (s .main) (s .delta) r adds (κ .parts) ws′ y
         (found-last (κ .parts .main) n (ap (λ (x : Row). isLess (compareItems (itemOf text x) (itemOf text r))) (sym f) ∙ b) .is) l ι σ π)
 
-  -- ---- the row is queued
+  -- ---- the row is appended to the tail
 
   pub inserted-next : {ws′ : List ℕ} {place turns : ℕ} → place ≡ endOf at s → not adds ≡ true → s .delta ≡ 0 → place < used → index + used ≤ spare → ItemRow text r
       → Store ws′ index used → Updated (row ws index) (row ws′ index) used place r → UnchangedOutside ws ws′ 0 (index + used)
@@ -125,7 +125,7 @@ module _ {text ws : List ℕ} {index used spare at : ℕ} {s : OpenSizes} (r : R
           ∙ within-fits used (at + length (insert e held)) (insert e held) fits
           ∙ ap accepted (sym held′)
 
--- ---- the queue is settled first
+-- ---- the tail is flushed first
 
 pub after-emptied : {text ws ws₁ ws₂ : List ℕ} {index used spare at : ℕ} {s s₁ : OpenSizes} {r : Row} {adds : Bool} {a : Outcome}
     → TailFlushed text ws ws₁ index used spare at s s₁ → RowAdded text ws₁ ws₂ index used spare at s₁ r adds a

@@ -1,4 +1,4 @@
--- The open section with its queue: how many items it has, and that it stays where its rows stay. Assumes nothing.
+-- The open section with its tail: how many items it has, and that it is unchanged where its rows are. Assumes nothing.
 use mathlib.Core.Path.{_≡_, sym, ap, ap₂, _∙_}
 use mathlib.Core.List.{List, [], _∷_, _++_}
 use Prim.Native.Nat.{ℕ, _+_, _-_, _≤_, _<_}
@@ -38,7 +38,7 @@ pub items-last : (f : ℕ → Item) (i : ℕ) → tabulate f (i + 1) ≡ tabulat
 unfolding tabulate
 items-last f i = tabulate-split f i 1 ∙ ap (λ (k : ℕ). tabulate f i ++ f k ∷ []) (let z : i + 0 ≡ i = omega arith in z)
 
--- ---- where nothing is queued
+-- ---- the tail is empty
 
 pub none-inserted : (text ws : List ℕ) (index at : ℕ) (s : OpenSizes) → s .tail ≡ 0 → itemsOf text ws index at s ≡ allAt text ws index at (s .main) (s .delta)
 unfolding insertAll tabulate
@@ -58,17 +58,17 @@ inserted-none s z π = record {
   inner = λ k l. absurd (omega arith);
 }
 
--- ---- where nothing is recent
+-- ---- the delta is empty
 
 module _ {text ws : List ℕ} {index used spare at : ℕ} {s : OpenSizes} (κ : OpenSection text ws index used spare at s) (z : s .delta ≡ 0) where
-  -- the settled and the queued rows stand one behind the other
+  -- the rows of main and of the tail are adjacent
   pub all-inner : (k : ℕ) → k < s .main + s .tail → ItemRow text (row ws index (at + k))
   all-inner k l =
       by-lt k (s .main)
       (λ h. κ .parts .main .inner k h)
       (λ h. let e : at + k ≡ at + s .main + s .delta + (k - s .main) = omega arith in rw e (κ .inner (k - s .main) (omega arith)))
 
-  -- and are the items, entered one after the other
+  -- and are the items, inserted one after the other
   pub all-inserted : insertAll [] (itemsAt text ws index at (s .main + s .tail)) ≡ itemsOf text ws index at s
   all-inserted =
       ap (insertAll []) (tabulate-split (itemFrom text ws index at) (s .main) (s .tail))

@@ -1,4 +1,4 @@
--- Items entered one after the other: what comes of them is a matter of the order within each key alone. Assumes nothing.
+-- Items inserted one after the other: the result depends only on the order within each key. Assumes nothing.
 use mathlib.Core.Path.{_≡_, refl, sym, ap, _∙_}
 use mathlib.Core.Option.{none}
 use mathlib.Core.List.{List, [], _∷_, _++_}
@@ -82,7 +82,7 @@ inserted-last xs e m = inserted-append xs (e ∷ []) m
 pub inserted-sorted : (xs : List Item) → Sorted itemKey compareBytes xs → insertAll [] xs ≡ xs
 inserted-sorted xs s = accepted-inj (sym (inserted-added xs []) ∙ addAll-empty itemKey compareBytes replace bytes-order replace-keyed xs s)
 
--- items that are alike within each key give the same
+-- lists that agree on each key give the same
 pub inserted-keys : (xs ys : List Item) → ((k : List ℕ) → withKey itemKey compareBytes k xs ≡ withKey itemKey compareBytes k ys) → insertAll [] xs ≡ insertAll [] ys
 inserted-keys xs ys h =
     let (s, f) = addAll-exactly itemKey compareBytes replace bytes-order replace-keyed xs [] (insertAll [] xs) tt .0 (inserted-added xs []) in

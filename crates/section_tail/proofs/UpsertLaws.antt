@@ -1,4 +1,4 @@
--- The queue is settled: its rows are put into another order and entered one after the other. Assumes nothing.
+-- The tail is flushed: its rows are presorted and upserted one after the other. Assumes nothing.
 use mathlib.Core.Path.{_≡_, refl, sym, ap, ap₂, _∙_}
 use mathlib.Core.Logic.{_≢_}
 use mathlib.Core.Bool.{Bool, true, false}
@@ -73,7 +73,7 @@ module _ {text ws ws′ : List ℕ} {index used spare at i : ℕ} (s : OpenSizes
 
 -- ---- all rows
 
--- the first i rows are entered; those behind them are as they were
+-- the first i rows are upserted; those behind them are unchanged
 pub record Upserting (text ws₀ ws : List ℕ) (index used spare at : ℕ) (s : OpenSizes) (i : ℕ) : Type 0 where
   pub items : allAt text ws index at (s .main) (s .delta) ≡ insertAll [] (itemsAt text ws₀ index at i)
   pub still : MainDelta text ws index used spare at (s .main) (s .delta)
@@ -83,7 +83,7 @@ pub record Upserting (text ws₀ ws : List ℕ) (index used spare at : ℕ) (s :
   pub others : Unchanged (row ws₀ index) (row ws index) 0 at
   pub behind : Unchanged (row ws₀ index) (row ws index) (at + i) used
 
--- sorted items are entered already
+-- sorted items are main already
 pub upserting-sorted : {text ws : List ℕ} {index used spare at n turns : ℕ} → SortedItems text ws index used at n
     → Upserting text ws ws index used spare at (record { main = n; delta = 0; tail = 0; flushes = turns }) n
 upserting-sorted {text} {ws} {index} {at = at} {n = n} ο = record {
@@ -105,7 +105,7 @@ pub rises-as : (text ws : List ℕ) (index at k : ℕ) {x y : Row} {r : Bool} �
     → r ≡ isLess (compareItems (itemOf text x) (itemOf text y)) → r ≡ true → isLess (compareItems (itemFrom text ws index at (k - 1)) (itemFrom text ws index at k)) ≡ true
 rises-as text ws index at k e f g t = rw (e, f) at (sym g ∙ t)
 
--- sorted items and one more that comes after them, where it stands
+-- sorted items and one more that is greater than they are
 pub open-next : {text ws : List ℕ} {index used at : ℕ} (k : ℕ) → SortedItems text ws index used at k → at + k < used → ItemRow text (row ws index (at + k))
     → (k ≢ 0 → isLess (compareItems (itemFrom text ws index at (k - 1)) (itemFrom text ws index at k)) ≡ true) → SortedItems text ws index used at (k + 1)
 open-next {text} {ws} {index} {used} {at} k ο l ι b =
@@ -148,7 +148,7 @@ upserting-done {text} {ws₀} {index = index} {at = at} ρ e = record {
   others = ρ .others;
 }
 
--- ---- the queue
+-- ---- the tail
 
 pub emptied-already : {text ws : List ℕ} {index used spare at : ℕ} {s : OpenSizes} → OpenSection text ws index used spare at s → s .tail ≡ 0
     → TailFlushed text ws ws index used spare at s s

@@ -1,4 +1,4 @@
--- A row entered into the open section, queued or not: FN, FNDA, BRDA and DA lines. Assumes nothing.
+-- A row added to the open section, by upsert or to the tail: FN, FNDA, BRDA and DA lines. Assumes nothing.
 use Prim.Native.Nat.{ℕ, _+_}
 use mathlib.Core.Path.{_≡_}
 use mathlib.Core.Bool.{Bool}
@@ -26,7 +26,7 @@ abbrev pub StillOpen : Bytes → List ℕ → ℕ → ℕ → ℕ → ℕ → Ou
 StillOpen text ws index used spare at (Items s) = OpenSection text ws index used spare at s
 StillOpen text ws index used spare at (Refused fault) = Unit {0}
 
--- the row is entered as the model enters its item, within the rows that there are; the rows before place at stay
+-- the row is added as the model adds its item, within the rows in use; the rows before position at are unchanged
 pub record RowAdded (text ws ws′ : List ℕ) (index used spare at : ℕ) (s : OpenSizes) (r : Row) (adds : Bool) (a : Outcome) : Type 0 where
   pub items : seen text ws′ index at a
       ≡ (add itemKey compareBytes (combineOf adds) (itemOf text r) (itemsOf text ws index at s) >>= λ items. within used (at + length items) items)

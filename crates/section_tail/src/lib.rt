@@ -1,5 +1,6 @@
-// Rows that come out of order (document 01, "Sections") wait in a queue behind the open section, in the order of arrival and with no search.
-// When the section ends, or must be known exactly, they are put into nearly the order of their keys and entered one after the other.
+// The open section's append tail (document 01, "Sections"). Rows that arrive out of order are appended behind the
+// items, with no search. The exact items are needed only at end_of_record, on FNDA and when no row is free: then the
+// tail is flushed, that is presorted with main and upserted row by row.
 use model::Fault;
 use section_upsert::UpsertOutcome;
 use table::Row;
@@ -19,8 +20,8 @@ ghost use Rattle.section_upsert.specs.MainDelta.{MainDelta};
 ghost use Rattle.section_tail.specs.Tail.{OneUpserted, AllUpserted, OpenSection, TailFlushed, AllFlushed};
 ghost use Rattle.section_tail.specs.RowAdded.{RowAdded};
 
-// How many items of the open section are settled and how many recent, how many rows wait in the queue behind them, and how many queues
-// there have been, which only guides the speed.
+// The sizes of main, delta and tail of the open section, and how often its tail was flushed. The last only guides
+// speed.
 pub struct OpenSizes {
     pub main: usize,
     pub delta: usize,
@@ -28,16 +29,16 @@ pub struct OpenSizes {
     pub flushes: usize,
 }
 
-// The open section with one row more, or why the row is refused.
+// The sizes after a row was added, or why the row is refused.
 pub enum Outcome {
     Items(OpenSizes),
     Refused(Fault),
 }
 
-// How many queues a section may have: one whose queue must be settled again and again is entered row by row.
+// A section that flushes its tail so often upserts every further row, which bounds the worst case.
 const MAX_FLUSHES: usize = 8;
 
-// The i-th row from place `at` on, entered among those before it.
+// Upserts the i-th row from position `at` on into those before it.
 fn upsert_next(
     text: &[u8],
     words: &mut [u64],
@@ -76,7 +77,7 @@ fn upsert_next(
     }
 }
 
-// The m rows from place `at` on, of which the first n are settled, entered one after the other.
+// Upserts the m rows from position `at` on, of which the first n are main, one after the other.
 fn upsert_all(
     text: &[u8],
     words: &mut [u64],
@@ -106,10 +107,10 @@ fn upsert_all(
     sizes
 }
 
-// Queued rows that are fewer than this part of the settled items are entered as they came: to go through all items would cost more.
+// A tail shorter than main divided by this is upserted as it is: a presort of all items would cost more.
 const PRESORT_RATIO: usize = 8;
 
-// Whether the k-th row from place `at` on comes after the one before it; the first does.
+// Whether the k-th row from position `at` on is greater than the one before it; true for the first.
 fn is_ascending_at(
     text: &[u8],
     words: &[u64],
@@ -129,7 +130,7 @@ fn is_ascending_at(
     comes_before(text, before, here)
 }
 
-// How many of the m rows from place `at` on come one after the other by their keys: they are entered where they stand.
+// How many of the m rows from position `at` on ascend strictly by key: these are main as they are.
 fn sorted_prefix_len(
     text: &[u8],
     words: &[u64],
@@ -152,7 +153,7 @@ fn sorted_prefix_len(
     k
 }
 
-// The queued rows entered among the items, so that the queue is empty.
+// Flushes the tail: upserts its rows into main and delta.
 pub fn flush_tail(
     text: &[u8],
     words: &mut [u64],
@@ -187,7 +188,7 @@ pub fn flush_tail(
     upsert_all(text, words, index, used, spare, at, n, m, sizes.flushes)
 }
 
-// A row entered where no row is queued.
+// Upserts a row where the tail is empty.
 fn upsert_row(
     text: &[u8],
     words: &mut [u64],
@@ -220,7 +221,8 @@ fn upsert_row(
     }
 }
 
-// A row entered where others are queued: it is the next of them, unless it adds to a count or no row is free.
+// Appends a row to a tail that is not empty, unless it accumulates or no row is free: then it flushes the tail and
+// upserts the row.
 fn append_or_flush(
     text: &[u8],
     words: &mut [u64],
@@ -252,8 +254,8 @@ fn append_or_flush(
     upsert_row(text, words, index, used, spare, at, all, row, accumulate)
 }
 
-// A row entered where all items are settled and a row is free. Most texts are sorted, so that it comes after the last; the first that does not
-// is queued.
+// Adds a row where all items are in main and a row is free. Most texts are sorted, so the row is greater than the last
+// and is appended to main. Any other starts the tail.
 fn append_sorted(
     text: &[u8],
     words: &mut [u64],
@@ -295,8 +297,8 @@ fn append_sorted(
     upsert_row(text, words, index, used, spare, at, sizes, row, accumulate)
 }
 
-// A row entered into the open section, whose items start at place `at` and which is the last in the index's order but for free rows. `spare`
-// is where free words start.
+// Adds a row to the open section, whose items start at position `at`. Only free rows follow in the index. `spare` is
+// the offset of free words.
 pub fn add_row(
     text: &[u8],
     words: &mut [u64],
@@ -325,7 +327,7 @@ pub fn add_row(
     upsert_row(text, words, index, used, spare, at, sizes, row, accumulate)
 }
 
-// All items of the open section settled: queued ones and recent ones. Answers how many there are.
+// Flushes the tail and merges the delta, so that all items are in main. Answers how many there are.
 pub fn flush_all(
     text: &[u8],
     words: &mut [u64],

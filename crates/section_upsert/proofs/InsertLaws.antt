@@ -34,7 +34,8 @@ pub replacing-as : {ws ws′ : List ℕ} {index used i : ℕ} {r : Row} {adds : 
     → RowCombined ws ws′ index used i r adds b
 replacing-as e χ = rw e at χ
 
--- the row is put behind the recent ones and brought to its place; the places of those behind go up by one, and its own is written
+-- the row is put behind the delta and moved to its position; the insert positions behind it are shifted up by one, and
+-- its own is written
 module _ {ws ws₁ ws₂ ws₃ : List ℕ} (index used spare from p k i : ℕ) (r : Row) (k≤p : k ≤ p) (free : from + p < used) (b : index + used ≤ spare) (room : spare + used ≤ length ws₃)
     (π : Updated (row ws index) (row ws₁ index) used (from + p) r) (κ₁ : UnchangedOutside ws ws₁ 0 (index + used)) (σ : Store ws₂ index used)
     (β : RowsMoved (row ws₁ index) (row ws₂ index) used (from + k) (from + p) 1) (κ₂ : UnchangedOutside ws₁ ws₂ 0 (index + used))

@@ -1,4 +1,4 @@
--- Laws of the settled and the recent items as one list: an item added to one part is added to the whole. Assumes nothing.
+-- Laws of main and delta as one list: an item added to one part is added to the whole. Assumes nothing.
 use mathlib.Core.Path.{_≡_, refl, sym, ap, _∙_}
 use mathlib.Core.Logic.{_≢_}
 use mathlib.Core.List.{List, [], _∷_}
@@ -47,7 +47,7 @@ pub less-less : (a b c : Item) → compareItems a b ≡ Ordering·lt → compare
 unfolding compareItems
 less-less a b c p q = bytes-order .trans p q
 
--- items of one key compare alike
+-- items of one key compare in the same way
 pub same-left : (a b c : Item) → itemKey a ≡ itemKey b → compareItems a c ≡ compareItems b c
 unfolding compareItems
 same-left a b c e = ap (λ k. compareBytes k (itemKey c)) e
@@ -220,9 +220,9 @@ module _ (combine : Item → Item → Answer Item) where
             ∙ map-one (λ l. x ∷ l) (insert y) (λ l. x ∷ insert y l) (adding e xs) (λ l m. refl)
             ∙ sym (ap (mapAccepted (insert y)) (add-gt e x xs O) ∙ map-one (insert y) (λ l. x ∷ l) (λ l. x ∷ insert y l) (adding e xs) (λ l m. insert-gt y x l P))
 
-    -- ---- the settled and the recent items
+    -- ---- main and delta
 
-    -- e is added to the settled
+    -- e is added to main
     pub add-main : (e : Item) (xs ys : List Item) → Absent e ys → adding e (mergeItems xs ys) ≡ mapAccepted (λ l. mergeItems l ys) (adding e xs)
     unfolding mergeItems
     add-main e xs [] a = map-all (λ l. l) (adding e xs) (λ l. refl)
@@ -247,7 +247,7 @@ module _ (xs : List Item) where
   length-union (y ∷ ys) a s =
       length-insert y (mergeItems xs ys) (union-absent y xs ys (a .0) (above-absent y ys (s .0))) ∙ omega (arith, length-union ys (a .1) (s .1))
 
-  -- e is added to the recent
+  -- e is added to the delta
   pub add-delta : (combine : Item → Item → Answer Item) → Keyed itemKey compareBytes combine → (e : Item) (ys : List Item)
       → Absent e xs → Sorted itemKey compareBytes ys
       → add itemKey compareBytes combine e (mergeItems xs ys) ≡ mapAccepted (mergeItems xs) (add itemKey compareBytes combine e ys)
@@ -271,7 +271,7 @@ module _ (xs : List Item) where
           ∙ map-one (insert y) (mergeItems xs) (λ l. insert y (mergeItems xs l)) (add itemKey compareBytes combine e ys) (λ l m. refl)
           ∙ sym (ap (mapAccepted (mergeItems xs)) (add-gt combine e y ys q) ∙ map-one (mergeItems xs) (λ l. y ∷ l) (λ l. insert y (mergeItems xs l)) (add itemKey compareBytes combine e ys) (λ l m. refl))
 
--- ---- the recent items added one after the other
+-- ---- the delta added item by item
 
 insert-union : (y : Item) (xs ys : List Item) → Absent y xs → Absent y ys → mergeItems (insert y xs) ys ≡ insert y (mergeItems xs ys)
 insert-union y xs ys a b =

@@ -1,4 +1,4 @@
--- The recent items come among the settled: what stands there then is the union of both. Assumes nothing.
+-- The delta is merged into main: the result has the items of both. Assumes nothing.
 use mathlib.Core.Path.{_≡_, refl, sym, _∙_}
 use mathlib.Core.List.{List}
 use Prim.Native.Nat.{ℕ, _+_, _-_, _≤_, _<_}
@@ -34,7 +34,7 @@ module _ {text ws : List ℕ} {index used spare at n p : ℕ} (π : MainDelta te
   abbrev positions : ℕ → ℕ
   positions j = word ws (spare + j)
 
-  -- the recent ones' places
+  -- the insert positions of the delta
   pub parts-between : (j : ℕ) → j < p → Between (itemFrom text ws index (at + n) j) (itemFrom text ws index at) n (word ws (spare + j))
   parts-between j l = between (delta j) main n (positions j) (π .main .sorted) (π .positions j l)
 

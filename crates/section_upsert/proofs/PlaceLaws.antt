@@ -60,7 +60,7 @@ between e f (suc n) i s q = go (compareItems e (f 0)) refl q (λ j r. between e 
     go Ordering·eq o r ih = impossible cc
     go Ordering·gt o r ih = later o (place e (tabulate (λ k. f (suc k)) n)) r ih
 
--- ---- a key that stands at place i
+-- ---- a key at position i
 
 pub placed-key : (e : Item) (f : ℕ → Item) (n i : ℕ) → place e (tabulate f n) ≡ At i → compareItems e (f i) ≡ Ordering·eq
 unfolding tabulate place

@@ -1,4 +1,4 @@
--- A run of sorted items of which one is replaced, or into which one is put, or which stays. Assumes nothing.
+-- Sorted items of which one is replaced, or into which one is inserted, or which are unchanged. Assumes nothing.
 use mathlib.Core.Path.{_≡_, refl, sym, ap, _∙_}
 use mathlib.Core.Logic.{_≢_}
 use mathlib.Core.Bool.{Bool, true, false}
@@ -72,7 +72,7 @@ module _ (text ws ws′ : List ℕ) (index at n : ℕ) (s : Unchanged (row ws in
     sorted = rw same-items (ο .sorted);
   }
 
--- ---- a row entered at the place of its key
+-- ---- a row put at the position of its key
 
 module _ (text ws : List ℕ) (index used at n : ℕ) (r : Row) (adds : Bool) (ο : SortedItems text ws index used at n) where
   abbrev e : Item
@@ -91,7 +91,7 @@ module _ (text ws : List ℕ) (index used at n : ℕ) (r : Row) (adds : Bool) (�
   still-sorted : (l : List Item) → adding run ≡ accepted l → (ws′ : List ℕ) (m : ℕ) → itemsAt text ws′ index at m ≡ l → Sorted itemKey compareBytes (itemsAt text ws′ index at m)
   still-sorted l added ws′ m rows = rw rows (add-sorted itemKey compareBytes (combineOf adds) bytes-order (keyed adds) e run l (ο .sorted) added)
 
-  -- the key stands at place i
+  -- the key is at position i
   module _ (i : ℕ) (i<n : i < n) (q : At i ≡ place e run) where
     pub run-at : add itemKey compareBytes (combineOf adds) (itemOf text r) (itemsAt text ws index at n)
         ≡ mapAccepted (λ y. set (itemsAt text ws index at n) i y) (combineOf adds (itemFrom text ws index at i) (itemOf text r))

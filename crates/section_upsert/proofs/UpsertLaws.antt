@@ -1,4 +1,4 @@
--- A row entered into one of the two parts is entered into the whole: one law for each way out. Assumes nothing.
+-- A row upserted into main or delta is upserted into the whole: one law for each exit. Assumes nothing.
 use mathlib.Core.Path.{_≡_, refl, sym, ap, ap₂, _∙_}
 use mathlib.Core.Bool.{Bool}
 use mathlib.Core.List.{List}
@@ -49,7 +49,7 @@ parts-length {text} {ws} {index} {used} {spare} {at} {n} {p} π =
     length-union (itemsAt text ws index at n) (itemsAt text ws index (at + n) p) (parts-apart π) (π .delta .sorted)
     ∙ ap₂ _+_ (length-tabulate (itemFrom text ws index at) n) (length-tabulate (itemFrom text ws index (at + n)) p)
 
--- ---- where nothing is recent
+-- ---- the delta is empty
 
 pub none-delta : (text ws : List ℕ) (index at n : ℕ) {p : ℕ} → p ≡ 0 → allAt text ws index at n p ≡ itemsAt text ws index at n
 unfolding mergeItems tabulate
@@ -112,7 +112,7 @@ module _ (text ws : List ℕ) (index used spare at n p : ℕ) (r : Row) (adds : 
         behind = λ k x y. s k (omega arith) y;
       }
 
-  -- ---- the key stands at place i of the settled
+  -- ---- the key is at position i of main
 
   module _ (i : ℕ) (i<n : i < n) (q : At i ≡ place e main) where
     not-delta : Absent e delta
@@ -153,7 +153,7 @@ module _ (text ws : List ℕ) (index used spare at n p : ℕ) (r : Row) (adds : 
       behind = λ k x y. χ .rows k (omega arith) y;
     }
 
-  -- ---- the key is not among the settled, and goes to place i of them
+  -- ---- the key is not in main; its insert position there is i
 
   module _ (i : ℕ) (a : Insert i ≡ place e main) where
     pub not-main : Absent (itemOf text r) (itemsAt text ws index at n)
@@ -162,7 +162,7 @@ module _ (text ws : List ℕ) (index used spare at n p : ℕ) (r : Row) (adds : 
     to-delta : adding whole ≡ mapAccepted (mergeItems main) (adding delta)
     to-delta = add-delta main (combineOf adds) (keyed adds) e delta not-main (π .delta .sorted)
 
-    -- it stands at place k of the recent ones
+    -- the key is at position k of the delta
     module _ (k : ℕ) (k<p : k < p) (q : At k ≡ place e delta) where
       pub upserted-delta : {ws′ : List ℕ} {both : Row} → ItemRow text r → RowCombined ws ws′ index used (at + n + k) r adds (One both) → index + used ≤ spare
           → Upserted text ws ws′ index used spare at n p r adds (Items n p)
@@ -191,7 +191,7 @@ module _ (text ws : List ℕ) (index used spare at n p : ℕ) (r : Row) (adds : 
         behind = λ o x y. χ .rows o (omega arith) y;
       }
 
-    -- it is to go to place k of the recent ones
+    -- its insert position in the delta is k
     module _ (k : ℕ) (k≤p : k ≤ p) (q : Insert k ≡ place e delta) where
       pub delta-full : used ≤ at + n + p → Upserted text ws ws index used spare at n p r adds (Refused TooManyEntries)
       delta-full l = upserted-full ws (λ o x y. refl) not-main (between-absent (between e h p k (π .delta .sorted) (sym q))) l
@@ -228,7 +228,7 @@ module _ (text ws : List ℕ) (index used spare at n p : ℕ) (r : Row) (adds : 
               → place (itemFrom text ws′ index (at + n) j) (itemsAt text ws′ index at n) ≡ Insert (word ws′ (spare + j))
           noted j x w u v t = ap₂ place u items ∙ t ∙ ap Insert (sym v)
 
-  -- ---- the key comes after all, and nothing is recent
+  -- ---- the key is greater than all, and the delta is empty
 
   pub last-full : p ≡ 0 → Insert n ≡ place (itemOf text r) (itemsAt text ws index at n) → used ≤ at + n → Upserted text ws ws index used spare at n p r adds (Refused TooManyEntries)
   last-full z a l = upserted-full ws (λ o x y. refl) (not-main n a) (absent-tabulate e h p (λ j m. absurd (omega arith))) (omega arith)
@@ -246,9 +246,9 @@ module _ (text ws : List ℕ) (index used spare at n p : ℕ) (r : Row) (adds : 
       last : InsertedAt (λ k. row ws index (at + k)) (λ k. row ws′ index (at + k)) n n r
       last = record { below = λ k m. ρ .others (at + k) (omega arith) (omega arith); here = ρ .there; up = λ k m o. absurd (omega arith) }
 
--- ---- the recent ones come among the settled
+-- ---- the delta is merged into main
 
--- what was entered, once they have
+-- what was upserted, after the merge
 pub upserted-interleaved : {text ws ws₁ ws₂ : List ℕ} {index used spare at n p : ℕ} {r : Row} {adds : Bool} (m k : ℕ) → m + k ≤ n + p + 1
     → Upserted text ws ws₁ index used spare at n p r adds (Items m k) → Store ws₂ index used
     → Interleaved (row ws₁ index) (row ws₂ index) (λ j. word ws₁ (spare + j)) used at m k → Upserted text ws ws₂ index used spare at n p r adds (Items (m + k) 0)

@@ -1,4 +1,4 @@
--- A row entered into the open section: FN, FNDA, BRDA and DA lines. Assumes nothing.
+-- A row upserted into the open section: FN, FNDA, BRDA and DA lines. Assumes nothing.
 use Prim.Native.Nat.{ℕ, _+_}
 use mathlib.Core.Path.{_≡_}
 use mathlib.Core.Bool.{Bool}
@@ -25,7 +25,7 @@ abbrev pub PutOne : List ℕ → List ℕ → ℕ → ℕ → ℕ → Combined �
 PutOne ws ws′ index used i (One r) = Updated (row ws index) (row ws′ index) used i r
 PutOne ws ws′ index used i Overflow = Unchanged (row ws index) (row ws′ index) 0 used
 
--- what the row at place i and the row r make stands at place i; the words behind the index stay
+-- the row at position i is combined with the row r; the words behind the index are unchanged
 pub record RowCombined (ws ws′ : List ℕ) (index used i : ℕ) (r : Row) (adds : Bool) (a : Combined) : Type 0 where
   pub item : (text : Bytes) → seenOne text a ≡ combineOf adds (itemAt text ws index i) (itemOf text r)
   pub inner : (text : Bytes) → ItemRow text (row ws index i) → ItemRow text r → InnerOne text a
@@ -41,8 +41,8 @@ abbrev pub StillOpen : Bytes → List ℕ → ℕ → ℕ → ℕ → ℕ → Up
 StillOpen text ws index used spare at (Items n p) = MainDelta text ws index used spare at n p
 StillOpen text ws index used spare at (Refused fault) = Unit {0}
 
--- the row is entered as the model enters its item, within the rows that there are; the rows before place at stay, and so do those behind
--- the one that is free for it
+-- the row is upserted as the model adds its item, within the rows in use; the rows before position at are unchanged,
+-- and so are those behind the free row
 pub record Upserted (text ws ws′ : List ℕ) (index used spare at n p : ℕ) (r : Row) (adds : Bool) (a : UpsertOutcome) : Type 0 where
   pub items : seen text ws′ index at a
       ≡ (add itemKey compareBytes (combineOf adds) (itemOf text r) (allAt text ws index at n p) >>= λ items. within used (at + length items) items)

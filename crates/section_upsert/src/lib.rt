@@ -1,6 +1,7 @@
-// A row entered into the open section (document 01, "Sections"). A new key that comes after all others, as in most texts, is settled where
-// it is. Any other waits among the recent items behind the settled ones, sorted too, and they are woven in together, so that a text
-// whose lines come in no order moves the settled items rarely.
+// Upsert into the open section (document 01, "Sections"): insert a new key, or combine with the row that has it. The
+// items are a sorted main part and a small sorted delta behind it. A key greater than all others, as in most texts, is
+// appended to main. Any other new key goes to the delta, which is merged into main when it is full, so that unsorted
+// lines rarely move main.
 use model::Fault;
 use table::Row;
 use table_item::Combined;
@@ -17,7 +18,7 @@ ghost use Rattle.table_item.specs.Combining.{Adds};
 ghost use Rattle.section_upsert.specs.MainDelta.{DeltaInserted, MainDelta};
 ghost use Rattle.section_upsert.specs.Upserted.{RowCombined, Upserted};
 
-// The row at place i and another of its key, made one and put there, where their counts add.
+// Combines the row at position i with another of its key, unless their counts overflow.
 fn combine_at(
     words: &mut [u64],
     index: usize,
@@ -38,11 +39,11 @@ fn combine_at(
     Combined::One(both)
 }
 
-// How many recent items are settled together.
+// The delta is merged into main when it has this many items.
 const DELTA_ITEMS: usize = 256;
 
-// A row put at place k of the p recent ones, which start at place `from`, and its place i among the settled noted with theirs. Behind them is
-// a free row.
+// Inserts a row at position k of the p rows of the delta, which starts at position `from`, and its insert position i in
+// main into the spare words. The row behind the delta is free.
 fn insert_delta(
     words: &mut [u64],
     index: usize,
@@ -64,13 +65,13 @@ fn insert_delta(
     words[spare + k] = i as u64;
 }
 
-// How many items of the open section are settled and how many are recent, or why the row is refused.
+// The sizes of main and delta, or why the row is refused.
 pub enum UpsertOutcome {
     Items(usize, usize),
     Refused(Fault),
 }
 
-// A row whose key none of the n settled items has, and which is to go to place i of them, entered among the p recent ones.
+// Upserts a row that main, of n items, does not have into the delta, of p items. Its insert position in main is i.
 fn upsert_delta(
     text: &[u8],
     words: &mut [u64],
@@ -111,8 +112,8 @@ fn upsert_delta(
     }
 }
 
-// A row entered into the open section: n settled items from place `at` on and p recent ones behind them, the last in the index's order but
-// for free rows. `spare` is where free words start.
+// Upserts a row into the open section: n items of main from position `at` on and p of the delta behind them. Only free
+// rows follow in the index. `spare` is the offset of free words.
 pub fn upsert(
     text: &[u8],
     words: &mut [u64],

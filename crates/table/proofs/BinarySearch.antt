@@ -1,4 +1,4 @@
--- The places at which a test holds, found by halving: it holds at none behind one at which it fails. Assumes nothing.
+-- Binary search over a test that holds at no position behind one at which it fails. Assumes nothing.
 use mathlib.Core.Path.{_≡_, refl, sym, _∙_}
 use mathlib.Core.Bool.{Bool, true, false}
 use Prim.Native.Nat.{ℕ, _+_, _≤_, _<_}

@@ -1,4 +1,4 @@
--- Laws of what is said place by place: cases on places, blocks that are brought, that are turned and that change places. Assumes nothing.
+-- Laws of moved and swapped blocks, position by position. Assumes nothing.
 use mathlib.Core.Path.{_≡_, refl, sym, subst, _∙_}
 use mathlib.Core.Logic.{_≢_}
 use Prim.Native.Nat.{ℕ, _+_, _-_, _≤_, _<_}
@@ -13,7 +13,7 @@ by-eq a b f g = elim (ℕ-discrete a b) [ yes e ↦ f e | no n ↦ g n ]
 pub by-lt : {C : Type 0} (a b : ℕ) → (a < b → C) → (b ≤ a → C) → C
 by-lt a b f g = elim (decLt a b) [ yes e ↦ f e | no n ↦ g (omega arith) ]
 
--- ---- a block that is brought
+-- ---- a block that is moved
 
 -- nothing comes past nothing
 pub moved-none : {A : Type 0} {f : ℕ → A} {used to from n : ℕ} → to ≡ from → RowsMoved f f used to from n
@@ -24,7 +24,7 @@ moved-none {A} {f} {used} {to} {from} {n} e = record {
   above = λ k l h. refl;
 }
 
--- what is brought by one reading of the places is brought by another that goes with it
+-- a move of one reading of the positions is a move of every reading that agrees with it
 pub moved-along : {A B : Type 0} {f g : ℕ → A} (f′ g′ : ℕ → B) {used to from n : ℕ} → to ≤ from → from + n ≤ used
     → ((k m : ℕ) → m < used → g k ≡ f m → g′ k ≡ f′ m) → RowsMoved f g used to from n → RowsMoved f′ g′ used to from n
 moved-along f′ g′ l h along β = record {
@@ -76,7 +76,7 @@ module _ (From : ℕ → ℕ → Type 0) (from-once : (k j m : ℕ) → From k m
           let y : m ≡ m′ = ι .once m m′ p p′ (sym e ∙ x ∙ e′) in
           from-once k j m′ (subst (From k) y s) s′
 
--- numbers of which a block is brought are an index still
+-- moving a block of an index leaves an index
 pub moved-index : {f g : ℕ → ℕ} {used to from n : ℕ} → to ≤ from → from + n ≤ used → RowsMoved f g used to from n → Index f used → Index g used
 moved-index {f} {g} {used} {to} {from} {n} l h β =
     index-from (Source to from n) (λ k j m. source-once l) f g used (λ k p. by-lt k to
@@ -87,7 +87,7 @@ moved-index {f} {g} {used} {to} {from} {n} l h β =
     (λ c. (k - n, omega arith, between b c (omega arith), β .up k (k - n) b (omega arith) (omega arith)))
     (λ c. (k, p, over c refl, β .above k c p)))))
 
--- ---- three blocks that are turned
+-- ---- three blocks in reverse order
 
 -- the last block comes to the front, and then the second before the first
 pub swapped : {A : Type 0} {f g h : ℕ → A} {used lo hi mid end : ℕ} → lo ≤ hi → hi ≤ mid → mid ≤ end → end ≤ used
@@ -102,7 +102,7 @@ swapped {lo = lo} {hi = hi} {mid = mid} {end = end} a b c d β γ =
       above = λ k p q. γ .above k (omega arith) q ∙ β .above k (omega arith) q;
     }
 
--- what is turned by one reading of the places is turned by another that goes with it
+-- a swap of one reading of the positions is a swap of every reading that agrees with it
 pub swapped-along : {A B : Type 0} {f g : ℕ → A} (f′ g′ : ℕ → B) {used lo hi mid end : ℕ} → lo ≤ hi → hi ≤ mid → mid ≤ end → end ≤ used
     → ((k m : ℕ) → m < used → g k ≡ f m → g′ k ≡ f′ m) → BlocksSwapped f g used lo hi mid end → BlocksSwapped f′ g′ used lo hi mid end
 swapped-along f′ g′ a b c d along τ = record {

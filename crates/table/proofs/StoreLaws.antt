@@ -102,7 +102,7 @@ module _ {ws ws′ : List ℕ} {index used i : ℕ} {r : Row} (σ : Store ws ind
     others = λ k p n. ap (rowAt ws′) (same k) ∙ other-row w (number ws index k) (λ x. n (σ .numbers .once k i p l x));
   }
 
--- ---- a block of the index is brought
+-- ---- a block of the index is moved
 
 module _ {ws ws′ : List ℕ} {index used to from n : ℕ} (σ : Store ws index used) (h : to ≤ from) (l : from + n ≤ used)
     (β : RowsMoved (number ws index) (number ws′ index) used to from n) where

@@ -32,12 +32,12 @@ module _ {A : Type 0} (f g : ℕ → A) where
   abbrev pub Shifted : ℕ → ℕ → ℕ → Type 0
   Shifted from to n = (k m : ℕ) → to ≤ k → k < to + n → m + to ≡ from + k → g k ≡ f m
 
-  -- x stands at place i; the others below used are as they were
+  -- x is at position i; the other positions below used are unchanged
   pub record Updated (used i : ℕ) (x : A) : Type 0 where
     pub there : g i ≡ x
     pub others : (k : ℕ) → k < used → k ≢ i → g k ≡ f k
 
-  -- the n at from have come to to, and those between have gone up by n
+  -- the n elements at from are moved to to, and those between are shifted up by n
   pub record RowsMoved (used to from n : ℕ) : Type 0 where
     pub below : Unchanged 0 to
     pub there : Shifted from to n

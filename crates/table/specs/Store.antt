@@ -15,7 +15,7 @@ pub record Index (f : ℕ → ℕ) (used : ℕ) : Type 0 where
   pub below : (i : ℕ) → i < used → f i < used
   pub once : (i j : ℕ) → i < used → j < used → f i ≡ f j → i ≡ j
 
--- the index stands past the rows, and has the number of each
+-- the index starts behind the rows and holds the number of each
 pub record Store (ws : List ℕ) (index used : ℕ) : Type 0 where
   pub rows-end : used * row-words ≤ index
   pub index-end : index + used ≤ length ws

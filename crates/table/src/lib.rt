@@ -1,7 +1,7 @@
-// Rows in a lent slice of words, and an index of row numbers that says their order: "`BTreeMap` becomes sorted entries in scratch"
-// (document 01). Row j starts at word j * ROW_WORDS. The index starts at word `index`, past the rows, and its first `used` words are
-// the row numbers below `used`, each once. So a row changes its place by moving words of the index, and rows never move. Words behind
-// these are spare: `push_row`, `put` and `move_row` leave them as they are.
+// A table: rows in a lent slice of words, sorted through an order index ("`BTreeMap` becomes sorted entries in scratch", document
+// 01). Row j starts at word j * ROW_WORDS. The index starts at word `index`, behind the rows; its first `used` words are the row
+// numbers below `used`, each once. A row changes its position by moving words of the index; rows never move. The words behind the
+// index are spare: `push_row`, `put` and `move_row` leave them unchanged.
 ghost use mathlib.Core.Path.{_≡_};
 ghost use mathlib.Core.Logic.{_⊎_};
 ghost use Prim.Native.Nat.{_+_, _*_, _≤_, _<_};
@@ -10,13 +10,21 @@ ghost use Rattle.table.specs.Places.{Unchanged, Updated, RowsMoved, Bloc
 ghost use Rattle.table.specs.Rows.{row-words, rowAt, UnchangedOutside, Moved, Written};
 ghost use Rattle.table.specs.Store.{Store, row};
 
-// The words of a row: `row-words` in specs/Rows.antt.
+// The number of words of a row: `row-words` in specs/Rows.antt.
 pub const ROW_WORDS: usize = 9;
 
-// The one that has its tag: `tag-word`.
+// The word of a row that holds its tag: `tag-word`.
 pub const TAG_WORD: usize = 4;
 
-// One entry. Names are a start and a length in the lent text; the tag says the item's kind and what is given.
+// One entry. A name is an offset and a length in the lent text. The tag is twice the kind, plus one where the optional value is
+// given (crate table_item).
+//
+// | kind     | k1                      | k2              | k3              | count | optional   |
+// |----------|-------------------------|-----------------|-----------------|-------|------------|
+// | header   | cached insert position  |                 |                 |       |            |
+// | function | name, offset            | name, length    | start line      | calls | start line |
+// | branch   | line                    | block           | branch          | taken | taken      |
+// | line     | line                    | checksum, offset| checksum, length| runs  | checksum   |
 pub struct Row {
     pub test: u64,
     pub test_len: u64,
@@ -63,7 +71,7 @@ pub fn write_row(words: &mut [u64], j: usize, row: Row)
     words[p + 8] = row.count;
 }
 
-// Copies n words in ascending order: the target starts no later than the source, or past its end.
+// Copies n words in ascending order: the destination starts no later than the source, or behind its end.
 pub fn copy_forward(words: &mut [u64], from: usize, to: usize, n: usize)
     requires { ⌜ (from + n ≤ length (now words)) × (to + n ≤ length (now words)) × ((to ≤ from) ⊎ (from + n ≤ to)) ⌝ }
     ensures { λ _. ⌜ Moved (now (words .entry)) (now (words .exit)) from to n ⌝ }
@@ -75,7 +83,7 @@ pub fn copy_forward(words: &mut [u64], from: usize, to: usize, n: usize)
     }
 }
 
-// Copies n words in descending order: the target starts no earlier than the source.
+// Copies n words in descending order: the destination starts no earlier than the source.
 pub fn copy_backward(words: &mut [u64], from: usize, to: usize, n: usize)
     requires { ⌜ (from ≤ to) × (to + n ≤ length (now words)) ⌝ }
     ensures { λ _. ⌜ Moved (now (words .entry)) (now (words .exit)) from to n ⌝ }
@@ -96,7 +104,7 @@ pub fn get(words: &[u64], index: usize, used: usize, i: usize) -> Row
     read_row(words, j)
 }
 
-// One more row, the last in the index's order, whatever it holds.
+// Appends a row to the index, whatever its words hold.
 pub fn push_row(words: &mut [u64], index: usize, used: usize)
     requires { ⌜ Store (now words) index used × ((used + 1) * row-words ≤ index) × (index + used < length (now words)) ⌝ }
     ensures store { λ _. ⌜ Store (now (words .exit)) index (used + 1) ⌝ }
@@ -106,7 +114,7 @@ pub fn push_row(words: &mut [u64], index: usize, used: usize)
     words[index + used] = used as u64;
 }
 
-// The i-th row is replaced.
+// Replaces the i-th row.
 pub fn put(words: &mut [u64], index: usize, used: usize, i: usize, new: Row)
     requires { ⌜ Store (now words) index used × (i < used) ⌝ }
     ensures store { λ _. ⌜ Store (now (words .exit)) index used ⌝ }
@@ -117,7 +125,7 @@ pub fn put(words: &mut [u64], index: usize, used: usize, i: usize, new: Row)
     write_row(words, j, new);
 }
 
-// The row at `from` comes to `to`, and those from there on go up by one.
+// Moves the row at `from` to `to`, and shifts the rows from there on up by one.
 pub fn move_row(words: &mut [u64], index: usize, used: usize, to: usize, from: usize)
     requires { ⌜ Store (now words) index used × (to ≤ from) × (from < used) ⌝ }
     ensures store { λ _. ⌜ Store (now (words .exit)) index used ⌝ }
@@ -129,7 +137,7 @@ pub fn move_row(words: &mut [u64], index: usize, used: usize, to: usize, from: u
     words[index + to] = number;
 }
 
-// The n rows at `from` come to `to`, and those from there on go up by n. `spare` is where n free words start.
+// Moves the n rows at `from` to `to`, and shifts the rows from there on up by n. `spare` is the offset of n free words.
 pub fn move_block(
     words: &mut [u64],
     index: usize,
@@ -149,7 +157,7 @@ pub fn move_block(
     copy_forward(words, spare, index + to, n);
 }
 
-// The n rows at `lo` and the n at `mid` change places, and those between stay. `spare` is where n free words start.
+// Swaps the n rows at `lo` and the n at `mid`. `spare` is the offset of n free words.
 pub fn swap_equal_blocks(
     words: &mut [u64],
     index: usize,
@@ -169,8 +177,8 @@ pub fn swap_equal_blocks(
     copy_forward(words, spare, index + mid, n);
 }
 
-// The blocks from lo, from hi and from mid, up to `end`, change places: the last comes first and the first last. Where these two are of one
-// size, the one between stays, however many it has.
+// Swaps the first and the last of three adjacent blocks, which start at lo, hi and mid; the last ends at `end`. Where these two are of
+// one size, the middle block does not move.
 pub fn swap_blocks(
     words: &mut [u64],
     index: usize,

@@ -1,4 +1,5 @@
--- Laws of what is woven, place by place: every place has what one place had, and no two have the same. Assumes nothing.
+-- Laws of an interleaving, position by position: each position has what one position had, and no two have the same.
+-- Assumes nothing.
 use mathlib.Core.Path.{_≡_, refl, sym, ap, _∙_}
 use mathlib.Core.List.{List}
 use Prim.Native.Nat.{ℕ, zero, suc, _+_, _-_, _≤_, _<_}
@@ -10,7 +11,7 @@ use Rattle.table.proofs.PlaceLaws.{by-eq, by-lt}
 use Rattle.table.proofs.WordLaws.{same-row}
 use Rattle.table_interleave.specs.Interleaved.{Ascending, CountBefore, Interleaved}
 
--- what is woven by one reading of the places is woven by another that goes with it
+-- an interleaving of one reading of the positions is one of every reading that agrees with it
 pub interleaved-along : {A B : Type 0} {f g : ℕ → A} (f′ g′ : ℕ → B) {place : ℕ → ℕ} {used at n p : ℕ} → at + n + p ≤ used
     → ((k m : ℕ) → m < used → g k ≡ f m → g′ k ≡ f′ m) → Interleaved f g place used at n p → Interleaved f′ g′ place used at n p
 interleaved-along f′ g′ {place} {at = at} {n = n} h along ω = record {
@@ -20,7 +21,7 @@ interleaved-along f′ g′ {place} {at = at} {n = n} h along ω = record {
   above = λ k l m. along k k m (ω .above k l m);
 }
 
--- nothing moves where all of the p go behind the n
+-- nothing moves where all of the p belong behind the n
 pub interleaved-none : {A : Type 0} {f : ℕ → A} {place : ℕ → ℕ} {used at n p : ℕ} → Ascending place n p → (0 < p → n ≤ place 0) → Interleaved f f place used at n p
 interleaved-none {f = f} {place} {at = at} {n = n} {p = p} ρ behind = record {
   below = λ k l m. refl;
@@ -66,7 +67,7 @@ data Source (place : ℕ → ℕ) (at n p k m : ℕ) : Type 0 where
   old : (i j : ℕ) → i < n → CountBefore place p i j → k ≡ at + i + j → m ≡ at + i → Source place at n p k m
   over : at + n + p ≤ k → m ≡ k → Source place at n p k m
 
--- one of the n has one rank
+-- the number of the p before one of the n is unique
 count-once : {place : ℕ → ℕ} {p i j j′ : ℕ} → CountBefore place p i j → CountBefore place p i j′ → j ≡ j′
 count-once {place} {p} {i} {j} {j′} r r′ =
     by-lt j j′
@@ -188,7 +189,7 @@ module _ {A : Type 0} {f g : ℕ → A} {place : ℕ → ℕ} {used at n p : ℕ
       go (old i c a r d) (new j b e) = rw (still i c a r k d, there j b l e) (past i j b (behind i j c b r (omega arith)))
       go (old i c a r d) (old j x b s e) = rw (still i c a r k d, still j x b s l e) (olds i j (ranks i j c x r s (omega arith)) b)
 
--- numbers that are woven are an index still
+-- interleaving an index leaves an index
 pub interleaved-index : {f g : ℕ → ℕ} {place : ℕ → ℕ} {used at n p : ℕ} → Ascending place n p → at + n + p ≤ used → Interleaved f g place used at n p
     → Index f used → Index g used
 interleaved-index {f} {g} {place} {used} {at} {n} {p} ρ h ω ι = record {

@@ -1,4 +1,5 @@
--- The loop of `interleave`: from the last of the p to the first, those of the n that go behind it are moved up. Assumes nothing.
+-- The loop of `interleave`: from the last of the p to the first, it moves up those of the n that belong behind it.
+-- Assumes nothing.
 use mathlib.Core.Path.{_≡_, refl, sym, ap, _∙_}
 use mathlib.Core.List.{List}
 use Prim.Native.Nat.{ℕ, _+_, _-_, _≤_, _<_}
@@ -18,7 +19,7 @@ pub record Fits (ws : List ℕ) (index used at n p spare : ℕ) : Type 0 where
   pub room : spare + p + p ≤ length ws
   pub rising : Ascending (λ j. word ws (spare + j)) n p
 
--- those from the j-th of the p on stand at their places, and so do those of the n from hi on
+-- the p from the j-th on are at their positions, and so are the n from hi on
 pub record Interleaving (ws₀ ws : List ℕ) (index used at n p spare j hi : ℕ) : Type 0 where
   pub size : length ws ≡ length ws₀
   pub most : j ≤ p
@@ -88,7 +89,7 @@ module _ {ws₀ ws : List ℕ} {index used at n p spare : ℕ} (φ : Fits ws₀ 
           getD-set-other ws₁ (index + at + place + j) k (word ws₁ (spare + p + j)) 0 (omega (arith, place-low))
           ∙ μ .kept .above k (omega (arith, place-low))
 
-      -- one of the n that goes behind the j-th
+      -- one of the n that belongs behind the j-th of the p
       up : (i : ℕ) → place ≤ i → i < hi → number ws₂ index (at + i + (j + 1)) ≡ number ws₀ index (at + i)
       up i a b =
           getD-set-other ws₁ (index + at + place + j) (index + (at + i + (j + 1))) (word ws₁ (spare + p + j)) 0 (omega arith)
@@ -104,7 +105,7 @@ module _ {ws₀ ws : List ℕ} {index used at n p spare : ℕ} (φ : Fits ws₀ 
           ∙ μ .kept .above (spare + p + j) (omega (arith, η .top, place-low, φ .rows, φ .behind))
           ∙ η .saved j l
 
-      -- the rank of one that stands behind the j-th of the p is above j
+      -- one of the n behind the j-th of the p has more than j of the p before it
       above-count : (i c : ℕ) → place ≤ i → CountBefore (λ k. word ws₀ (spare + k)) p i c → j < c
       above-count i c a r = by-lt j c (λ z. z) (λ z. absurd (omega (arith, is-place, r .rest j z l)))
 
@@ -128,7 +129,7 @@ module _ {ws₀ ws : List ℕ} {index used at n p spare : ℕ} (φ : Fits ws₀ 
         behind = λ k a. higher k (omega (arith, η .top, φ .rows, φ .behind)) ∙ η .behind k a;
       }
         where
-          -- and where it stood before those behind, it is next to j
+          -- and where it was before the later ones, it has j + 1
           one-rank : (i c : ℕ) → place ≤ i → i < hi → CountBefore (λ k. word ws₀ (spare + k)) p i c → c ≡ j + 1
           one-rank i c a b r = by-lt (j + 1) c
               (λ z. absurd (omega (arith, r .past (j + 1) z, η .high (j + 1) (omega arith) (omega (arith, r .most)))))
@@ -149,7 +150,7 @@ module _ {ws₀ ws : List ℕ} {index used at n p spare : ℕ} (φ : Fits ws₀ 
         none : (i c : ℕ) → i < hi → CountBefore (λ k. word ws₀ (spare + k)) p i c → c ≡ 0
         none i c l r = by-lt 0 c (λ z. absurd (omega (arith, r .past 0 z, η .high 0 (omega arith) (omega (arith, r .most))))) (λ z. omega arith)
 
--- all of the p stand at their places
+-- all of the p are at their positions
 module _ {ws ws₀ ws′ : List ℕ} {index used at n p spare j hi : ℕ} (σ : Store ws index used) (φ : Fits ws index used at n p spare)
     (e : length ws₀ ≡ length ws)
     (μ : Moved ws ws₀ (index + at + n) (spare + p) p) (done : j ≤ 0) (η : Interleaving ws₀ ws′ index used at n p spare j hi) where

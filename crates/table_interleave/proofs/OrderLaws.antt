@@ -12,7 +12,7 @@ use Rattle.ordmap.proofs.Sizes.{addAll-append}
 use Rattle.ordmap.proofs.Exact.{addAll-exactly}
 
 module _ {E K : Type 0} (key : E → K) (cmp : K → K → Ordering) (L : Order cmp) (e : E) where
-  -- an entry whose key no other has stands first or last
+  -- an entry whose key is unique is first or last
   only-last : (k : K) (es : List E) → ((a : E) → Member a es → isEq (cmp (key e) (key a)) ≡ false)
       → withKey key cmp k (es ++ e ∷ []) ≡ withKey key cmp k (e ∷ es)
   only-last k [] h = refl

@@ -1,4 +1,4 @@
--- Entries that are woven among others by their keys: what stands there then is the map with all of them. Assumes nothing.
+-- Entries interleaved by their keys: the result is the map with all of them added. Assumes nothing.
 use mathlib.Core.Path.{_≡_, refl, sym, ap, ap₂, _∙_}
 use mathlib.Core.List.{List, [], _∷_}
 use Prim.Native.Nat.{ℕ, zero, suc, _+_, _-_, _≤_, _<_, Ordering, Ordering·lt, Ordering·gt}
@@ -190,13 +190,13 @@ module _ {A E : Type 0} {f g : ℕ → A} (read : A → E) {place : ℕ → ℕ}
           ∙ sym (olds i l);
     }
 
-    -- what stands there is one pass over both
+    -- the result is one pass over both
     pub interleaved-pass : onePass key cmp combine (tabulate x n) (tabulate y p) ≡ accepted (tabulate z (n + p))
     interleaved-pass = mixed-pass key cmp combine L x y z place n p mixed
 
   module _ {R K : Type 0} (key : E → K) (cmp : K → K → Ordering) (combine : E → E → Result R E) (L : Order cmp) (C : Keyed key cmp combine)
       (σ : InsertPositions key cmp x y place n p) (ρ : Ascending place n p) (s : Sorted key cmp (tabulate x n)) (t : Sorted key cmp (tabulate y p)) where
-    -- what stands there is the map with all of the p added
+    -- the result is the map with all of the p added
     pub interleaved-adds : addAll key cmp combine (tabulate y p) (tabulate x n) ≡ accepted (tabulate z (n + p))
     interleaved-adds = sym (onePass-adds key cmp combine L C (tabulate x n) (tabulate y p) s t) ∙ interleaved-pass key cmp combine L σ ρ
 

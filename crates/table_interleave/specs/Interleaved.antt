@@ -14,7 +14,8 @@ pub record CountBefore (place : ℕ → ℕ) (p i j : ℕ) : Type 0 where
   pub past : (k : ℕ) → k < j → place k ≤ i
   pub rest : (k : ℕ) → j ≤ k → k < p → i < place k
 
--- f is what each place had, g what it has: the p behind the n from at on stand among these, the j-th behind place j of them
+-- f is what each position had, g what it has: the p elements behind the n from at on are interleaved with these; the
+-- j-th has place j of the n before it
 module _ {A : Type 0} (f g : ℕ → A) (place : ℕ → ℕ) where
   pub record Interleaved (used at n p : ℕ) : Type 0 where
     pub below : Unchanged f g 0 at

@@ -1,13 +1,13 @@
-// Rows that were added behind others and belong among them, brought to their places in one pass over the index: each of the others moves at
-// most once, however many come before it.
+// Interleaves rows appended behind sorted ones, given their insert positions, in one backward pass over the index. Each
+// of the sorted rows moves at most once.
 ghost use Prim.Native.Nat.{_+_, _≤_};
 ghost use lib.ListN.{length};
 ghost use Rattle.table.specs.Rows.{word};
 ghost use Rattle.table.specs.Store.{Store, row};
 ghost use Rattle.table_interleave.specs.Interleaved.{Ascending, Interleaved};
 
-// The p rows behind the n from place `at` on are spread among these n: word j from `spare` on says behind how many of the n the j-th of
-// them goes. As many words behind those are free.
+// Interleaves the p rows behind the n from position `at` on with these n. Word j from `spare` on is the insert position
+// of the j-th row: how many of the n come before it. The p words behind those are free.
 pub fn interleave(
     words: &mut [u64],
     index: usize,

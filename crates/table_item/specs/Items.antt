@@ -29,11 +29,11 @@ branch-kind = 2
 abbrev pub line-kind : ℕ
 line-kind = 3
 
--- nothing is given of a section's own row: one more than its tag marks a row that was replaced
+-- a header row has no optional value, so its tag plus one is free to mark a deleted row
 abbrev pub tombstone-tag : ℕ
 tombstone-tag = 1
 
--- by kind: a section's own row, a function, a branch, a line
+-- by kind: a section's header row, a function, a branch, a line
 abbrev pub byKind : {A : Type 0} → ℕ → A → A → A → A → A
 byKind zero a b c d = a
 byKind (suc zero) a b c d = b

@@ -36,7 +36,7 @@ abbrev pub next : Found → Found
 next (At i) = At (suc i)
 next (Insert i) = Insert (suc i)
 
--- where an item's key stands in a sorted list, or where it is to go: as `add` of map goes by it
+-- the position of an item's key in a sorted list, or its insert position; `add` of ordmap decides in the same way
 unfoldable pub place : Item → List Item → Found
 place e [] = Insert 0
 place e (x ∷ xs) = let later = place e xs in byOrder (compareItems e x) (Insert 0) (At 0) (next later)

@@ -20,8 +20,8 @@ ghost use Rattle.table_item.specs.Items.{part, itemOf, ItemInBounds, Ite
 ghost use Rattle.table_item.specs.SortedItems.{itemFrom, SortedItems, FoundPlace};
 ghost use Rattle.table_item.specs.Combining.{Adds, combineOf, seenOne, InnerOne};
 
-// The kinds of a row; a section's own row is the first. The tag is twice the kind, and one more where the start line, the taken count or
-// the checksum is given.
+// The kinds of a row; a section's header row is the first. The tag is twice the kind, plus one where the start line,
+// the taken count or the checksum is given.
 pub const SECTION: u64 = 0;
 
 pub const FUNCTION: u64 = 1;
@@ -30,7 +30,8 @@ pub const BRANCH: u64 = 2;
 
 pub const LINE: u64 = 3;
 
-// The tag that no living row has, since nothing is given of a section's own row: `tombstone-tag` in specs/Items.antt.
+// The tag of a deleted row. No live row has it, since a header row has no optional value: `tombstone-tag` in
+// specs/Items.antt.
 pub const TOMBSTONE: u64 = 1;
 
 // "FN:10,main"
@@ -102,7 +103,7 @@ fn item_row(tag: u64, k1: u64, k2: u64, k3: u64, count: u64) -> Row
     }
 }
 
-// Two parts of the text by bytes. Parts that begin and end alike are not read.
+// Compares two parts of the text by bytes. Equal parts at one offset are not read.
 pub fn compare_parts(text: &[u8], a: u64, n: u64, b: u64, m: u64) -> Order
     requires { ⌜ (a + n ≤ length (now text)) × (b + m ≤ length (now text)) ⌝ }
     ensures { λ r. ⌜ orderOf r ≡ compareBytes (part (now (text .entry)) a n) (part (now (text .entry)) b m) ⌝ }
@@ -159,7 +160,7 @@ pub fn comes_before(text: &[u8], x: Row, y: Row) -> bool
     compare::is_less(compare_items(text, x, y))
 }
 
-// How many of the n items from place `at` on come before the key, by halving.
+// Binary search: how many of the n items from position `at` on come before the key.
 pub fn lower_bound_item(
     text: &[u8],
     words: &[u64],
@@ -186,7 +187,7 @@ pub fn lower_bound_item(
     lo
 }
 
-// Where a key stands, or where it is to go.
+// The position of a key, or its insert position.
 pub enum Found {
     At(usize),
     Insert(usize),

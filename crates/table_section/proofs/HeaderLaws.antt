@@ -1,4 +1,4 @@
--- A section's own row, and rows that get a test name and a path. Assumes nothing.
+-- A section's header row, and rows that get a test name and a path. Assumes nothing.
 use mathlib.Core.Path.{_≡_, refl, sym, ap, _∙_}
 use mathlib.Core.Logic.{_≢_}
 use mathlib.Core.List.{List, [], _∷_}
@@ -99,7 +99,7 @@ range-cons text f lo hi h =
     ap (tabulate (λ k. entryOf text (f (lo + k)))) (let e : hi - lo ≡ suc (hi - suc lo) = omega arith in e)
     ∙ ap (λ (j : ℕ). entryOf text (f j) ∷ tabulate (λ k. entryOf text (f (lo + suc k))) (hi - suc lo)) (add-zero lo)
 
--- ---- the section's own row
+-- ---- the section's header row
 
 abbrev tagOf : Row → ℕ
 tagOf r = r .tag
@@ -118,14 +118,14 @@ module _ {first key : Row} {lo hi : ℕ} where
     other = λ g q. absurd (q (ap tagOf (sym e) ∙ h));
   }
 
--- the own row says the place that the key says
+-- the header row keeps the key's insert position
 pub header-place : {first key r : Row} {lo hi : ℕ} → HeaderRow first lo hi key r → r .k1 ≡ key .k1
 header-place {first} {lo = lo} {hi = hi} ω =
     by-lt lo hi
     (λ l. by-eq (first .tag) 0 (λ e. ap (λ (x : Row). x .k1) (ω .spelled l e)) (λ e. ap (λ (x : Row). x .k1) (ω .other l e)))
     (λ h. ap (λ (x : Row). x .k1) (ω .new h))
 
--- the row is the own entry of the section that has the key, spelled so
+-- the row is the header entry of the section that has the key, with this spelling
 pub record HeaderAs (text : Bytes) (key : Row) (spelling : Bytes) (r : Row) : Type 0 where
   pub whole : RowInBounds text r
   pub is : entryOf text r ≡ inSection (keyOf text key) (sectionItem spelling)
@@ -157,17 +157,17 @@ module _ {text : Bytes} {f : ℕ → Row} {n lo hi : ℕ} {key : Row} (σ : Orde
       paths : components (pathOf text key) ≡ components (pathOf text (f lo))
       paths = ap (λ (k : SectionKey). k .1) (sections-order .equal (range-in ρ lo (omega arith) l))
 
-  -- spelled as entries say that begin with the first of the rows from lo up to hi, or that are none where there is none or that one is dead
+  -- spelled as in the entries from lo on, or as the key where there is none or the first row is deleted
   pub header-as : {r : Row} (es : Report) → (lo < hi → f lo .tag ≢ tombstone-tag → (l : Report) × (es ≡ entryOf text (f lo) ∷ l)) → (lo < hi → f lo .tag ≡ tombstone-tag → es ≡ [])
       → (hi ≤ lo → es ≡ []) → HeaderRow (f lo) lo hi key r → HeaderAs text key (spellingOf (pathOf text key) es) r
   unfolding spellingOf
-  header-as es living dead none ω =
+  header-as es live deleted none ω =
       by-lt lo hi
       (λ l. by-eq (f lo .tag) 0
-      (λ e. rw (ω .spelled l e) (spelled (living l (omega arith)) l e))
+      (λ e. rw (ω .spelled l e) (spelled (live l (omega arith)) l e))
       (λ e. rw (ω .other l e) (by-eq (f lo .tag) tombstone-tag
-      (λ d. key-entry (ap (spellingOf (pathOf text key)) (dead l d)))
-      (λ d. not-spelled (living l d) (omega arith)))))
+      (λ d. key-entry (ap (spellingOf (pathOf text key)) (deleted l d)))
+      (λ d. not-spelled (live l d) (omega arith)))))
       (λ h. rw (ω .new h) (key-entry (ap (spellingOf (pathOf text key)) (none h))))
     where
       spelled : (l : Report) × (es ≡ entryOf text (f lo) ∷ l) → lo < hi → f lo .tag ≡ 0 → HeaderAs text key (spellingOf (pathOf text key) es) (withPath key (f lo))
@@ -176,14 +176,14 @@ module _ {text : Bytes} {f : ℕ → Row} {n lo hi : ℕ} {key : Row} (σ : Orde
       not-spelled : (l : Report) × (es ≡ entryOf text (f lo) ∷ l) → kindOf (f lo) ≢ 0 → HeaderAs text key (spellingOf (pathOf text key) es) key
       not-spelled (l, e) h = key-entry (ap (spellingOf (pathOf text key)) e ∙ not-spelled-by (pathOf text key) text (f lo) l h)
 
-  -- where all rows live
+  -- where all rows are live
   pub header-entry : {r : Row} → (lo < hi → f lo .tag ≢ tombstone-tag) → HeaderRow (f lo) lo hi key r → HeaderAs text key (spellingOf (pathOf text key) (runAt text f lo hi)) r
   unfolding tabulate
   header-entry living ω =
       header-as (runAt text f lo hi) (λ l d. (tabulate (λ k. entryOf text (f (lo + suc k))) (hi - suc lo), range-cons text f lo hi l)) (λ l d. absurd (living l d))
       (λ h. ap (tabulate (λ k. entryOf text (f (lo + k)))) (let e : hi - lo ≡ 0 = omega arith in e)) ω
 
--- the own row has the key's tag
+-- the header row has the key's tag
 pub header-tag : {first key r : Row} {lo hi : ℕ} → HeaderRow first lo hi key r → r .tag ≡ key .tag
 header-tag {first} {lo = lo} {hi = hi} ω =
     by-lt lo hi

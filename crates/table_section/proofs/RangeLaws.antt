@@ -1,4 +1,4 @@
--- Sections compared, and the run of a key among the kept entries. Assumes nothing.
+-- Sections compared, and the equal range of a key among the kept entries. Assumes nothing.
 use mathlib.Core.Path.{_≡_, refl, sym, ap, _∙_}
 use mathlib.Core.Logic.{_≢_}
 use mathlib.Core.Bool.{Bool, true, false}
@@ -65,7 +65,7 @@ pub past-falls : {text : Bytes} {f : ℕ → Row} {n : ℕ} (key : SectionKey) (
 past-falls {text} {f} {n} key equal σ k j l h t =
     by-eq k j (λ e. rw e t) (λ e. goes-on equal key (keyOf text (f k)) (keyOf text (f j)) (σ .ordered k j (omega arith) h) t)
 
--- ---- the run
+-- ---- the equal range
 
 pub goes-greater : (o : Ordering) → isPast false o ≡ true → o ≡ Ordering·gt
 goes-greater Ordering·lt h = cc

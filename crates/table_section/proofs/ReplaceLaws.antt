@@ -46,7 +46,7 @@ module _ (key : SectionKey) where
         ∙ ap₂ _++_ (select-compared Ordering·gt low g)
         (select-append test same high ∙ ap₂ _++_ (select-compared Ordering·eq same e) (select-compared Ordering·lt high l))
 
--- the section's entries stand in place of those that have its key
+-- the section's entries replace those that have its key
 pub replaced : (test path : Bytes) (items : List Item) (low same high : Report)
     → Compared (test, components path) Ordering·gt low → Compared (test, components path) Ordering·eq same
     → Compared (test, components path) Ordering·lt high

@@ -88,7 +88,7 @@ module _ {text : Bytes} {f g : ℕ → Row} {m from n lo hi : ℕ} {key : Row} (
       tabulate-cong (λ k. G (lo + (n + 1 + k))) (λ k. entryOf text (f (lo + (hi - lo + k)))) (m - hi)
       (λ k l. ap (entryOf text) (ς .high (lo + (n + 1 + k)) (lo + (hi - lo + k)) (omega arith) (omega arith) (omega (arith, range-ends ρ))))
 
-  -- it stands between those that are less and those that are greater
+  -- the section is between the entries that are less and those that are greater
   pub closed-parts : tabulate G (lo + (n + 1) + (m - hi))
       ≡ lowerAt text f lo ++ (map mk (sectionItem spelling ∷ itemsOf) ++ higherAt text f m lo hi)
   closed-parts =

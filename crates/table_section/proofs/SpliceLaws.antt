@@ -1,4 +1,4 @@
--- Where rows stand once a section is put among others, and their order. Assumes nothing.
+-- The positions of rows after a splice, and their order. Assumes nothing.
 use mathlib.Core.Path.{_≡_, sym, ap, ap₂, subst, _∙_}
 use mathlib.Core.Logic.{_≢_}
 use mathlib.Core.List.{List}
@@ -18,10 +18,10 @@ use Rattle.table_section.specs.Splice.{withSection, SectionSet, HeaderRo
 use Rattle.table_section.proofs.RangeLaws.{range-before, range-in, range-behind, range-ends}
 use Rattle.table_section.proofs.HeaderLaws.{whole-kept, HeaderAs}
 
--- the own row is put, the items are filled, and the blocks are turned
-module _ (ws : List ℕ) {ws₁ ws₂ : List ℕ} {index used : ℕ} (at m : ℕ) {n lo hi : ℕ} {key own : Row} (a : lo ≤ hi) (b : hi ≤ m)
+-- the header row is put, the items get the section's names, and the blocks are swapped
+module _ (ws : List ℕ) {ws₁ ws₂ : List ℕ} {index used : ℕ} (at m : ℕ) {n lo hi : ℕ} {key header : Row} (a : lo ≤ hi) (b : hi ≤ m)
     (c : at + m + 1 + n ≤ used)
-    (ω : HeaderRow (rowsFrom ws index at lo) lo hi key own) (π : Updated (row ws index) (row ws₁ index) used (at + m) own)
+    (ω : HeaderRow (rowsFrom ws index at lo) lo hi key header) (π : Updated (row ws index) (row ws₁ index) used (at + m) header)
     (φ : SectionSet ws₁ ws₂ index used (at + m + 1) n key) where
   older : (k : ℕ) → k < at + m → row ws₂ index k ≡ row ws index k
   older k l = φ .below k (omega arith) (omega arith) ∙ π .others k (omega arith) (omega arith)
@@ -36,7 +36,7 @@ module _ (ws : List ℕ) {ws₁ ws₂ : List ℕ} {index used : ℕ} (at m : ℕ
       high = λ k j p q e. τ .second (at + k) (at + j) (omega arith) (omega arith) (omega arith) ∙ older (at + j) (omega arith);
     }
       where
-        first : row ws₃ index (at + lo) ≡ own
+        first : row ws₃ index (at + lo) ≡ header
         first = τ .third (at + lo) (at + m) (omega arith) (omega arith) (omega arith) ∙ φ .below (at + m) (omega arith) (omega arith) ∙ π .there
 
     pub spliced-below : Unchanged (row ws index) (row ws₃ index) 0 at
@@ -66,16 +66,16 @@ module _ {text : Bytes} {f g : ℕ → Row} {m from n lo hi : ℕ} {key : Row} (
   header-key : keyOf text (g lo) ≡ keyOf text key
   header-key = ap sectionKey (ω .is)
 
-  -- the section's own row or one of its items
+  -- the section's header row or one of its items
   data OfSection (k : ℕ) : Type 0 where
-    own : k ≡ lo → OfSection k
+    header : k ≡ lo → OfSection k
     item : (j : ℕ) → j < n → g k ≡ withSection (f (from + 1 + j)) key → OfSection k
 
   section-key : (k : ℕ) → OfSection k → keyOf text (g k) ≡ keyOf text key
-  section-key k (own e) = ap (λ (j : ℕ). keyOf text (g j)) e ∙ header-key
+  section-key k (header e) = ap (λ (j : ℕ). keyOf text (g j)) e ∙ header-key
   section-key k (item j l e) = ap (keyOf text) e
 
-  -- what stands at a place
+  -- what a position holds
   data Place (k : ℕ) : Type 0 where
     under : k < lo → g k ≡ f k → Place k
     within : lo ≤ k → k < lo + (n + 1) → OfSection k → Place k
@@ -84,19 +84,19 @@ module _ {text : Bytes} {f g : ℕ → Row} {m from n lo hi : ℕ} {key : Row} (
   place : (k : ℕ) → k < lo + (n + 1) + (m - hi) → Place k
   place k l =
       by-lt k lo (λ h. under h (ς .low k (omega arith) h)) (λ h. by-lt k (lo + (n + 1))
-      (λ q. within h q (by-eq k lo own
+      (λ q. within h q (by-eq k lo header
       (λ e. let j = k - suc lo in item j (omega arith) (ς .items k (from + 1 + j) (omega arith) q (omega arith)))))
       (λ q. over (hi + (k - (lo + (n + 1)))) (omega arith) (omega arith) (omega arith)
       (ς .high k (hi + (k - (lo + (n + 1)))) q (omega arith) (omega arith))))
 
-  -- what holds of the others, of the own row and of the items holds of each
+  -- what holds of the others, of the header row and of the items holds of each
   pub spliced-each : (P : Row → Type 0) → ((k : ℕ) → k < m → P (f k)) → P (g lo) → ((k : ℕ) → k < n → P (withSection (f (from + 1 + k)) key))
       → (k : ℕ) → k < lo + (n + 1) + (m - hi) → P (g k)
   spliced-each P others first items k l = go (place k l)
     where
       go : Place k → P (g k)
       go (under h e) = subst P (sym e) (others k (omega (arith, ρ .low .most)))
-      go (within h q (own e)) = subst (λ (j : ℕ). P (g j)) (sym e) first
+      go (within h q (header e)) = subst (λ (j : ℕ). P (g j)) (sym e) first
       go (within h q (item j i e)) = subst P (sym e) (items j i)
       go (over j h q z e) = subst P (sym e) (others j q)
 
@@ -108,7 +108,7 @@ module _ {text : Bytes} {f g : ℕ → Row} {m from n lo hi : ℕ} {key : Row} (
       → (k : ℕ) → k < lo + (n + 1) + (m - hi) → P (keyOf text (g k))
   spliced-keys P others here = spliced-each (λ (r : Row). P (keyOf text r)) others (subst P (sym header-key) here) (λ k l. here)
 
-  -- what holds of the keys and places of the other own rows and of the section's holds of each
+  -- what holds of the keys and cached positions of the other header rows and of the section's holds of each
   pub spliced-places : (P : SectionKey → ℕ → Type 0) → ((k : ℕ) → k < m → kindOf (f k) ≡ 0 → P (keyOf text (f k)) (f k .k1))
       → P (keyOf text key) (g lo .k1) → (k : ℕ) → k < lo + (n + 1) + (m - hi) → kindOf (g k) ≡ 0 → P (keyOf text (g k)) (g k .k1)
   spliced-places P others here =

@@ -1,4 +1,4 @@
--- The kept sections: entries in the order of the index, and the run of them that has a key. Assumes nothing.
+-- The kept sections: entries in the order of the index, and the equal range of a key. Assumes nothing.
 use Prim.Native.Nat.{ℕ, _+_, _≤_, _<_, Ordering, Ordering·lt, Ordering·eq, Ordering·gt}
 use mathlib.Core.Logic.{_≢_}
 use mathlib.Core.Bool.{Bool, true, false}
@@ -76,9 +76,9 @@ pub record SectionsFrom (text ws : List ℕ) (index used at n : ℕ) : Type 0 wh
   pub room : at + n ≤ used
   pub rows : Ordered text (rowsFrom ws index at) n
 
--- ---- the run of a key
+-- ---- the equal range of a key
 
--- a key goes past what is less, and past what is equal if asked
+-- a key is past an entry that is less, and past one that is equal if `equal`
 abbrev pub isPast : Bool → Ordering → Bool
 isPast equal Ordering·lt = false
 isPast equal Ordering·eq = equal

@@ -42,14 +42,15 @@ withPath r other = record {
   count = r .count;
 }
 
--- the section's own row, where rows from lo up to hi have its key and the first of them is given: a living own row spells the path
+-- the section's header row, given the first of the rows from lo up to hi, which have its key: a live header row there
+-- gives the path's spelling
 pub record HeaderRow (first : Row) (lo hi : ℕ) (key r : Row) : Type 0 where
   pub new : hi ≤ lo → r ≡ key
   pub spelled : lo < hi → first .tag ≡ 0 → r ≡ withPath key first
   pub other : lo < hi → first .tag ≢ 0 → r ≡ key
 
--- f is what each place had, g what it has: the section's own row and its n items, which stood from place from on, stand among m entries in
--- place of those from lo up to hi
+-- f is what each position had, g what it has: the section's header row and its n items, which were from position from
+-- on, replace those from lo up to hi of the m entries
 pub record Spliced (f g : ℕ → Row) (m from n lo hi : ℕ) (key : Row) : Type 0 where
   pub low : Unchanged f g 0 lo
   pub header : HeaderRow (f lo) lo hi key (g lo)

@@ -1,6 +1,7 @@
-// The end of a section: "A section whose key (test name, path) a kept section has replaces that section's data, and the key's first
-// spelling stays" (document 01). Kept entries are the first rows in the index's order: settled ones, and behind them late ones (crate late).
-// Behind these stand the open section's own row and its items, and then free rows.
+// Sections as ranges of rows: comparison, equal range, splice. "A section whose key (test name, path) a kept section
+// has replaces that section's data, and the key's first spelling stays" (document 01). The index holds the kept entries
+// first: main, then the delta (crate section_commit). The open section's header row and its items follow, then free
+// rows.
 use compare::Order;
 use table::Row;
 ghost use mathlib.Core.Path.{_≡_};
@@ -17,7 +18,7 @@ ghost use Rattle.table_item.specs.Items.{part};
 ghost use Rattle.table_section.specs.Sections.{keyOf, NamesInBounds, rowsFrom, SectionsFrom, isPast, PastRow, IsEqualRange};
 ghost use Rattle.table_section.specs.Splice.{withSection, SectionSet, HeaderRow, Spliced};
 
-// Two parts of the text as paths. Parts that begin and end alike are not read.
+// Compares two parts of the text as paths. Equal parts at one offset are not read.
 pub fn compare_path_parts(text: &[u8], a: u64, n: u64, b: u64, m: u64) -> Order
     requires { ⌜ (a + n ≤ length (now text)) × (b + m ≤ length (now text)) ⌝ }
     ensures { λ r. ⌜ orderOf r ≡ comparePaths (components (part (now (text .entry)) a n)) (components (part (now (text .entry)) b m)) ⌝ }
@@ -32,7 +33,7 @@ pub fn compare_path_parts(text: &[u8], a: u64, n: u64, b: u64, m: u64) -> Order
     compare::compare_paths(&text[p..p + (n as usize)], &text[q..q + (m as usize)])
 }
 
-// By test name, then by path.
+// Compares by test name, then by path.
 pub fn compare_sections(text: &[u8], x: Row, y: Row) -> Order
     requires { ⌜ NamesInBounds (now text) x × NamesInBounds (now text) y ⌝ }
     ensures { λ r. ⌜ orderOf r ≡ compareSections (keyOf (now (text .entry)) x) (keyOf (now (text .entry)) y) ⌝ }
@@ -44,7 +45,7 @@ pub fn compare_sections(text: &[u8], x: Row, y: Row) -> Order
     tests
 }
 
-// A key goes past an entry that is less, and past one that is equal if asked.
+// A key is past an entry that is less, and past one that is equal if `equal`.
 pub fn is_past(order: Order, equal: bool) -> bool
     ensures { λ r. ⌜ r ≡ isPast equal (orderOf order) ⌝ }
 {
@@ -55,7 +56,8 @@ pub fn is_past(order: Order, equal: bool) -> bool
     }
 }
 
-// How many of the n entries from place `at` on the key goes past, by halving: it goes past the first `from`, and past none from `to` on.
+// Binary search: how many of the n entries from position `at` on the key is past. It is past the first `from`, and past
+// none from `to` on.
 fn partition_point(
     text: &[u8],
     words: &[u64],
@@ -86,8 +88,8 @@ fn partition_point(
     lo
 }
 
-// The end of the run of a key that goes past the first `from` entries. Most sections are small beside all that is kept, so steps that double
-// come before the halving.
+// The end of the equal range of a key that is past the first `from` entries. Most sections are small compared with all
+// kept entries, so the search gallops before it bisects.
 fn upper_bound(
     text: &[u8],
     words: &[u64],
@@ -117,13 +119,13 @@ fn upper_bound(
     partition_point(text, words, index, used, at, n, lo, n, key, true)
 }
 
-// Of the entries from a place on, those from lo up to hi have the key of a section.
+// Positions lo up to hi, not including hi.
 pub struct EqualRange {
     pub lo: usize,
     pub hi: usize,
 }
 
-// Whether the i-th of the n entries from place `at` on, if there is one, has the key.
+// Whether the i-th of the n entries from position `at` on exists and has the key.
 fn has_key(
     text: &[u8],
     words: &[u64],
@@ -145,8 +147,8 @@ fn has_key(
     compare::is_equal(compare_sections(text, key, other))
 }
 
-// Most texts have their sections in order, so that the key comes after the last: tried first. Some have them in descending order, so that
-// it comes before the first. And most keys are new.
+// The equal range of a key among the n entries from position `at` on. It tries the last entry first, since most texts have their
+// sections in order, then the first entry, since some have them in descending order. Most keys are new.
 pub fn equal_range(
     text: &[u8],
     words: &[u64],
@@ -172,7 +174,7 @@ pub fn equal_range(
     }
     let lo = partition_point(text, words, index, used, at, n, 0, n, key, false);
     if has_key(text, words, index, used, at, n, lo, key) {
-        // rows of one section have their names at the same places, so that these are told apart from others without reading them
+        // rows of one section have their names at the same offsets, so they are recognised without reading the names
         let same = table::get(words, index, used, at + lo);
         let hi = upper_bound(text, words, index, used, at, n, lo + 1, same);
         return EqualRange { lo: lo, hi: hi };
@@ -192,7 +194,7 @@ pub fn with_section(row: Row, key: Row) -> Row
     out
 }
 
-// The n rows from place `from` on get the section's test name and path.
+// Gives the n rows from position `from` on the section's test name and path.
 pub fn set_section(words: &mut [u64], index: usize, used: usize, from: usize, n: usize, key: Row)
     requires { ⌜ Store (now words) index used × (from + n ≤ used) ⌝ }
     ensures { λ _. ⌜ SectionSet (now (words .entry)) (now (words .exit)) index used from n key ⌝ }
@@ -205,11 +207,11 @@ pub fn set_section(words: &mut [u64], index: usize, used: usize, from: usize, n:
     }
 }
 
-// The tag of a section's own row. Of the two tags of its kind it is the one of a living row (crate dropping).
+// The tag of a live header row; the other tag of its kind marks a deleted row (crate table_tombstone).
 const HEADER_TAG: u64 = 0;
 
-// The section's own row: the key, spelled as the first of the rows from lo up to hi, which is the own row of the section that has it.
-// Places count from `at` on.
+// The section's header row: the key, with the path's spelling of the section that it replaces. The rows from lo up to
+// hi have its key, and the first of them is that section's header row. Positions count from `at` on.
 pub fn header_row(
     words: &[u64],
     index: usize,
@@ -229,14 +231,14 @@ pub fn header_row(
     if first.tag != HEADER_TAG {
         return key;
     }
-    let mut own = key;
-    own.path = first.path;
-    own.path_len = first.path_len;
-    own
+    let mut header = key;
+    header.path = first.path;
+    header.path_len = first.path_len;
+    header
 }
 
-// The open section, whose own row and n items stand behind the m entries from place `at` on, comes among these, in place of those from lo
-// up to hi. Answers how many entries they are then. `spare` is where free words start.
+// Splices the open section, whose header row and n items follow the m entries from position `at` on, into these, in
+// place of those in `range`. Answers the new number of entries. `spare` is the offset of free words.
 pub fn splice(
     words: &mut [u64],
     index: usize,
@@ -257,8 +259,8 @@ pub fn splice(
 {
     let lo = range.lo;
     let hi = range.hi;
-    let own = header_row(words, index, used, at, lo, hi, key);
-    table::put(words, index, used, at + m, own);
+    let header = header_row(words, index, used, at, lo, hi, key);
+    table::put(words, index, used, at + m, header);
     set_section(words, index, used, at + m + 1, n, key);
     let number = lo + (n + 1) + (m - hi);
     if m <= lo {

@@ -1,5 +1,5 @@
--- The loop of `compact`: of the first i numbers, those of living rows stand behind one another in front, and those of dead rows in the spare
--- words. Assumes nothing.
+-- The loop of `compact`: of the first i row numbers, those of live rows are in front, in order, and those of deleted
+-- rows in the spare words. Assumes nothing.
 use mathlib.Core.Path.{_≡_, refl, sym, ap, _∙_}
 use mathlib.Core.Bool.{true, false, not}
 use mathlib.Core.List.{List}
@@ -19,30 +19,30 @@ use Rattle.table_tombstone.specs.Live.{isLive, oneFor, Compacted}
 use Rattle.table_tombstone.proofs.CountLaws.{live-count, live-count-none, live-count-next, live-count-most, live-count-past, deleted-past, live-at, deleted-at, gathered}
 use Rattle.table_tombstone.proofs.MarkLaws.{tag-room}
 
--- ---- numbers that are sifted
+-- ---- row numbers, compacted
 
--- f is what each place had, g what it has, and the rows say which of the first n live: the living come first, and then the dead
+-- f is what each position had, g what it has: of the first n, the live come first, then the deleted
 pub record Partitioned (rows : ℕ → Row) (f g : ℕ → ℕ) (used n : ℕ) : Type 0 where
   pub live : (k : ℕ) → k < n → isLive (rows k) ≡ true → g (live-count rows k) ≡ f k
-  pub dead : (k j : ℕ) → k < n → isLive (rows k) ≡ false → j + live-count rows k ≡ live-count rows n + k → g j ≡ f k
+  pub deleted : (k j : ℕ) → k < n → isLive (rows k) ≡ false → j + live-count rows k ≡ live-count rows n + k → g j ≡ f k
   pub over : Unchanged f g n used
 
 -- the place j has what the place m had
 data Source (rows : ℕ → Row) (n j m : ℕ) : Type 0 where
   live : m < n → isLive (rows m) ≡ true → j ≡ live-count rows m → Source rows n j m
-  dead : m < n → isLive (rows m) ≡ false → j + live-count rows m ≡ live-count rows n + m → Source rows n j m
+  deleted : m < n → isLive (rows m) ≡ false → j + live-count rows m ≡ live-count rows n + m → Source rows n j m
   over : n ≤ m → j ≡ m → Source rows n j m
 
 -- no two places have what one had
 source-once : {rows : ℕ → Row} {n j k m : ℕ} → Source rows n j m → Source rows n k m → j ≡ k
 source-once (live a t e) (live b u f) = omega arith
-source-once (live a t e) (dead b u f) = let z : true ≡ false = sym t ∙ u in cc
+source-once (live a t e) (deleted b u f) = let z : true ≡ false = sym t ∙ u in cc
 source-once (live a t e) (over b f) = omega arith
-source-once (dead a t e) (live b u f) = let z : true ≡ false = sym u ∙ t in cc
-source-once (dead a t e) (dead b u f) = omega arith
-source-once (dead a t e) (over b f) = omega arith
+source-once (deleted a t e) (live b u f) = let z : true ≡ false = sym u ∙ t in cc
+source-once (deleted a t e) (deleted b u f) = omega arith
+source-once (deleted a t e) (over b f) = omega arith
 source-once (over a e) (live b u f) = omega arith
-source-once (over a e) (dead b u f) = omega arith
+source-once (over a e) (deleted b u f) = omega arith
 source-once (over a e) (over b f) = omega arith
 
 module _ {rows : ℕ → Row} {f g : ℕ → ℕ} {used n : ℕ} (h : n ≤ used) (π : Partitioned rows f g used n) where
@@ -63,7 +63,7 @@ module _ {rows : ℕ → Row} {f g : ℕ → ℕ} {used n : ℕ} (h : n ≤ used
       died : live-count rows n ≤ j → (m : ℕ) × (m < n) × (isLive (rows m) ≡ false) × (live-count rows m + (j - live-count rows n) ≡ m) → From j
       died b (m, a, t, e) =
           let z : j + live-count rows m ≡ live-count rows n + m = omega arith in
-          (m, omega arith, dead a t z, π .dead m j a t z)
+          (m, omega arith, deleted a t z, π .deleted m j a t z)
 
   -- numbers that are parted are an index still
   pub parted-index : Index f used → Index g used
@@ -108,7 +108,7 @@ pub record Fits (ws : List ℕ) (index used n spare : ℕ) : Type 0 where
   pub behind : index + used ≤ spare
   pub room : spare + n ≤ length ws
 
--- of the first i places v live
+-- of the first i positions, v are live
 pub record Compacting (ws₀ ws : List ℕ) (index used n spare i v : ℕ) : Type 0 where
   pub size : length ws ≡ length ws₀
   pub most : i ≤ n
@@ -116,7 +116,7 @@ pub record Compacting (ws₀ ws : List ℕ) (index used n spare i v : ℕ) : Typ
   pub kept : UnchangedOutside ws₀ ws index (spare + n)
   pub rest : Unchanged (number ws₀ index) (number ws index) i used
   pub live : (k : ℕ) → k < i → isLive (row ws₀ index k) ≡ true → number ws index (live-count (row ws₀ index) k) ≡ number ws₀ index k
-  pub dead : (k j : ℕ) → k < i → isLive (row ws₀ index k) ≡ false → j + live-count (row ws₀ index) k ≡ k → word ws (spare + j) ≡ number ws₀ index k
+  pub deleted : (k j : ℕ) → k < i → isLive (row ws₀ index k) ≡ false → j + live-count (row ws₀ index) k ≡ k → word ws (spare + j) ≡ number ws₀ index k
 
 pub compacting-start : (ws : List ℕ) (index used n spare : ℕ) → Compacting ws ws index used n spare 0 0
 compacting-start ws index used n spare = record {
@@ -126,7 +126,7 @@ compacting-start ws index used n spare = record {
   kept = record { below = λ j l. refl; above = λ j l. refl };
   rest = λ k l h. refl;
   live = λ k l t. absurd (omega arith);
-  dead = λ k j l t e. absurd (omega arith);
+  deleted = λ k j l t e. absurd (omega arith);
 }
 
 module _ {ws₀ ws : List ℕ} {index used n spare i v : ℕ} (φ : Fits ws₀ index used n spare) (η : Compacting ws₀ ws index used n spare i v) where
@@ -137,7 +137,7 @@ module _ {ws₀ ws : List ℕ} {index used n spare i v : ℕ} (φ : Fits ws₀ i
     same-number : number ws index i ≡ number ws₀ index i
     same-number = η .rest i (omega arith) (omega (arith, φ .rows))
 
-    -- where the tag stands
+    -- the tag's word is in bounds
     pub compacting-room : number ws index i * row-words + tag-word < index
     compacting-room = omega (arith, same-number, tag-room i (φ .store) (omega (arith, φ .rows)))
 
@@ -185,15 +185,15 @@ module _ {ws₀ ws : List ℕ} {index used n spare i v : ℕ} (φ : Fits ws₀ i
             (omega (arith, η .count, live-count-past (row ws₀ index) k i (omega arith) t))
             (omega (arith, live-count-most (row ws₀ index) k, φ .rows, φ .behind))
             ∙ η .live k (omega arith) t);
-        dead = λ k j a t e. by-eq k i
+        deleted = λ k j a t e. by-eq k i
             (λ z. let y : j ≡ i - v = omega (arith, η .count, ap (live-count (row ws₀ index)) z) in rw (y, z) high)
             (λ z. other (spare + j)
             (omega (arith, compacting-most, φ .rows, φ .behind))
             (omega (arith, η .count, deleted-past (row ws₀ index) k i (omega arith) t))
-            ∙ η .dead k j (omega arith) t e);
+            ∙ η .deleted k j (omega arith) t e);
       }
 
-  -- all are passed, and the dead come back behind the living
+  -- all positions are visited, and the deleted are copied back behind the live
   module _ {ws′ : List ℕ} (done : n ≤ i) (e : length ws′ ≡ length ws) (μ : Moved ws ws′ spare (index + v) (n - v)) where
     all : i ≡ n
     all = omega (arith, η .most)
@@ -203,13 +203,13 @@ module _ {ws₀ ws : List ℕ} {index used n spare i v : ℕ} (φ : Fits ws₀ i
       live = λ k l t.
           μ .kept .below (index + live-count (row ws₀ index) k) (omega (arith, all, η .count, live-count-past (row ws₀ index) k i (omega (arith, all)) t))
           ∙ η .live k (omega (arith, all)) t;
-      dead = λ k j l t x.
+      deleted = λ k j l t x.
           let c : live-count (row ws₀ index) n ≡ v = ap (live-count (row ws₀ index)) (sym all) ∙ sym (η .count) in
           μ .shifted (index + j) (spare + (j - v))
           (omega (arith, c, live-count-most (row ws₀ index) k))
           (omega (arith, c, deleted-past (row ws₀ index) k n l t))
           (omega (arith, c, live-count-most (row ws₀ index) k))
-          ∙ η .dead k (j - v) (omega (arith, all)) t (omega (arith, c, live-count-most (row ws₀ index) k));
+          ∙ η .deleted k (j - v) (omega (arith, all)) t (omega (arith, c, live-count-most (row ws₀ index) k));
       over = λ k l m. μ .kept .above (index + k) (omega (arith, compacting-most, all)) ∙ η .rest k (omega (arith, all)) m;
     }
 

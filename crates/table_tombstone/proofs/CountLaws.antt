@@ -1,4 +1,5 @@
--- How many of the first rows live: one row more, each living and each dead one found by its number, and the living gathered. Assumes nothing.
+-- How many of the first rows are live: one more row, each live and each deleted row by its count, and the live rows in
+-- order. Assumes nothing.
 use mathlib.Core.Path.{_≡_, refl, sym, ap, _∙_}
 use mathlib.Core.Bool.{Bool, true, false}
 use mathlib.Core.List.{List, [], _∷_, _++_, append-nil}
@@ -17,7 +18,7 @@ use Rattle.table.proofs.BinarySearch.{by-test}
 use Rattle.table_tombstone.specs.Live.{isLive, oneFor, liveRows}
 use Rattle.table_tombstone.proofs.LiveLaws.{live-split, live-most}
 
--- how many of the first n rows live
+-- how many of the first n rows are live
 unfoldable pub live-count : (ℕ → Row) → ℕ → ℕ
 live-count f n = length (liveRows f n)
 
@@ -77,14 +78,14 @@ module _ (f : ℕ → Row) where
   pub live-count-more : (k n : ℕ) → k ≤ n → More k n
   live-count-more k n h = let e : k + (n - k) ≡ n = omega arith in rw e at (more k (n - k))
 
-  -- a living row before the n-th adds to what was before it, and a dead one to the dead
+  -- a live row before the n-th adds one to the live before it, a deleted row one to the deleted
   pub live-count-past : (k n : ℕ) → k < n → isLive (f k) ≡ true → live-count f k < live-count f n
   live-count-past k n h e = omega (arith, live-count-live k e, live-count-more (k + 1) n (omega arith) .up)
 
   pub deleted-past : (k n : ℕ) → k < n → isLive (f k) ≡ false → live-count f n + k < live-count f k + n
   deleted-past k n h e = omega (arith, live-count-deleted k e, live-count-more (k + 1) n (omega arith) .most)
 
-  -- ---- each living row and each dead one, by how many of its kind come before it
+  -- ---- each live and each deleted row, by how many of its kind come before it
 
   pub live-at : (n j : ℕ) → j < live-count f n → (m : ℕ) × (m < n) × (isLive (f m) ≡ true) × (live-count f m ≡ j)
   live-at zero j h = absurd (omega (arith, live-count-none))
@@ -116,7 +117,7 @@ module _ (f : ℕ → Row) where
       wider : (m : ℕ) × (m < n) × (isLive (f m) ≡ false) × (live-count f m + j ≡ m) → (m : ℕ) × (m < suc n) × (isLive (f m) ≡ false) × (live-count f m + j ≡ m)
       wider (m, a, b, c) = (m, omega arith, b, c)
 
--- where each living row stands behind as many as live before it, the first rows are the living
+-- where each live row is at the count of live rows before it, the first rows are the live ones
 pub gathered : (g f : ℕ → Row) (n : ℕ) → ((k : ℕ) → k < n → isLive (f k) ≡ true → g (live-count f k) ≡ f k) → tabulate g (live-count f n) ≡ liveRows f n
 unfolding tabulate filter
 gathered g f zero h = ap (tabulate g) (live-count-none f)

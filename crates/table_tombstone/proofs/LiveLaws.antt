@@ -1,4 +1,4 @@
--- Laws of living rows: those of parts, of rows that all live or that are all dead, and what a tag says. Assumes nothing.
+-- Laws of live rows: of parts, of rows that are all live or all deleted, and of tags. Assumes nothing.
 use mathlib.Core.Path.{_≡_, refl, sym, ap, _∙_}
 use mathlib.Core.Logic.{_≢_}
 use mathlib.Core.Bool.{Bool, true, false, not}
@@ -30,7 +30,7 @@ module _ (r : Row) where
   pub deleted-tagged : isLive r ≡ false → r .tag ≡ tombstone-tag
   deleted-tagged e = eqb-true (r .tag) tombstone-tag (not-false (eqb (r .tag) tombstone-tag) e)
 
-  -- a dead row stays the same when it is made dead
+  -- marking a deleted row changes nothing
   pub deleted-again : isLive r ≡ false → deletedRow r ≡ r
   deleted-again e = ap with-tag (sym (deleted-tagged e))
     where
@@ -47,7 +47,7 @@ module _ (r : Row) where
         count = r .count;
       }
 
--- ---- the living of rows
+-- ---- the live rows of some rows
 
 pub live-cong : (g f : ℕ → Row) (n : ℕ) → ((k : ℕ) → k < n → g k ≡ f k) → liveRows g n ≡ liveRows f n
 live-cong g f n h = ap (filter isLive) (tabulate-cong g f n h)
@@ -60,7 +60,7 @@ pub live-three : (f : ℕ → Row) (a b c : ℕ)
 live-three f a b c = live-split f a (b + c) ∙ ap (λ (t : List Row). liveRows f a ++ t) (live-split (λ k. f (a + k)) b c)
 
 module _ (P : Row → Type 0) where
-  -- what each living row has, each of the living has
+  -- what holds of each live row holds of each row in the list of live rows
   pub live-each : (f : ℕ → Row) (n : ℕ) → ((k : ℕ) → k < n → isLive (f k) ≡ true → P (f k)) → All P (liveRows f n)
   unfolding tabulate filter
   live-each f zero h = tt

@@ -1,4 +1,4 @@
--- The loop of `mark_deleted`: the rows from lo up to i lived and are dead now. Assumes nothing.
+-- The loop of `mark_deleted`: the rows from lo up to i were live and are now deleted. Assumes nothing.
 use mathlib.Core.Path.{_≡_, refl, sym, ap, _∙_}
 use mathlib.Core.Logic.{_≢_}
 use mathlib.Core.Bool.{true, false}
@@ -33,7 +33,7 @@ module _ (ws : List ℕ) (index i : ℕ) where
 
 -- ---- the tag's word is written
 
--- the words with the tag of row j written
+-- the words with another tag of row j
 abbrev pub tagged : List ℕ → ℕ → List ℕ
 tagged ws j = set ws (j * row-words + tag-word) tombstone-tag
 
@@ -57,7 +57,7 @@ tag-written ws j h = record {
     same k n = getD-set-other ws (j * row-words + tag-word) k tombstone-tag 0 n
 
 module _ {ws : List ℕ} {index used : ℕ} (i : ℕ) (σ : Store ws index used) (l : i < used) where
-  -- where the tag stands
+  -- the tag's word is in bounds
   pub tag-room : number ws index i * row-words + tag-word < index
   tag-room = omega (arith, σ .numbers .below i l, σ .rows-end)
 
@@ -73,7 +73,7 @@ module _ {ws : List ℕ} {index used : ℕ} (i : ℕ) (σ : Store ws index used)
 
 -- ---- the loop
 
--- the rows from lo up to i lived and are dead now, and the others are as they were
+-- the rows from lo up to i were live and are now deleted; the others are unchanged
 pub record Marking (f g : ℕ → Row) (used lo i : ℕ) : Type 0 where
   pub lived : (k : ℕ) → lo ≤ k → k < i → isLive (f k) ≡ true
   pub there : (k : ℕ) → lo ≤ k → k < i → g k ≡ deletedRow (f k)
@@ -89,7 +89,7 @@ marking-none f used lo = record {
 }
 
 module _ {f g : ℕ → Row} {used lo i : ℕ} (β : Marking f g used lo i) (l : lo ≤ i) where
-  -- a living row more
+  -- one more live row
   pub marking-one : {h : ℕ → Row} → i < used → isLive (g i) ≡ true → Updated g h used i (deletedRow (g i)) → Marking f h used lo (i + 1)
   marking-one {h} m e π = record {
     lived = λ k p q. by-eq k i (λ x. rw x (ap isLive (sym still) ∙ e)) (λ x. β .lived k p (omega arith));
@@ -103,19 +103,19 @@ module _ {f g : ℕ → Row} {used lo i : ℕ} (β : Marking f g used lo i) (l :
       still : g i ≡ f i
       still = β .above i (omega arith) m
 
-  -- the rest is dead already
+  -- the rest is already deleted
   marked : {hi : ℕ} → i ≤ hi → hi ≤ used → ((k : ℕ) → i ≤ k → k < hi → isLive (f k) ≡ false) → MarkedDeleted f g used lo hi (i - lo)
-  marked {hi} m n dead = record {
+  marked {hi} m n deleted = record {
     there = λ k p q. by-lt k i
         (λ x. β .there k p x)
-        (λ x. β .above k x (omega arith) ∙ sym (deleted-again (f k) (dead k x q)));
+        (λ x. β .above k x (omega arith) ∙ sym (deleted-again (f k) (deleted k x q)));
     below = β .below;
     above = λ k p q. β .above k (omega arith) q;
     count =
         ap (λ (k : ℕ). length (liveRows from k)) (let e : hi - lo ≡ i - lo + (hi - i) = omega arith in e)
         ∙ ap length (live-split from (i - lo) (hi - i))
         ∙ ap (λ (t : List Row). length (liveRows from (i - lo) ++ t))
-        (live-none (λ k. from (i - lo + k)) (hi - i) (λ k p. dead (lo + (i - lo + k)) (omega arith) (omega arith)))
+        (live-none (λ k. from (i - lo + k)) (hi - i) (λ k p. deleted (lo + (i - lo + k)) (omega arith) (omega arith)))
         ∙ ap length (append-nil (liveRows from (i - lo)))
         ∙ ap length (live-all from (i - lo) (λ k p. β .lived (lo + k) (omega arith) (omega arith)))
         ∙ length-tabulate from (i - lo);
@@ -124,7 +124,7 @@ module _ {f g : ℕ → Row} {used lo i : ℕ} (β : Marking f g used lo i) (l :
       from : ℕ → Row
       from k = f (lo + k)
 
-  -- where the living come first, all is dead behind a dead row
+  -- where the live rows come first, every row behind a deleted one is deleted
   pub marked-deleted : {hi : ℕ} → i < hi → hi ≤ used → ((j k : ℕ) → lo ≤ j → j < k → k < hi → isLive (f k) ≡ true → isLive (f j) ≡ true)
       → isLive (g i) ≡ false → MarkedDeleted f g used lo hi (i - lo)
   marked-deleted {hi} m n first e = marked (omega arith) n rest

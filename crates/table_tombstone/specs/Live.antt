@@ -1,4 +1,5 @@
--- Rows that were replaced: dead where they stand, until many are dropped together. Assumes nothing.
+-- Tombstones: a replaced row is marked in place, and compaction removes all marked rows from the index. Assumes
+-- nothing.
 use Prim.Native.Nat.{ℕ, _+_, _-_, _≤_, _<_}
 use mathlib.Core.Path.{_≡_}
 use mathlib.Core.Bool.{Bool, true, false, not}
@@ -13,12 +14,12 @@ use Rattle.table_item.specs.Items.{tombstone-tag}
 abbrev pub isLive : Row → Bool
 isLive r = not (eqb (r .tag) tombstone-tag)
 
--- what a row adds to the number of the living
+-- what a row adds to the number of live rows
 abbrev pub oneFor : Bool → ℕ
 oneFor true = 1
 oneFor false = 0
 
--- a row with the tag of the dead
+-- a row with the tombstone's tag
 abbrev pub deletedRow : Row → Row
 deletedRow r = record {
   test = r .test;
@@ -32,18 +33,19 @@ deletedRow r = record {
   count = r .count;
 }
 
--- those of the first n rows that live, in their order
+-- the live ones of the first n rows, in order
 abbrev pub liveRows : (ℕ → Row) → ℕ → List Row
 liveRows f n = filter isLive (tabulate f n)
 
--- f is what each place had, g what it has: the rows from lo up to, not including, hi are dead, and r of them lived
+-- f is what each position had, g what it has: the rows from lo up to, not including, hi are deleted, and r of them were
+-- live
 pub record MarkedDeleted (f g : ℕ → Row) (used lo hi r : ℕ) : Type 0 where
   pub there : (k : ℕ) → lo ≤ k → k < hi → g k ≡ deletedRow (f k)
   pub below : Unchanged f g 0 lo
   pub above : Unchanged f g hi used
   pub count : length (liveRows (λ k. f (lo + k)) (hi - lo)) ≡ r
 
--- f is what each place had, g what it has: r of the first n rows lived, and these now come first
+-- f is what each position had, g what it has: r of the first n rows were live, and these are now the first r
 pub record Compacted (f g : ℕ → Row) (n r : ℕ) : Type 0 where
   pub rows : tabulate g r ≡ liveRows f n
   pub most : r ≤ n

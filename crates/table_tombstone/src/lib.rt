@@ -1,6 +1,5 @@
-// Rows that were replaced are marked dead where they stand, and later many dead ones are dropped together, in one pass over the index: to
-// take each out as it dies would move the rest of the index every time. Each row is marked once: `mark_deleted` stops where the dead ones begin. Of a
-// row only the word of its tag is read and written.
+// Tombstones. `mark_deleted` marks replaced rows in place, since removing each from the index would shift the rest of
+// it. `compact` removes all marked rows in one pass. Both read and write only the tag of a row.
 use table::ROW_WORDS;
 use table::TAG_WORD;
 use table_item::TOMBSTONE;
@@ -13,7 +12,7 @@ ghost use Rattle.table.specs.Store.{Store, row};
 ghost use Rattle.table_item.specs.Items.{tombstone-tag};
 ghost use Rattle.table_tombstone.specs.Live.{isLive, oneFor, MarkedDeleted, Compacted};
 
-// One for a living row's tag, none for a dead one's: a number to add, so that the loop of `compact` has no branch that can't be foretold.
+// 1 for the tag of a live row, 0 for that of a deleted one. A number to add spares `compact` an unpredictable branch.
 fn count_live(tag: u64) -> usize
     ensures told { λ r. ⌜ r ≡ oneFor (not (eqb tag tombstone-tag)) ⌝ }
     ensures most { λ r. ⌜ r ≤ 1 ⌝ }
@@ -24,9 +23,8 @@ fn count_live(tag: u64) -> usize
     1
 }
 
-// The rows from place lo up to hi are marked dead. Answers how many of them lived. These stand in front of those that are dead already, and
-// the first dead row that is met ends the work: a range may have many dead rows, which would be met again every time, while each living row
-// is buried once.
+// Marks the rows from position lo up to hi as deleted and answers how many of them were live. Live rows come before
+// deleted ones there, so the first deleted row ends the loop: each row is marked once, however often a range is marked.
 pub fn mark_deleted(words: &mut [u64], index: usize, used: usize, lo: usize, hi: usize) -> usize
     requires { ⌜ Store (now words) index used × (lo ≤ hi) × (hi ≤ used) ⌝ }
     requires { ⌜ ((i j : ℕ) → lo ≤ i → i < j → j < hi → isLive (row (now words) index j) ≡ true → isLive (row (now words) index i) ≡ true) ⌝ }
@@ -46,9 +44,9 @@ pub fn mark_deleted(words: &mut [u64], index: usize, used: usize, lo: usize, hi:
     i - lo
 }
 
-// Of the first n rows in the index's order the living come first, in their order, and then the dead. Answers how many live. `spare` is where
-// n free words start. Each number is written to both sides, and the next one overwrites it on the side to which it does not belong: the
-// place in front is one that is passed already.
+// Moves the live ones of the first n rows to the front, in order, and the deleted ones behind them. Answers how many
+// are live. `spare` is the offset of n free words. Each row number is written to both destinations, and the next one
+// overwrites it in the wrong one: the position in front has been read already.
 pub fn compact(words: &mut [u64], index: usize, used: usize, n: usize, spare: usize) -> usize
     requires { ⌜ Store (now words) index used × (n ≤ used) ⌝ }
     requires { ⌜ (index + used ≤ spare) × (spare + n ≤ length (now words)) ⌝ }

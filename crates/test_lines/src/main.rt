@@ -1,5 +1,6 @@
-// Replays recorded lines: standard input holds cases, each a little-endian u16 length and a line of that many bytes. For each it writes
-// the record printed, or `refused`, number, text (always 0), line and field. tests/README.md tells how the lines and the answers of the Rust were recorded.
+// Replays recorded lines: standard input holds cases, each a little-endian u16 length and a line of that many bytes.
+// For each it writes the record printed, or `refused`, number, text (always 0), line and field. tests/README.md says
+// how the lines and the Rust's answers were recorded.
 ghost use Prim.Native.Nat.{_+_, _≤_};
 ghost use lib.ListN.{length};
 use model::LineAnswer;
@@ -8,7 +9,7 @@ use model::WriteAnswer;
 
 const MAX_INPUT: usize = 131072;
 
-// A line has at most 65,535 bytes, so its record always finds room; if not, that is told and the comparison fails.
+// A line has at most 65,535 bytes, so its record always fits; if not, the output says so and the comparison fails.
 fn show_record(line: &[u8], record: Record) {
     let mut out = io::large_buffer();
     let wrote = record_display::print_line(line, record, &mut out);

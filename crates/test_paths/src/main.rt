@@ -1,5 +1,5 @@
-// Writes how pairs of paths compare, a line for each: those of document 01's case (h), and the spellings that its paragraph on paths
-// tells apart or not.
+// Compares pairs of paths and writes a line for each: those of document 01's case (h), and the spellings that its
+// paragraph on paths distinguishes or not.
 use compare::Order;
 
 fn sign(order: Order) -> u8 {

@@ -1,6 +1,6 @@
-// Reads recorded texts: standard input holds cases, each a little-endian u16 entry limit, a u16 length and a text of that many bytes. For
-// each it reads the text in scratch for that many entries and writes what the scratch then holds, as a printed report, or the refusal.
-// tests/README.md tells how the texts and their answers were recorded.
+// Reads recorded texts: standard input holds cases, each a little-endian u16 entry limit, a u16 length and a text of
+// that many bytes. For each it reads the text in scratch for that many entries and writes the report, or the refusal.
+// tests/README.md says how the texts and their answers were recorded.
 ghost use mathlib.Core.Path.{_≡_};
 ghost use Prim.Native.Nat.{_*_, min};
 ghost use Rattle.model.specs.Limits.{words-per-entry, program-words};

@@ -19,7 +19,7 @@ abbrev grouped : tie.After-emit-group2 → tie.After-emit-group
 grouped l = l .before .before .before .before
 
 abbrev begun : (k : tie.After-slice-known) → let a = k .before .before .before .args in
-    Begun (a .write) (now (a .text)) (now (a .words)) (now (a .out)) (a .own) (a .numbers) (a .at) (a .kept)
+    Begun (a .write) (now (a .text)) (now (a .words)) (now (a .out)) (a .header) (a .numbers) (a .at) (a .kept)
 begun k = record { room = k .before .before .before .pre .1; few = omega arith; place = omega arith }
 
 pub print-kept-spec : {M : Type 1} → statement M

@@ -1,4 +1,4 @@
--- `gather::gather` meets its contract: a report and a refusal both stand at the front of the output. Assumes nothing.
+-- `gather::gather` meets its contract: a report and a refusal both are at the front of the output. Assumes nothing.
 use borrow.Author.Needs.{needs}
 use denote.Ref.{now}
 use Rattle.gather.proofs.ProgramLaws.{gathered, gather-refused}

@@ -1,5 +1,5 @@
 -- `line_num::insert` meets its contract: a walk of its MIR, by hand. The slice is lent as a `&` for a lifetime ν of the pass, and comes back; then it goes to `rewrite` for good, at its own lifetime, share and name.
---     Having       what is had between the calls: two things in front, and the locals from the last to the first: local j stands at 26 - 2 j
+--     Having       what is had between the calls: two things in front, and the locals from the last to the first: local j is at 26 - 2 j
 --     scanning, planning, rewriting, answering     the body, cut at its calls
 -- Assumes nothing.
 use mathlib.Core.Path.{_≡_, refl, sym, ap, _∙_, subst}
@@ -57,7 +57,7 @@ use Rattle.line_num_pairs.specs.Pairs.{pair}
 use Rattle.line_num.specs.declared.Scan.{Scan}
 use Rattle.line_num.specs.declared.Plan.{Plan}
 use Rattle.line_num.specs.Scans.{scanOf}
-use Rattle.line_num.specs.Turns.{planOf, answerOf, PlanFits, rewritten}
+use Rattle.line_num.specs.Steps.{planOf, answerOf, PlanFits, rewritten}
 use Rattle.line_num.proofs.Scan as S
 use Rattle.line_num.proofs.Scan.Laws as S′
 use Rattle.line_num.proofs.Plan as P

@@ -1,6 +1,6 @@
 -- `line_num::insert_answer` meets its contract. Assumes nothing.
 use borrow.Author.Needs.{needs}
-use Rattle.line_num.proofs.TurnLaws.{answer-short, answer-ill, answer-dropped, answer-put, answer-full}
+use Rattle.line_num.proofs.StepLaws.{answer-short, answer-ill, answer-dropped, answer-put, answer-full}
 use Rattle.line_num.proofs.insert_answer.Statement.{statement}
 use Rattle.line_num.proofs.insert_answer.Tie as tie
 

@@ -1,6 +1,6 @@
 -- `line_num::plan_of` meets its contract. Assumes nothing.
 use borrow.Author.Needs.{needs}
-use Rattle.line_num.proofs.TurnLaws.{plan-short, plan-ill, plan-dropped, plan-put, plan-full}
+use Rattle.line_num.proofs.StepLaws.{plan-short, plan-ill, plan-dropped, plan-put, plan-full}
 use Rattle.line_num.proofs.plan_of.Statement.{statement}
 use Rattle.line_num.proofs.plan_of.Tie as tie
 

@@ -1,6 +1,6 @@
 -- `line_num::put_at` meets its contract. Assumes nothing.
 use borrow.Author.Needs.{needs}
-use Rattle.line_num.proofs.TurnLaws.{put-past, put-stays, put-joined, put-last, put-zero}
+use Rattle.line_num.proofs.StepLaws.{put-past, put-stays, put-joined, put-last, put-zero}
 use Rattle.line_num.proofs.put_at.Statement.{statement}
 use Rattle.line_num.proofs.put_at.Tie as tie
 

@@ -1,7 +1,7 @@
--- `line_num::rewrite` meets its contract: a walk of its MIR, by hand, with a loop. The borrow is opened once, before the loop, and closed once, after it. A turn asks `read_at` for a place, copies the element there, asks `put_at` for a range and its place, stores it, and hands the element to `scanned`.
---     Reached          where the loop is: the turn, the list and the pass so far, which are the definition's after as many turns
+-- `line_num::rewrite` meets its contract: a walk of its MIR, by hand, with a loop. The borrow is opened once, before the loop, and closed once, after it. An iteration asks `read_at` for a place, copies the element there, asks `put_at` for a range and its place, stores it, and hands the element to `scanned`.
+--     Reached          where the loop is: the iteration, the list and the pass so far, which are the definition's after as many iterations
 --     At               what is had there: the list in memory, the open borrow and the name's two halves, and the locals from the last to the first
---     more, reading, writing       a turn, in three parts;        ends     the turn that leaves the loop
+--     more, reading, writing       an iteration, in three parts;        ends     the iteration that leaves the loop
 -- Assumes nothing.
 use mathlib.Core.Path.{_≡_, refl, sym, ap, _∙_, subst}
 use Prim.Native.Nat.{ℕ, _+_, _-_, _*_, _≤_, _<_, _^_}
@@ -58,7 +58,7 @@ use Rattle.line_num.specs.declared.Scan.{Scan}
 use Rattle.line_num.specs.declared.Plan.{Plan}
 use Rattle.line_num.specs.declared.Put.{Put}
 use Rattle.line_num.specs.Scans.{scanStart, scannedBy}
-use Rattle.line_num.specs.Turns.{PlanFits, readAt, putAt, after, rewritten}
+use Rattle.line_num.specs.Steps.{PlanFits, readAt, putAt, after, rewritten}
 use Rattle.line_num.proofs.Scan as S
 use Rattle.line_num.proofs.Scan.Laws as S′
 use Rattle.line_num.proofs.Plan as P
@@ -67,7 +67,7 @@ use Rattle.line_num.proofs.Put as U
 use Rattle.line_num.proofs.Put.Laws as U′
 use Rattle.line_num.proofs.Shapes.{RangeT, range-vals, range-val, ScanT, scan-val, scan-told, scan-is, PlanT, plan-val, PutT, put-val, put-told, put-at-fits, put-range-is, offset-fits, next-fits, by-cases}
 use Rattle.line_num.proofs.Calls.{Started, started-of, to-start, goes-start, Scanned, scanned-of, to-scanned, goes-scanned, Reading, reading-of, to-reading, goes-reading, Putting, putting-of, to-putting, goes-putting}
-use Rattle.line_num.proofs.TurnLaws.{read-inside, put-inside, next-list, next-pass, turns-begun, turns-done}
+use Rattle.line_num.proofs.StepLaws.{read-inside, put-inside, next-list, next-pass, turns-begun, turns-done}
 use Rattle.line_num.proofs.scan_start as scan-start
 use Rattle.line_num.proofs.scan_start.Symbol as scan-start-def
 use Rattle.line_num.proofs.scan_start.Symbol.{name as #line-num·scan-start}
@@ -112,7 +112,7 @@ behind (exit n) = skip
 behind return = skip
 behind (call f xs d) = skip
 
--- what is left of a turn: behind the test and the call of `read_at`, and behind the call of `put_at`
+-- what is left of an iteration: behind the test and the call of `read_at`, and behind the call of `put_at`
 abbrev from-read : Body
 from-read = behind (behind (behind pieces.turn-1))
 
@@ -150,19 +150,19 @@ module _ {M : Type 1} (𝓤 : URA M) (H : Heap 𝓤) (A : Atoms 𝓤) (W : Given
     t : ℕ
     cur : List Range
     found : Scan
-    upto : t ≤ p .turns
+    upto : t ≤ p .steps
     is : Is ScanT found (scan-val found ∷ [])
     long : length cur ≡ length ys
     list : cur ≡ after p ys t .0
     pass : found ≡ after p ys t .1
 
   abbrev Nearer : Reached → Reached → Type 0
-  Nearer v u = p .turns - v .t < p .turns - u .t
+  Nearer v u = p .steps - v .t < p .steps - u .t
 
   Nearer-wf : WellFounded Nearer
-  Nearer-wf = InvImage·wf (λ (u : Reached). p .turns - u .t) (Nat·lt-wfRel .wf)
+  Nearer-wf = InvImage·wf (λ (u : Reached). p .steps - u .t) (Nat·lt-wfRel .wf)
 
-  turns-fit : p .turns < 2 ^ 64
+  turns-fit : p .steps < 2 ^ 64
   turns-fit = LL.owed P.the-type P′.the-laws p _ planned .1 .1 .1 .0 .1
 
   module _ (𝓣 : Tables 𝓤 H) (known-read : Triple 𝓤 (𝓣 .C #line-num·read-at) (Reading 𝓤 H A mem run)) (known-put : Triple 𝓤 (𝓣 .C #line-num·put-at) (Putting 𝓤 H A mem run)) (known : Triple 𝓤 (𝓣 .C #line-num·scanned) (Scanned 𝓤 H A mem run))
@@ -179,7 +179,7 @@ module _ {M : Type 1} (𝓤 : URA M) (H : Heap 𝓤) (A : Atoms 𝓤) (W : Given
     abbrev E : Env 𝓤 H
     E = (tyUnit, l₀) ∷ (slice, l₁) ∷ (P′.mir, l₂) ∷ (word, l₃) ∷ (S′.mir, l₄) ∷ (word, l₅) ∷ (word, l₆) ∷ (T′.mir, l₇) ∷ (U′.mir, l₈) ∷ (word, l₉) ∷ (tyBool, l₁₀) ∷ (word, l₁₁) ∷ (tyPtr, l₁₂) ∷ (T′.mir, l₁₃) ∷ (tyPtr, l₁₄) ∷ []
 
-    -- local j stands at 32 - 2 j. Those that are kept from one part of a turn to the next: what is put, the element, its place, the turn, the pass and the number of turns
+    -- local j is at 32 - 2 j. Those that are kept from one part of an iteration to the next: what is put, the element, its place, the iteration, the pass and the number of iterations
     abbrev Having : List Range → Item 𝓤 → Item 𝓤 → Item 𝓤 → Item 𝓤 → Item 𝓤 → Item 𝓤 → List (Item 𝓤)
     Having cur put elem place turn found turns = ‵ (row RangeT fullShare cur b o) ∷ ‵ (fobor κ q (Held RangeT (length ys) b o γ)) ∷ ‵ (fobs γ (codedHoleys RangeT .code (heres RangeT ys))) ∷ ‵ (fauth γ (codedHoleys RangeT .code (heres RangeT ys)))
         ∷ ‵ (froom tyPtr l₁₄ 0) ∷ ‵ (fdies tyPtr l₁₄) ∷ ‵ (froom T′.mir l₁₃ 0) ∷ ‵ (fdies T′.mir l₁₃) ∷ ‵ (froom tyPtr l₁₂ 0) ∷ ‵ (fdies tyPtr l₁₂) ∷ ‵ (froom word l₁₁ 0) ∷ ‵ (fdies word l₁₁)
@@ -203,16 +203,16 @@ module _ {M : Type 1} (𝓤 : URA M) (H : Heap 𝓤) (A : Atoms 𝓤) (W : Given
     Found f = ‵ (fat fullShare S′.mir l₄ 0 (scan-val f))
 
     abbrev Turns : Item 𝓤
-    Turns = ‵ (fat fullShare word l₃ 0 (vint w64 (p .turns)))
+    Turns = ‵ (fat fullShare word l₃ 0 (vint w64 (p .steps)))
 
     abbrev At : Reached → List (Item 𝓤)
     At u = Having (u .cur) No-put No-elem (‵ (froom word l₆ 0)) (Turn (u .t)) (Found (u .found)) Turns
 
-    -- a turn's postcondition: it ends nearer to the last, or the loop is left and the rest of the body runs
+    -- an iteration's postcondition: it ends nearer to the last, or the loop is left and the rest of the body runs
     abbrev Turned : Reached → Out → SProp 𝓤
     Turned u = afterTurn 𝓤 H (Below 𝓤 H A Nearer At u) (afterBlock 𝓤 H (afterSeq 𝓤 H (Wp 𝓤 H C Λ E pieces.t-5 (atReturn 𝓤 H E Post)) (atReturn 𝓤 H E Post)))
 
-    module _ (u : Reached) (less : u .t < p .turns) (k : ℕ) (reads : k ≡ readAt p (u .t)) where
+    module _ (u : Reached) (less : u .t < p .steps) (k : ℕ) (reads : k ≡ readAt p (u .t)) where
       inside : k < length (u .cur)
       inside = subst (λ (m : ℕ). k < m) (sym (u .long)) (subst (λ (m : ℕ). m < length ys) (sym reads) (read-inside p (u .t) (length ys) fits less))
 
@@ -247,7 +247,7 @@ module _ {M : Type 1} (𝓤 : URA M) (H : Heap 𝓤) (A : Atoms 𝓤) (W : Given
           pass = next-pass p ys (u .t) k (u .cur) (u .found) (u .list) (u .pass) reads r told;
         }
 
-        nearer : p .turns - (u .t + 1) < p .turns - u .t
+        nearer : p .steps - (u .t + 1) < p .steps - u .t
         nearer = omega (arith, less)
 
         writing : Sq W (Having (u .cur) (‵ (fat fullShare U′.mir l₈ 0 (put-val y))) (‵ (fat fullShare T′.mir l₇ 0 (range-val elem))) (Place k) (Turn (u .t)) (Found (u .found)) Turns) (runs C Λ E from-put (anyQ (Turned u)))
@@ -291,11 +291,11 @@ module _ {M : Type 1} (𝓤 : URA M) (H : Heap 𝓤) (A : Atoms 𝓤) (W : Given
           forget ! 6 refl $ forget ! 8 refl $ forget ! 10 refl $ writing g y puts v yis)))))
 
     module _ (u : Reached) where
-      more : ltb (u .t) (p .turns) ≡ true → Sq W (At u) (runs C Λ E pieces.turn-1 (anyQ (Turned u)))
+      more : ltb (u .t) (p .steps) ≡ true → Sq W (At u) (runs C Λ E pieces.turn-1 (anyQ (Turned u)))
       more test =
           assigns ! (bin ! (load ! (from ! (stop !)) (look ! 22 refl)) (load ! (from ! (stop !)) (look ! 26 refl)) tt) (from ! (stop !)) (init ! 12 refl (tt, tt)) $
           rewrite ! 12 (λ (z : Bool). ‵ (fat fullShare tyBool l₁₀ 0 (vbool z))) test refl $ stays ! (load ! (from ! (stop !)) (look ! 12 refl)) $
-          use0 W (raw (Reading 𝓤 H A mem run .pre (to-reading 𝓤 H A W mem run p (u .t)))) (goes-reading 𝓤 H A W mem run p (u .t) planned (t-fits u less (readAt p (u .t)) refl) (place-fits (length ys) (p .woven) (p .from) (p .turns) (u .t) (room .0) (fits .1) less)) $
+          use0 W (raw (Reading 𝓤 H A mem run .pre (to-reading 𝓤 H A W mem run p (u .t)))) (goes-reading 𝓤 H A W mem run p (u .t) planned (t-fits u less (readAt p (u .t)) refl) (place-fits (length ys) (p .reads) (p .from) (p .steps) (u .t) (room .0) (fits .1) less)) $
           calls-at ! fm (Reading 𝓤 H A mem run) known-read (to-reading 𝓤 H A W mem run p (u .t)) (and-then ! (load ! (from ! (stop !)) (look ! 29 refl)) (and-then ! (load ! (from ! (stop !)) (look ! 23 refl)) (no-more !))) (λ v.
           use1 W (later (some (λ (r : ℕ). (‵ ftrue ⊛ ‵ (usize .own r (v ∷ []))) ⊛ raw (ensured 𝓤 H A read-at.ended (read-at.clauses 𝓤 H A mem run) tt (p, (u .t, tt)) tt r)))) (id⊢ 𝓤 _) $ await ! tt $ pick ! (λ r.
           split ! $ move ! (1 ∷ []) $ use1 W (raw (fact 𝓤 (r ≡ readAt p (u .t)))) (reading-of 𝓤 H A mem run p (u .t) r) $ heard ! (r ≡ readAt p (u .t)) (λ reads. split ! $ let-go ! $
@@ -303,10 +303,10 @@ module _ {M : Type 1} (𝓤 : URA M) (H : Heap 𝓤) (A : Atoms 𝓤) (W : Given
           land ! (from ! (stop !)) (init ! 20 refl (uint-lawful 𝓤 H A W w64 .typed r _ is .0)) $ rewrite ! 20 (λ (z : Val). ‵ (fat fullShare word l₆ 0 z)) (ap only (is .0)) refl $
           forget ! 12 refl $ reading u less r reads))))
         where
-          less : u .t < p .turns
-          less = ltb-true (u .t) (p .turns) test
+          less : u .t < p .steps
+          less = ltb-true (u .t) (p .steps) test
 
-      ends : ltb (u .t) (p .turns) ≡ false → Sq W (At u) (runs C Λ E pieces.turn-1 (anyQ (Turned u)))
+      ends : ltb (u .t) (p .steps) ≡ false → Sq W (At u) (runs C Λ E pieces.turn-1 (anyQ (Turned u)))
       unfolding afterTurn
       ends test =
           assigns ! (bin ! (load ! (from ! (stop !)) (look ! 22 refl)) (load ! (from ! (stop !)) (look ! 26 refl)) tt) (from ! (stop !)) (init ! 12 refl (tt, tt)) $
@@ -318,10 +318,10 @@ module _ {M : Type 1} (𝓤 : URA M) (H : Heap 𝓤) (A : Atoms 𝓤) (W : Given
           move ! (31 ∷ 32 ∷ []) $ free1 ! $ move ! (29 ∷ 30 ∷ []) $ free1 ! $ move ! (27 ∷ 28 ∷ []) $ free1 ! $ move ! (25 ∷ 26 ∷ []) $ free1 ! $ move ! (23 ∷ 24 ∷ []) $ free1 ! $ move ! (21 ∷ 22 ∷ []) $ free1 ! $ move ! (19 ∷ 20 ∷ []) $ free1 ! $
           move ! (17 ∷ 18 ∷ []) $ free1 ! $ move ! (15 ∷ 16 ∷ []) $ free1 ! $ move ! (13 ∷ 14 ∷ []) $ free1 ! $ move ! (11 ∷ 12 ∷ []) $ free1 ! $ move ! (9 ∷ 10 ∷ []) $ free1 ! $ move ! (7 ∷ 8 ∷ []) $ free1 ! $ move ! (5 ∷ 6 ∷ []) $ free1 ! $
           move ! (3 ∷ 4 ∷ []) $ free1 ! $ free0 ! $
-          by ! (exits (u .cur) (turns-done p ys (u .t) (u .cur) (u .list) (u .upto) (ltb-false (u .t) (p .turns) test)) (u .long))
+          by ! (exits (u .cur) (turns-done p ys (u .t) (u .cur) (u .list) (u .upto) (ltb-false (u .t) (p .steps) test)) (u .long))
 
     turns : (u : Reached) → Sq W (At u) (runs C Λ E pieces.turn-1 (anyQ (Turned u)))
-    turns u = by-cases (ltb (u .t) (p .turns)) (more u) (ends u)
+    turns u = by-cases (ltb (u .t) (p .steps)) (more u) (ends u)
 
     abbrev begun : (r : Scan) → r ≡ scanStart (p .start) (p .end) → Is ScanT r (scan-val r ∷ []) → Reached
     begun r told is = record { t = 0; cur = ys; found = r; upto = omega arith; is = is; long = refl; list = turns-begun p ys r told .0; pass = turns-begun p ys r told .1 }

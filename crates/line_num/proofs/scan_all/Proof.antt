@@ -1,7 +1,7 @@
--- `line_num::scan_all` meets its contract: a walk of its MIR, by hand, with a loop. A turn looks into the slice, copies one element out, and hands it to `scanned`, of which only its contract is known.
+-- `line_num::scan_all` meets its contract: a walk of its MIR, by hand, with a loop. An iteration looks into the slice, copies one element out, and hands it to `scanned`, of which only its contract is known.
 --     Reached      where the loop is: the place i, the pass so far, and that the rest of the ranges gives what the whole gives
---     At           what is had there: the token, the fractured borrow, the locals from the last to the first, and what the name stands for
---     more, ends   a turn that reads one range, and the turn that leaves the loop
+--     At           what is had there: the token, the fractured borrow, the locals from the last to the first, and what the name denotes
+--     more, ends   an iteration that reads one range, and the iteration that leaves the loop
 -- Assumes nothing.
 use mathlib.Core.Path.{_≡_, refl, sym, ap, _∙_}
 use Prim.Native.Nat.{ℕ, _+_, _-_, _≤_, _<_, _^_, min}
@@ -105,7 +105,7 @@ module _ {M : Type 1} (𝓤 : URA M) (H : Heap 𝓤) (A : Atoms 𝓤) (W : Given
   abbrev Post : Val → SProp 𝓤
   Post = walkOf 𝓤 H A scan-all.ended stayed (scan-all.clauses 𝓤 H A mem run) .post (((κ, tt), (q, tt), tt, a, at), tt)
 
-  -- what the fractured borrow holds, and what the name stands for
+  -- what the fractured borrow holds, and what the name denotes
   abbrev Shared : Item 𝓤
   Shared = ‵ (fshr-bor κ (λ t. arr-parts (shares RangeT) (length ys) .part t ys b o))
 
@@ -155,7 +155,7 @@ module _ {M : Type 1} (𝓤 : URA M) (H : Heap 𝓤) (A : Atoms 𝓤) (W : Given
     abbrev E : Env 𝓤 H
     E = (S′.mir, l₀) ∷ (slice, l₁) ∷ (word, l₂) ∷ (half, l₃) ∷ (half, l₄) ∷ (word, l₅) ∷ (S′.mir, l₆) ∷ (word, l₇) ∷ (T′.mir, l₈) ∷ (word, l₉) ∷ (tyBool, l₁₀) ∷ (word, l₁₁) ∷ (tyPtr, l₁₂) ∷ (T′.mir, l₁₃) ∷ []
 
-    -- local j stands at 28 - 2 j. Those that are set one after the other: the length, i, the pass and n
+    -- local j is at 28 - 2 j. Those that are set one after the other: the length, i, the pass and n
     abbrev Having : Item 𝓤 → Item 𝓤 → Item 𝓤 → Item 𝓤 → List (Item 𝓤)
     Having len i found upto = ‵ (flft κ q) ∷ Shared
         ∷ ‵ (froom T′.mir l₁₃ 0) ∷ ‵ (fdies T′.mir l₁₃) ∷ ‵ (froom tyPtr l₁₂ 0) ∷ ‵ (fdies tyPtr l₁₂) ∷ ‵ (froom word l₁₁ 0) ∷ ‵ (fdies word l₁₁) ∷ ‵ (froom tyBool l₁₀ 0) ∷ ‵ (fdies tyBool l₁₀)
@@ -175,7 +175,7 @@ module _ {M : Type 1} (𝓤 : URA M) (H : Heap 𝓤) (A : Atoms 𝓤) (W : Given
     abbrev At : Reached → List (Item 𝓤)
     At u = Having Len (‵ (fat fullShare word l₇ 0 (vint w64 (u .i)))) (Found (u .found)) Upto
 
-    -- a turn's postcondition: it ends nearer to n, or the loop is left and the rest of the body runs
+    -- an iteration's postcondition: it ends nearer to n, or the loop is left and the rest of the body runs
     abbrev Turned : Reached → Out → SProp 𝓤
     Turned u = afterTurn 𝓤 H (Below 𝓤 H A Nearer At u) (afterBlock 𝓤 H (afterSeq 𝓤 H (Wp 𝓤 H C Λ E pieces.t-6 (atReturn 𝓤 H E Post)) (atReturn 𝓤 H E Post)))
 
@@ -272,7 +272,7 @@ module _ {M : Type 1} (𝓤 : URA M) (H : Heap 𝓤) (A : Atoms 𝓤) (W : Given
       qed W ((‵ (flft κ q) ⊛ ‵ ftrue) ∷ ‵ (owns (ShrSlice (named 0) κ RangeT ∷ usize ∷ u32 ∷ u32 ∷ []) a at) ∷ []) ∵ enter ! (𝓣 .C) (𝓣 .Λ) code.function (sliceVal (b, o) (length ys) ∷ vint w64 used ∷ vint w32 s ∷ vint w32 e ∷ []) _ $
       alloc1 ! (λ l₀. alloc1 ! (λ l₁. alloc1 ! (λ l₂. alloc1 ! (λ l₃. alloc1 ! (λ l₄. alloc1 ! (λ l₅. alloc1 ! (λ l₆. alloc1 ! (λ l₇. alloc1 ! (λ l₈. alloc1 ! (λ l₉. alloc1 ! (λ l₁₀. alloc1 ! (λ l₁₁. alloc1 ! (λ l₁₂. alloc1 ! (λ l₁₃. alloc0 ! $ params1 ! $
       pass1 ! (init ! 24 refl (tt, (tt, (record { fits = room .0 }, tt)))) $ pass1 ! (init ! 22 refl (tt, record { fits = used-fits })) $ pass1 ! (init ! 20 refl (tt, record { fits = s-fits })) $ pass1 ! (init ! 18 refl (tt, record { fits = e-fits })) $ pass0 ! $
-      -- the borrow's parts and the token come to the front: local j stands at 28 - 2 j
+      -- the borrow's parts and the token come to the front: local j is at 28 - 2 j
       move ! (29 ∷ []) $ fsplit ! $ fsplit ! $ let-go ! $ fsplit ! $ move ! (31 ∷ 1 ∷ []) $ split ! $ move ! (0 ∷ 2 ∷ []) $
       keep ! (0 ∷ 1 ∷ 5 ∷ 6 ∷ 7 ∷ 8 ∷ 9 ∷ 10 ∷ 11 ∷ 12 ∷ 13 ∷ 14 ∷ 15 ∷ 16 ∷ 17 ∷ 18 ∷ 19 ∷ 20 ∷ 21 ∷ 22 ∷ 23 ∷ 24 ∷ 25 ∷ 26 ∷ 27 ∷ 28 ∷ 29 ∷ 30 ∷ 31 ∷ 32 ∷ 3 ∷ []) $
       measured 𝓣 known l₀ l₁ l₂ l₃ l₄ l₅ l₆ l₇ l₈ l₉ l₁₀ l₁₁ l₁₂ l₁₃ known-within known-start))))))))))))))

@@ -37,7 +37,7 @@ record Fits (f : tie.After-search-with-hint) : Type 0 where
 fits : (f : tie.After-search-with-hint) → Fits f
 fits f = let ω = start f .pre .0 .joined in record { most = ω .most; rows = ω .rows; words = ω .words; index = omega arith }
 
--- ---- the key stands there
+-- ---- the key is there
 
 abbrev found : tie.After-found → tie.After-search-with-hint
 found a = a .before .before

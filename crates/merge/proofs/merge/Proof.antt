@@ -148,7 +148,7 @@ merge-spec =
     let l = turn g in
     let s = start l .args in
     let ω = goes x .joined in (
-      ascending-front (after (stepped x)) (s .base) (s .index + s .limit) (omega (arith, start l .pre .words)) (ω .ranked),
+      ascending-front (after (stepped x)) (s .base) (s .index + s .limit) (omega (arith, start l .pre .words)) (ω .ascending),
       ω .from,
       whole-as (is-row g) (start l .pre .other .whole (l .loop .k) (below x)),
       l .loop .inv .2,
@@ -174,4 +174,4 @@ merge-spec =
     (λ c. let s = c .before .before .before .before in
     let l = left s in
     merged-done (l .loop .words) (start l .pre) (l .loop .inv .1) (s .before .before .loop-test .left) (whole l) (s .merge-delta .last .0)
-    (s .merge-delta .ensures) _ (lent-front (l .loop .inv .0) (s .merge-delta .last .0) (start l .pre .whole) (s .merge-delta .kept .0)) (c .ended .result) (c .ended .ensures)))
+    (s .merge-delta .ensures) _ (lent-front (l .loop .inv .0) (s .merge-delta .last .0) (start l .pre .whole) (s .merge-delta .kept .0)) (c .finish-merge .result) (c .finish-merge .ensures)))

@@ -1,4 +1,4 @@
--- `merge_search::is_between` meets its contract: told by the two rows. Assumes nothing.
+-- `merge_search::is_between` meets its contract: the two rows show it. Assumes nothing.
 use Rattle.ordmap.proofs.Results.{impossible}
 use Rattle.merge_search.proofs.SearchLaws.{between}
 use borrow.Author.Needs.{needs}

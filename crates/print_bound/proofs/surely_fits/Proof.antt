@@ -1,4 +1,5 @@
--- `print_bound::surely_fits` meets its contract: what the rows so far come to has been taken off the room. Assumes nothing.
+-- `print_bound::surely_fits` meets its contract: the bounds of the rows so far are subtracted from the room. Assumes
+-- nothing.
 use Prim.Native.Nat.{_-_, _≤_}
 use native.Mathlib.Omega.{arith}
 use borrow.Author.Needs.{needs}

@@ -1,4 +1,5 @@
--- `section::on_end_of_record` meets its contract: all items are settled, and then the section is closed. Assumes nothing.
+-- `section::on_end_of_record` meets its contract: all items are in main, and then the section is committed. Assumes
+-- nothing.
 use mathlib.Core.Path.{refl, ap, _∙_}
 use mathlib.Core.Logic.{_≢_}
 use Prim.Native.Nat.{_+_, _≤_, _<_, _^_}
@@ -17,8 +18,8 @@ start e = e .before .before .before .before .before .before
 abbrev spare : tie.After-flush-all → tie.After-capacity
 spare w = w .before .before .before
 
-abbrev all-settled : tie.After-commit-section-arg → tie.After-flush-all
-all-settled a = a .before .before .before .before .before
+abbrev all-in-main : tie.After-commit-section-arg → tie.After-flush-all
+all-in-main a = a .before .before .before .before .before
 
 -- the section has items, as far as `omega` sees it here
 some : (e : tie.Else1) → rowsOf (start e .args .state .sizes) ≢ 0
@@ -44,7 +45,7 @@ on-end-of-record-spec =
     (λ c κs. search needs)
     (λ c κs. search needs)
     (λ c κs. let p = c .before .kept-sizes .ensures in
-    let w = all-settled (c .before .before) in
+    let w = all-in-main (c .before .before) in
     let ζ = start (spare w .before) .pre in
     let ς = w .flush-all .ensures in
     let rows = spare w .capacity .ensures in (
@@ -61,7 +62,7 @@ on-end-of-record-spec =
       ),
     ))
     (λ c. let k = c .before .before .before in
-    let s = start (spare (all-settled (k .before .before .before)) .before) in
+    let s = start (spare (all-in-main (k .before .before .before)) .before) in
     let most : k .commit-section .result .main + k .commit-section .result .delta ≤ s .args .state .used = k .commit-section .ensures .0 .held .delta .room in
     let room : k .commit-section .result .main + k .commit-section .result .delta < 2 ^ 64 = omega (arith, most, s .pre .space .most, s .pre .space .room .words) in
     record { fits = room })
@@ -69,7 +70,7 @@ on-end-of-record-spec =
     (λ c. search needs)
     (λ c. let k = c .before .before .before .before in
     let l = k .before in
-    let w = all-settled (l .before .before) in
+    let w = all-in-main (l .before .before) in
     let e = spare w .before in
     next-as (c .with-closed2 .ensures)
     (end-kept (start e .pre) (w .flush-all .ensures) _ (k .commit-section .result) (some e) refl refl (k .commit-section .kept .1 .0 ∙ w .flush-all .kept .1 .0) (l .before .kept-sizes .ensures)

@@ -35,8 +35,8 @@ places y =
       fits = omega (arith, ζ .space .room .words);
     }
 
-abbrev own : tie.After-reserve-row2 → tie.After-reserve-row
-own z = z .before .before .before .before .before .before .before
+abbrev header : tie.After-reserve-row2 → tie.After-reserve-row
+header z = z .before .before .before .before .before .before .before
 
 abbrev rows : tie.After-add-row → tie.After-reserve-row2
 rows n = n .before .before .before .before .before
@@ -62,11 +62,11 @@ on-item-spec =
     let p = places y in
     (y .reserve-row .ensures .store, record { rows = start y .pre .0 .space .room .rows; words = omega (arith, y .reserve-row .kept .0) }, p .most, p .items))
     (λ c κs. search needs)
-    (λ c. let p = places (own (c .before .before .before)) in omega (arith, c .capacity .ensures))
+    (λ c. let p = places (header (c .before .before .before)) in omega (arith, c .capacity .ensures))
     (λ c. search needs)
     (λ c κs. let z = c .before .before .before .before in
     let e = c .before .capacity .ensures in
-    let y = own z in
+    let y = header z in
     let p = places y in (
       (
         open-as e (line-open (start y .pre .0) (y .reserve-row .ensures) (y .reserve-row .kept .0) (p .kept) (z .reserve-row2 .ensures) (z .reserve-row2 .kept .0)),
@@ -76,12 +76,12 @@ on-item-spec =
       (omega (arith, e, z .reserve-row2 .ensures .most), omega (arith, e, z .reserve-row2 .ensures .most, z .reserve-row2 .kept .0, y .reserve-row .kept .0)),
     ))
     (λ c. search needs)
-    (λ c. let p = places (own (rows (entered (c .before .before)))) in omega arith)
+    (λ c. let p = places (header (rows (entered (c .before .before)))) in omega arith)
     (λ c κs. let m = c .before .before in
     let n = entered m in
     let e = n .before .before .capacity .ensures in
     let z = rows n in
-    let y = own z in
+    let y = header z in
     let p = places y in (
       adding-as (m .next .given .1) refl (n .add-row .ensures) .still,
       omega (arith, e, z .reserve-row2 .ensures .most),
@@ -92,17 +92,17 @@ on-item-spec =
     (λ c. search needs)
     (λ c. let f = c .before .before .before .before .before in
     let z = rows (entered (given f)) in
-    let p = places (own z) in omega (arith, f .flush-if-over .ensures .still .room, z .reserve-row2 .ensures .most))
+    let p = places (header z) in omega (arith, f .flush-if-over .ensures .still .room, z .reserve-row2 .ensures .most))
     (λ c. let f = c .before .before .before .before .before .before in
     let n = entered (given f) in
     let z = rows n in
-    f .flush-if-over .kept .1 .0 ∙ n .add-row .kept .1 .0 ∙ z .reserve-row2 .kept .0 ∙ own z .reserve-row .kept .0)
+    f .flush-if-over .kept .1 .0 ∙ n .add-row .kept .1 .0 ∙ z .reserve-row2 .kept .0 ∙ header z .reserve-row .kept .0)
     (λ c. let f = c .before .before .before .before .before .before in
     let m = given f in
     let n = entered m in
     let e = n .before .before .capacity .ensures in
     let z = rows n in
-    let y = own z in
+    let y = header z in
     let s = start y in
     line-past (s .pre .0) (y .reserve-row .ensures) (y .reserve-row .kept .0) (places y .kept) (z .reserve-row2 .ensures) (z .reserve-row2 .kept .0) (s .args .row) (s .args .accumulate)
     (adding-as (m .next .given .1) e (n .add-row .ensures)) (flushed-as e (f .flush-if-over .ensures)) (omega arith))
@@ -110,13 +110,13 @@ on-item-spec =
     (λ c. let f = c .before .before .before .before .before .before .before in
     let n = entered (given f) in
     let z = rows n in
-    f .flush-if-over .kept .1 .0 ∙ n .add-row .kept .1 .0 ∙ z .reserve-row2 .kept .0 ∙ own z .reserve-row .kept .0)
+    f .flush-if-over .kept .1 .0 ∙ n .add-row .kept .1 .0 ∙ z .reserve-row2 .kept .0 ∙ header z .reserve-row .kept .0)
     (λ c. let f = c .before .before .before .before .before .before .before in
     let m = given f in
     let n = entered m in
     let e = n .before .before .capacity .ensures in
     let z = rows n in
-    let y = own z in
+    let y = header z in
     let s = start y in
     next-as (c .with-open .ensures)
     (line-next (s .pre .0) (y .reserve-row .ensures) (y .reserve-row .kept .0) (places y .kept) (z .reserve-row2 .ensures) (z .reserve-row2 .kept .0) (s .args .row) (s .args .accumulate)
@@ -127,7 +127,7 @@ on-item-spec =
     let n = m .before .before .before .before in
     let e = n .before .before .capacity .ensures in
     let z = rows n in
-    let y = own z in
+    let y = header z in
     let s = start y in
     line-refused (s .pre .0) (y .reserve-row .ensures) (y .reserve-row .kept .0) (places y .kept) (z .reserve-row2 .ensures) (z .reserve-row2 .kept .0) (s .args .row) (s .args .accumulate)
     (m .fault .given .0 .0) (adding-as (m .fault .given .1) e (n .add-row .ensures))))

@@ -1,4 +1,4 @@
--- `section_commit::commit` meets its contract: in place of a settled section, or among the late ones. Assumes nothing.
+-- `section_commit::commit` meets its contract: in place of a section of main, or to the delta. Assumes nothing.
 use native.Mathlib.Omega.{arith}
 use Rattle.table_section.proofs.RangeLaws.{range-ends}
 use Rattle.section_commit.proofs.KeptLaws.{range-at, committed-delta}

@@ -1,4 +1,5 @@
--- `section_commit::commit_in_place` meets its contract: the rows of its key die, and the section comes in place of some of them. Assumes nothing.
+-- `section_commit::commit_in_place` meets its contract: main's rows of the key are marked deleted, and the section
+-- replaces some of them. Assumes nothing.
 use native.Mathlib.Omega.{arith}
 use Rattle.table_section.proofs.RangeLaws.{range-ends}
 use Rattle.section_commit.proofs.KeptLaws.{bounds, range-front, none-delta-has, room, committed-placed}
@@ -12,8 +13,8 @@ start o = o .before .before .before .before .before
 abbrev begun : tie.After-mark-deleted → tie.Start
 begun b = start (b .before .before)
 
-abbrev buried : tie.After-splice → tie.After-mark-deleted
-buried p = p .before .before .before .before .before
+abbrev marked : tie.After-splice → tie.After-mark-deleted
+marked p = p .before .before .before .before .before
 
 pub commit-in-place-spec : {M : Type 1} → statement M
 commit-in-place-spec =
@@ -37,7 +38,7 @@ commit-in-place-spec =
     ))
     (λ c. search needs)
     (λ c. let p = c .before .before in
-    let b = buried p in
+    let b = marked p in
     let s = begun b in
     let π = s .pre .0 .0 in
     let ρ = s .pre .1 .0 .0 in
@@ -46,7 +47,7 @@ commit-in-place-spec =
     (p .splice .ensures .0))
     (λ c. search needs)
     (λ c. let p = c .before .before in
-    let b = buried p in
+    let b = marked p in
     let s = begun b in
     let π = s .pre .0 .0 in
     let ρ = s .pre .1 .0 .0 in

@@ -1,4 +1,5 @@
--- `section_commit::write_positions` meets its contract: the places of the first j are noted. Assumes nothing.
+-- `section_commit::write_positions` meets its contract: the insert positions of the first j are written. Assumes
+-- nothing.
 use Prim.Native.Nat.{_-_}
 use native.Mathlib.Omega.{arith}
 use Rattle.section_commit.proofs.DeltaLaws.{WritingPositions, writing-none, writing-parts, writing-last, writing-next, writing-done}

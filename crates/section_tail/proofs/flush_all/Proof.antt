@@ -1,4 +1,4 @@
--- `section_tail::flush_all` meets its contract: the queue is settled, and then the recent items. Assumes nothing.
+-- `section_tail::flush_all` meets its contract: the tail is flushed, and then the delta is merged. Assumes nothing.
 use native.Mathlib.Omega.{arith}
 use Rattle.section_upsert.proofs.MergeLaws.{parts-rising, main-now}
 use Rattle.section_tail.proofs.UpsertLaws.{in-order}

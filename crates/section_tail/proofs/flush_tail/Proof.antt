@@ -12,7 +12,7 @@ few a = a .before .before .before .before .before .before .before .before .befor
 abbrev start : tie.After-presort-arg → tie.Start
 start a = a .before .before .before .before .before .before .before .before .before
 
--- rows are queued, as far as `omega` sees it here
+-- the tail is not empty, as `omega` sees it here
 some : (a : tie.After-presort-arg) → start a .args .sizes .tail ≢ 0
 some a = omega arith
 

@@ -1,4 +1,4 @@
--- `section_tail::upsert_all` meets its contract: the first i rows are entered. Assumes nothing.
+-- `section_tail::upsert_all` meets its contract: the first i rows are upserted. Assumes nothing.
 use Prim.Native.Nat.{_-_, _≤_}
 use native.Mathlib.Omega.{arith}
 use Rattle.section_tail.proofs.UpsertLaws.{Upserting, upserting-sorted, upserting-inner, upserting-next, upserting-done}

@@ -25,7 +25,7 @@ text f = now (start f .args .text)
 abbrev Is : tie.After-find-item → Found → Type 0
 Is f = FoundPlace (text f) (now (start f .args .words)) (start f .args .index) (start f .args .at) (start f .args .n) (itemOf (text f) (start f .args .row))
 
--- ---- the key stands there
+-- ---- the key is there
 
 abbrev found : tie.After-i → tie.After-find-item
 found a = a .before .before

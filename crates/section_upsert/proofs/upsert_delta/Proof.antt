@@ -43,7 +43,7 @@ places f = record {
   fits = omega (arith, start f .pre .1 .1);
 }
 
--- ---- the key stands there
+-- ---- the key is there
 
 abbrev found : tie.After-k → tie.After-find-item
 found a = a .before .before

@@ -1,4 +1,4 @@
--- `table::move_block` meets its contract: what is brought among the numbers is brought among the rows. Assumes nothing.
+-- `table::move_block` meets its contract: a move of row numbers is a move of rows. Assumes nothing.
 use mathlib.Core.Path.{_∙_}
 use mathlib.Core.Logic.{inl, inr}
 use native.Mathlib.Omega.{arith}

@@ -1,4 +1,4 @@
--- `table::move_row` meets its contract: what is brought among the numbers is brought among the rows. Assumes nothing.
+-- `table::move_row` meets its contract: a move of one row number is a move of its row. Assumes nothing.
 use native.Mathlib.Omega.{arith}
 use lib.ListN.{length-set}
 use borrow.Author.Needs.{needs}

@@ -1,5 +1,5 @@
--- `table::swap_blocks` meets its contract: blocks of one size change places; else two blocks are brought, or one where the first is empty. Assumes
--- nothing.
+-- `table::swap_blocks` meets its contract: two equal blocks are swapped; otherwise two blocks are moved, or one where
+-- the first is empty. Assumes nothing.
 use native.Mathlib.Omega.{arith}
 use Rattle.table.proofs.PlaceLaws.{moved-none, swapped, swapped-as}
 use borrow.Author.Needs.{needs}

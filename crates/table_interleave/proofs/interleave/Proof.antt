@@ -21,7 +21,7 @@ fits : (s : tie.Start Inv-loop μ-loop)
     → Fits (now (s .args .words)) (s .args .index) (s .args .used) (s .args .at) (s .args .n) (s .args .p) (s .args .spare)
 fits s = record { rows = s .pre .0 .1; behind = s .pre .1 .0; room = s .pre .1 .1; rising = s .pre .1 .2 }
 
--- a turn of the loop
+-- one iteration of the loop
 abbrev start : tie.In-loop Inv-loop μ-loop → tie.Start Inv-loop μ-loop
 start i = i .before .before .before .before .before .before .before
 

@@ -18,7 +18,7 @@ tried g = start (g .before .before .before .before .before)
 abbrev begun : tie.After-partition-point → tie.Start
 begun u = tried (u .before .before .before .before)
 
--- where the run starts, as far as `omega` needs it
+-- the start of the range, as far as `omega` needs it
 record Places (t : tie.Then4) : Type 0 where
   inside : t .before .before .partition-point .result < begun (t .before .before) .args .n
   room : begun (t .before .before) .args .at + begun (t .before .before) .args .n ≤ begun (t .before .before) .args .used

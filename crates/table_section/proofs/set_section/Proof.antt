@@ -1,4 +1,4 @@
--- `table_section::set_section` meets its contract: the first i rows are filled. Assumes nothing.
+-- `table_section::set_section` meets its contract: the first i rows have the section's names. Assumes nothing.
 use mathlib.Core.Path.{_≡_, refl, _∙_}
 use Prim.Native.Nat.{_-_, _≤_}
 use native.Mathlib.Omega.{arith}

@@ -10,8 +10,8 @@ use Rattle.table_section.proofs.splice.Tie as tie
 abbrev put : tie.After-set-section → tie.After-put
 put φ = φ .before .before .before .before
 
-abbrev own : tie.After-put → tie.After-header-row
-own p = p .before .before
+abbrev header : tie.After-put → tie.After-header-row
+header p = p .before .before
 
 abbrev start : tie.After-header-row → tie.Start
 start o = o .before .before .before
@@ -33,7 +33,7 @@ splice-spec =
     (λ c. search needs)
     (λ c. let φ = c .before .before .before in
     let p = put φ in
-    let o = own p in
+    let o = header p in
     let s = start o in (
       φ .set-section .ensures .store,
       (
@@ -53,7 +53,7 @@ splice-spec =
     (λ c. search needs)
     (λ c. search needs)
     (λ c κs. let φ = c .before .before .before .before in
-    let s = start (own (put φ)) in (
+    let s = start (header (put φ)) in (
       (φ .set-section .ensures .store, omega (arith, s .pre .0 .1), omega (arith, s .pre .0 .2), omega arith, omega (arith, s .pre .0 .3)),
       (s .pre .1 .0, omega (arith, s .pre .0 .3, s .pre .1 .1, φ .set-section .kept .0, put φ .put .kept .0)),
     ))
@@ -61,7 +61,7 @@ splice-spec =
     (λ c. let t = c .before .before in
     let φ = t .before .before .before .before .before in
     let p = put φ in
-    let o = own p in
+    let o = header p in
     let s = start o in (
       t .swap-blocks .ensures .0,
       (

@@ -1,4 +1,4 @@
--- `table_tombstone::compact` meets its contract: the first i numbers are sifted. Assumes nothing.
+-- `table_tombstone::compact` meets its contract: the first i row numbers are partitioned. Assumes nothing.
 use mathlib.Core.Path.{_≡_, _∙_}
 use mathlib.Core.Logic.{inl}
 use Prim.Native.Nat.{_+_, _*_, _-_, _≤_, _<_}
@@ -38,7 +38,7 @@ bounds l =
     let η = l .loop .inv in
     record { most = compacting-most φ η; top = η .most; size = η .size; rows = φ .rows; behind = φ .behind; room = φ .room }
 
--- where the tag stands that a turn reads
+-- the offset of the tag that an iteration reads
 record Tag (c : tie.In-loop Inv-loop μ-loop) : Type 0 where
   room : number (c .before .loop .words) (start (c .before) .args .index) (c .before .loop .i) * row-words + tag-word < start (c .before) .args .index
 

@@ -1,4 +1,5 @@
--- `table_tombstone::mark_deleted` meets its contract: the rows from lo up to i lived and are dead now. Assumes nothing.
+-- `table_tombstone::mark_deleted` meets its contract: the rows from lo up to i were live and are now deleted. Assumes
+-- nothing.
 use mathlib.Core.Path.{_≡_, refl}
 use Prim.Native.Nat.{_+_, _*_, _-_, _≤_, _<_}
 use native.Mathlib.Omega.{arith}
@@ -19,7 +20,7 @@ abbrev μ-loop : tie.MeasureT-loop
 abbrev at-loop : tie.After-slice-known2 Inv-loop μ-loop → tie.At-loop Inv-loop μ-loop
 at-loop k = k .before .before .before
 
--- where the tag stands that a turn reads
+-- the offset of the tag that an iteration reads
 record Bounds (c : tie.In-loop Inv-loop μ-loop) : Type 0 where
   room : number (c .before .loop .words) (c .before .before .args .index) (c .before .loop .i) * row-words + tag-word < c .before .before .args .index
 

@@ -239,7 +239,7 @@ fn query_row(list: &List) {
     let lines = 4 * list.used as u32;
     let asked = move || (0..QUERIES).map(move |k| k.wrapping_mul(2_654_435_761) % lines);
     row(
-        &format!("a kept list of {} ranges asked", grouped(list.used)),
+        &format!("a kept list of {} ranges queried", grouped(list.used)),
         QUERIES as usize,
         || {
             for line in asked() {
@@ -256,14 +256,14 @@ fn query_row(list: &List) {
     );
 }
 
-/// The same work for both: a list that comes as pairs is taken over and asked once.
+/// The same work for both: a list is built from pairs and queried once.
 fn lent_query_row(list: &List) {
     let lines = 4 * list.used as u32;
     let lists = QUERIES as usize / list.used;
     let asked = move || (0..lists as u32).map(move |k| k.wrapping_mul(2_654_435_761) % lines);
     row(
         &format!(
-            "lists of {} ranges, each taken over and asked once",
+            "lists of {} ranges, each built and queried once",
             grouped(list.used)
         ),
         lists,
@@ -394,7 +394,7 @@ fn measure_reports() {
     inner_row(&workloads::filled(PROGRAM_BYTES));
 }
 
-/// Sections that replace others of other sizes again and again, with scratch to spare and with none.
+/// Sections that replace others of other sizes again and again, with ample and with minimum scratch.
 fn replaced_often_rows(rng: &mut Rng, entries: usize) {
     let text = workloads::replaced_often(rng, entries / 2, TIMES);
     let what = format!(
@@ -404,7 +404,7 @@ fn replaced_often_rows(rng: &mut Rng, entries: usize) {
     let expected = rust_read_text(&text);
     lent_row(&what, &text, Lent::roomy(&expected));
     let most = Expected::of(Asked::Text(&text)).map_or(0, |expected| expected.entries);
-    let what = format!("{what}, no entry of scratch to spare");
+    let what = format!("{what}, minimum scratch");
     lent_row(&what, &text, Lent::roomy(&expected).for_entries(most));
 }
 
@@ -513,10 +513,10 @@ fn reading_text_row(what: &str, text: &[u8]) {
     lent_row(what, text, Lent::roomy(&rust_read_text(text)));
 }
 
-/// An output with no byte to spare is measured for before it is written to.
+/// An output that is exactly long enough takes a measuring pass.
 fn exact_row(text: &[u8]) {
     let what = format!(
-        "read {} entries, ascending, one file, no byte of output to spare",
+        "read {} entries, ascending, one file, exact output",
         grouped(ENTRIES)
     );
     lent_row(&what, text, Lent::exact(&rust_read_text(text)));

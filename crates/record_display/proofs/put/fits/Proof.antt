@@ -1,5 +1,5 @@
 use borrow.Author.Needs.{needs}
-use Rattle.record_display.proofs.ShapeLaws.{fits-any, fits-measured}
+use Rattle.record_display.proofs.RecordFieldLaws.{fits-any, fits-measured}
 use Rattle.record_display.proofs.put.fits.Statement.{statement}
 use Rattle.record_display.proofs.put.fits.Tie as tie
 

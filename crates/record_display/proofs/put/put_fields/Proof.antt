@@ -1,6 +1,6 @@
 use borrow.Author.Needs.{needs}
 use Rattle.format.proofs.OverLaws.{over-at, second-size, second-out}
-use Rattle.record_display.proofs.ShapeLaws.{fields-first, last-room, fields-fits, fields-len, fields-are}
+use Rattle.record_display.proofs.RecordFieldLaws.{fields-first, last-room, fields-fits, fields-len, fields-are}
 use Rattle.record_display.proofs.put.put_fields.Statement.{statement}
 use Rattle.record_display.proofs.put.put_fields.Tie as tie
 

@@ -1,5 +1,5 @@
 use borrow.Author.Needs.{needs}
-use Rattle.record_display.proofs.ShapeLaws.{line-first, line-within, line-fits, line-kept, line-len, line-out}
+use Rattle.record_display.proofs.RecordFieldLaws.{line-first, line-within, line-fits, line-kept, line-len, line-out}
 use Rattle.record_display.proofs.put.put_line.Statement.{statement}
 use Rattle.record_display.proofs.put.put_line.Tie as tie
 
