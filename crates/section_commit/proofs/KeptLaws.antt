@@ -270,8 +270,8 @@ module _ {text ws : List ℕ} {index used main-size delta-size deleted n lo₀ h
           high = partition-again spelled E E′ true spelled-key (marked-keys π ρ₀ σ′ β) (ρ₀ .high);
         }
 
-        deleted : (k : ℕ) → lo₀ ≤ k → k < hi₀ → isLive (E′ k) ≡ false
-        deleted k l h = tag-deleted (E′ k) (marked-deleted π ρ₀ σ′ β k l h)
+        all-deleted : (k : ℕ) → lo₀ ≤ k → k < hi₀ → isLive (E′ k) ≡ false
+        all-deleted k l h = tag-deleted (E′ k) (marked-deleted π ρ₀ σ′ β k l h)
 
         foreign₂ : (j : ℕ) → j < delta-size → compareSections (keyOf text spelled) (keyOf text (F′ j)) ≢ Ordering·eq
         foreign₂ j l q =
@@ -291,7 +291,7 @@ module _ {text ws : List ℕ} {index used main-size delta-size deleted n lo₀ h
         })
 
         pub room : n + 1 ≤ deleted + marked
-        room = deleted-room π′ ι′ named₂ spelled-tag run₂ fits deleted foreign₂ ς σ header-said₂
+        room = deleted-room π′ ι′ named₂ spelled-tag run₂ fits all-deleted foreign₂ ς σ header-said₂
 
         low-same : livesLow text E′ lo₀ ≡ livesLow text E lo₀
         low-same = ap (map (entryOf text)) (live-cong E′ E lo₀ (λ k l. β .below (0 + k) (omega arith) (omega arith)))
@@ -306,12 +306,12 @@ module _ {text ws : List ℕ} {index used main-size delta-size deleted n lo₀ h
         pub committed-placed : Committed text ws ws₁ index used (three main-size delta-size deleted) n key (three main-size delta-size (deleted + marked - (n + 1)))
         committed-placed = record {
           report =
-              placed-report π′ ι′ named₂ spelled-tag run₂ fits deleted foreign₂ ς σ header-said₂
+              placed-report π′ ι′ named₂ spelled-tag run₂ fits all-deleted foreign₂ ς σ header-said₂
               ∙ ap₂ mergeReports (ap₂ _++_ low-same (ap₂ _++_ (new-as spelled spelled-key) high-same)) delta-same
               ∙ first-by-first (testOf text key) (pathOf text key) its (livesLow text E lo₀) (livesIn text E lo₀ hi₀) (livesHigh text E main-size lo₀ hi₀)
               (lowerAt text F place) [] (higherAt text F delta-size place place) (low-live-entries ρ₀) (in-live-entries ρ₀) (high-live-entries ρ₀) (lower-all ρ₁) tt (higher-all ρ₁)
               ∙ sym (kept-some (keptAt text ws index main-size delta-size) ∙ ap (replaceSection (testOf text key) (pathOf text key) its) before);
-          held = placed-held π′ ι′ named₂ spelled-tag run₂ fits deleted foreign₂ ς σ header-said₂;
+          held = placed-held π′ ι′ named₂ spelled-tag run₂ fits all-deleted foreign₂ ς σ header-said₂;
         }
 
 -- ---- what the calls of `commit` ask
