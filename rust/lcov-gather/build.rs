@@ -12,7 +12,6 @@ fn main() {
 
     println!("cargo:rerun-if-env-changed=LCOV_PORT");
     println!("cargo:rerun-if-changed={}", archive.display());
-    for callers in ["bins", "examples"] {
-        println!("cargo:rustc-link-arg-{callers}={}", archive.display());
-    }
+    // For the command, the examples, and the tests of the library and of the command.
+    println!("cargo:rustc-link-arg={}", archive.display());
 }

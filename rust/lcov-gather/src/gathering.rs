@@ -1,128 +1,172 @@
 //! The gather of any number of tracefiles.
 //!
 //! A bundle names at most 64 texts. So the first 64 are gathered, then what that wrote together with the next 63, and so on: the total is
-//! that of one gather of all (docs/DECISIONS.md, "More than 64 files").
+//! that of one gather of all (docs/DECISIONS.md, "More than 64 files"). Files are read round by round, and each of them once.
 
-use crate::failure::Failure;
-use crate::input::Input;
-use crate::progress::Progress;
-use lcov_sys::{Refusal, MAX_ENTRIES, MAX_TEXTS, OUTPUT_TOO_SHORT, WORDS, WORDS_PER_ENTRY};
+use crate::audit::Sums;
+use crate::bundle::Bundle;
+use crate::failure::{name, Failure};
+use crate::guard::{Guard, Replacements};
+use crate::input::Inputs;
+use crate::record::records;
+use crate::reporter::Reporter;
+use crate::workspace::Workspace;
+use lcov_sys::Refusal;
 use std::path::{Path, PathBuf};
 
-#[derive(Clone, Copy, PartialEq, Eq)]
+#[derive(Debug, Clone, Copy, PartialEq, Eq)]
 pub enum Mode {
     Checked,
     Lossy,
 }
 
-/// Scratch for as many entries as there may be.
-pub struct Scratch(Vec<u64>);
-
-impl Scratch {
-    pub fn new() -> Self {
-        Scratch(vec![0; MAX_ENTRIES * WORDS_PER_ENTRY])
-    }
-
-    /// A call that reads so many bytes and writes a report, given an output that it finds long enough: at most twice.
-    pub fn written(
-        &mut self,
-        call: impl Fn(&mut [u64], &mut [u8], &mut [u64]) -> u32,
-        read: usize,
-    ) -> Result<Vec<u8>, Refusal> {
-        let mut out = vec![0; lcov_sys::roomy(read)];
-        loop {
-            let mut answer = [0; WORDS];
-            let number = call(&mut self.0, &mut out, &mut answer);
-            match Refusal::unless_answered(number, answer) {
-                Ok(len) => {
-                    out.truncate(len as usize);
-                    return Ok(out);
-                }
-                Err(refusal)
-                    if refusal.number == OUTPUT_TOO_SHORT && refusal.needed > out.len() =>
-                {
-                    out.resize(refusal.needed, 0);
-                }
-                Err(refusal) => return Err(refusal),
-            }
-        }
-    }
+/// How files are taken.
+#[derive(Debug, Clone, Copy, PartialEq, Eq)]
+pub struct Reading {
+    pub mode: Mode,
+    /// Without the guard.
+    pub as_written: bool,
 }
 
-pub fn gather(inputs: &[Input], mode: Mode) -> Result<Vec<u8>, Failure> {
-    let mut scratch = Scratch::new();
-    let mut progress = Progress::new(inputs);
-    let mut joined: Option<Vec<u8>> = None;
-    let mut done = 0;
-    while done < inputs.len() {
-        let taken = how_many_fit(joined.as_deref(), &inputs[done..]);
-        if taken == 0 {
-            return Err(Failure::TooLong(inputs[done].path.clone()));
+/// The joined tracefile, the sums over the files, and what the guard found.
+pub struct Gathered {
+    pub text: Vec<u8>,
+    pub read: Sums,
+    pub replaced: Replacements,
+}
+
+struct Gathering<'a> {
+    files: &'a [PathBuf],
+    reading: Reading,
+    reporter: &'a mut Reporter,
+    inputs: Inputs,
+    bundle: Bundle,
+    workspace: Workspace,
+    /// How many files are read.
+    done: usize,
+    /// How long the joined text of the rounds so far is; it is in the workspace.
+    joined: Option<usize>,
+    read: Sums,
+    replaced: Replacements,
+    /// What is to be told of the round's files once the library has taken them.
+    notes: Vec<String>,
+}
+
+/// A refusal by the library is told before what the guard found: the guard speaks only of files that the library takes.
+pub fn gather(
+    files: &[PathBuf],
+    reading: Reading,
+    start: Sums,
+    reporter: &mut Reporter,
+) -> Result<Gathered, Failure> {
+    let mut gathering = Gathering {
+        files,
+        reading,
+        reporter,
+        inputs: Inputs::default(),
+        bundle: Bundle::new(),
+        workspace: Workspace::new(),
+        done: 0,
+        joined: None,
+        read: start,
+        replaced: Replacements::default(),
+        notes: Vec::new(),
+    };
+    while gathering.done < files.len() {
+        gathering.round()?;
+    }
+    let len = gathering.joined.unwrap_or(0);
+    Ok(Gathered {
+        text: gathering.workspace.into_written(len),
+        read: gathering.read,
+        replaced: gathering.replaced,
+    })
+}
+
+impl Gathering<'_> {
+    /// What is joined so far and the next files, gathered.
+    fn round(&mut self) -> Result<(), Failure> {
+        let first = self.done;
+        let earlier = self.begin()?;
+        // What is joined may fill the bundle by itself, so the first file is not asked whether it fits.
+        self.add_file()?;
+        while !self.bundle.is_full() && self.done < self.files.len() {
+            self.add_file()?;
         }
-        let later = inputs[done..done + taken].iter();
-        let texts: Vec<&[u8]> = joined
-            .as_deref()
-            .into_iter()
-            .chain(later.map(|input| &input.text[..]))
-            .collect();
-        let bundle = bundle_of(&texts);
-        let wrote = scratch.written(
+        let bundle = self.bundle.finish();
+        let mode = self.reading.mode;
+        let written = self.workspace.written(
             |scratch, out, answer| match mode {
-                Mode::Checked => lcov_sys::gather_with(&bundle, scratch, out, answer),
-                Mode::Lossy => lcov_sys::gather_lossy(&bundle, scratch, out, answer),
+                Mode::Checked => lcov_sys::gather_with(bundle, scratch, out, answer),
+                Mode::Lossy => lcov_sys::gather_lossy(bundle, scratch, out, answer),
             },
             bundle.len(),
         );
-        let earlier = texts.len() - taken;
-        let wrote =
-            wrote.map_err(|refusal| in_file(&inputs[..done + taken], done, earlier, refusal))?;
-        joined = Some(wrote);
-        done += taken;
-        progress.show(done);
+        match written {
+            Ok(written) => self.joined = Some(written.len()),
+            Err(refusal) => return Err(in_file(self.files, first, earlier, refusal)),
+        }
+        for what in self.notes.drain(..) {
+            self.reporter.note(what);
+        }
+        Ok(())
     }
-    Ok(joined.unwrap_or_default())
+
+    /// Puts what is joined into the empty bundle: the number of texts that are no files, 0 or 1.
+    fn begin(&mut self) -> Result<usize, Failure> {
+        self.bundle.clear();
+        let Some(len) = self.joined else {
+            return Ok(0);
+        };
+        let joined = self.workspace.last(len);
+        let added = self.bundle.add(|bytes| {
+            bytes.extend_from_slice(joined);
+            Ok(())
+        })?;
+        let first = || self.files[0].clone();
+        added.map(|_| 1).ok_or_else(|| Failure::TooLong(first()))
+    }
+
+    fn add_file(&mut self) -> Result<(), Failure> {
+        let path = &self.files[self.done];
+        let (inputs, reporter) = (&mut self.inputs, &mut *self.reporter);
+        let added = self
+            .bundle
+            .add(|bytes| inputs.read(path, bytes, reporter))?;
+        let text = added.ok_or_else(|| Failure::TooLong(path.clone()))?;
+        let guarded = (!self.reading.as_written).then_some(&mut self.replaced);
+        let has_items = scan(text, &name(path), &mut self.read, guarded);
+        if text.is_empty() {
+            self.notes
+                .push(format!("{}: the file is empty", name(path)));
+        } else if !has_items {
+            let what = "the file has no functions, branches and lines";
+            self.notes.push(format!("{}: {what}", name(path)));
+        }
+        self.done += 1;
+        self.reporter.advance(self.done);
+        Ok(())
+    }
 }
 
-/// How many of the later files fit into one bundle with what was joined.
-fn how_many_fit(joined: Option<&[u8]>, later: &[Input]) -> usize {
-    let room = MAX_TEXTS - usize::from(joined.is_some());
-    let mut bytes = joined.map_or(0, <[u8]>::len);
-    later
-        .iter()
-        .take(room)
-        .take_while(|input| {
-            bytes += input.text.len();
-            u32::try_from(bytes).is_ok()
-        })
-        .count()
+/// One walk over the records of a file, for the audit and for the guard. Whether the file has a function, branch or line.
+fn scan(text: &[u8], file: &str, read: &mut Sums, guarded: Option<&mut Replacements>) -> bool {
+    let mut has_items = false;
+    let mut guard = Guard::default();
+    let mut guarded = guarded;
+    for (place, record) in records(text) {
+        read.add(record);
+        has_items |= record.is_item();
+        if let Some(replaced) = guarded.as_deref_mut() {
+            guard.take(place, record, file, replaced);
+        }
+    }
+    has_items
 }
 
-/// The refusal with the file that it is about. What was joined before is about its first file.
-fn in_file(inputs: &[Input], done: usize, earlier: usize, refusal: Refusal) -> Failure {
-    let place = (done + refusal.text).saturating_sub(earlier);
-    let path = inputs
-        .get(place)
-        .map_or(Path::new("-"), |input| &input.path);
+/// The refusal with the file that it is about. What was joined before is about its last file.
+fn in_file(files: &[PathBuf], first: usize, earlier: usize, refusal: Refusal) -> Failure {
+    let place = (first + refusal.text).saturating_sub(earlier);
+    let path = files.get(place).map_or(Path::new("-"), |path| path);
     Failure::Refused(PathBuf::from(path), refusal)
-}
-
-/// n and T, n starts, n lengths, all little-endian u32, and the texts one after the other.
-fn bundle_of(texts: &[&[u8]]) -> Vec<u8> {
-    let bytes: usize = texts.iter().map(|text| text.len()).sum();
-    let mut bundle = Vec::with_capacity(8 + 8 * texts.len() + bytes);
-    let mut put = |number: usize| bundle.extend_from_slice(&(number as u32).to_le_bytes());
-    put(texts.len());
-    put(bytes);
-    let mut start = 0;
-    for text in texts {
-        put(start);
-        start += text.len();
-    }
-    for text in texts {
-        put(text.len());
-    }
-    for text in texts {
-        bundle.extend_from_slice(text);
-    }
-    bundle
 }

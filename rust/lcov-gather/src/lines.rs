@@ -1,7 +1,7 @@
 //! Sections cut to ranges of lines.
 
 use crate::failure::Failure;
-use crate::gathering::Scratch;
+use crate::workspace::Workspace;
 use lcov_sys::{Refusal, EQUAL, WORDS};
 use std::ffi::{OsStr, OsString};
 use std::os::unix::ffi::OsStrExt;
@@ -76,7 +76,7 @@ pub fn keep(joined: Vec<u8>, cuts: &[Cut]) -> Result<Vec<u8>, Failure> {
     if cuts.is_empty() {
         return Ok(joined);
     }
-    let mut scratch = Scratch::new();
+    let mut workspace = Workspace::new();
     let mut kept = Vec::with_capacity(joined.len());
     let mut met = vec![false; cuts.len()];
     for section in sections(&joined) {
@@ -90,7 +90,7 @@ pub fn keep(joined: Vec<u8>, cuts: &[Cut]) -> Result<Vec<u8>, Failure> {
         if ranges.is_empty() {
             kept.extend(section);
         } else {
-            kept.extend(cut_to(section, &List::of(&ranges), &mut scratch)?);
+            kept.extend(cut_to(section, &List::of(&ranges), &mut workspace)?);
         }
     }
     match cuts.iter().zip(met).find(|(_, met)| !met) {
@@ -99,12 +99,16 @@ pub fn keep(joined: Vec<u8>, cuts: &[Cut]) -> Result<Vec<u8>, Failure> {
     }
 }
 
-fn cut_to(section: &[u8], list: &List, scratch: &mut Scratch) -> Result<Vec<u8>, Failure> {
+fn cut_to<'a>(
+    section: &[u8],
+    list: &List,
+    workspace: &'a mut Workspace,
+) -> Result<&'a [u8], Failure> {
     let call = |scratch: &mut [u64], out: &mut [u8], answer: &mut [u64]| {
         lcov_sys::filter(section, &list.pairs, list.used, scratch, out, answer)
     };
     let path = PathBuf::from(OsStr::from_bytes(path_of(section)));
-    scratch
+    workspace
         .written(call, section.len())
         .map_err(|refusal| Failure::Refused(path, refusal))
 }

@@ -1,21 +1,13 @@
-//! `lcov-gather`: joins LCOV tracefiles into one. lcov-gather.1 beside this package is its page.
+//! The command: its words are parsed, what they ask for is done, and the exit status tells how that went.
 
-mod failure;
-mod gathering;
-mod input;
-mod lines;
-mod options;
-mod output;
-mod progress;
-
-use failure::Failure;
-use options::{Asked, Options};
+use lcov_gather::options::{self, Asked};
+use lcov_gather::{output, run};
 use std::process::ExitCode;
 
 fn main() -> ExitCode {
-    let done = match options::parse(std::env::args_os().skip(1)) {
-        Ok(Asked::Help) => output::print(options::HELP.as_bytes()),
-        Ok(Asked::Gather(options)) => gather(&options),
+    let done = match options::parse(std::env::args_os()) {
+        Ok(Asked::Print(text)) => output::print(&text),
+        Ok(Asked::Gather(options)) => run::run(&options),
         Err(failure) => Err(failure),
     };
     match done {
@@ -24,15 +16,5 @@ fn main() -> ExitCode {
             eprintln!("lcov-gather: {failure}");
             ExitCode::from(failure.status())
         }
-    }
-}
-
-fn gather(options: &Options) -> Result<(), Failure> {
-    let inputs = input::read_all(&options.files)?;
-    let joined = gathering::gather(&inputs, options.mode)?;
-    let kept = lines::keep(joined, &options.lines)?;
-    match &options.output {
-        Some(path) => output::replace(path, &kept),
-        None => output::print(&kept),
     }
 }

@@ -1,79 +1,189 @@
 //! The command line.
 
 use crate::failure::Failure;
-use crate::gathering::Mode;
+use crate::gathering::{Mode, Reading};
 use crate::lines::Cut;
+use clap::builder::ValueParser;
+use clap::error::ErrorKind;
+use clap::{value_parser, Arg, ArgAction, ArgMatches, Command, ValueHint};
+use clap_complete::shells::{Bash, Fish, Zsh};
 use std::ffi::OsString;
 use std::path::PathBuf;
 
-pub const HELP: &str = "\
-usage: lcov-gather [--lossy] [--lines FILE:RANGES]... [-o OUT] FILES...
+const NAME: &str = "lcov-gather";
 
+const ABOUT: &str = "\
 Joins LCOV tracefiles into one and prints it: every count is the sum over all
-files, or nothing is written. '-' is standard input.
+files, or nothing is written. '-' is standard input.";
 
-  --lossy              where start lines or checksums differ, the later wins;
-                       without it such files are refused
-  --lines FILE:RANGES  keep only these lines of the source file FILE, as 10-20,
-                       7 or 100- with commas between; sections of other files
-                       stay as they are; given twice, all lines are kept
-  -o, --output OUT     write to OUT, which is replaced only when all is done
-  --help               print this
+const AFTER: &str = "\
+A file is refused in which a section, DA or BRDA replaces an earlier one, FN
+sets a count above 0 to 0, or a section has no TN after a TN that names a test:
+the result would be short. --as-written takes such files as they are.
 
-Exit status: 0 done; 1 a tracefile was refused, and the message names the
-file, line and field; 2 wrong usage, or a file can't be read or written.
-";
+In every run the counts of the DA and BRDA lines of all files are added up and
+compared with those of the result.
+
+Exit status: 0 done; 1 a tracefile was refused, and the message names the file
+and line; 2 wrong usage, or a file can't be read or written; 3 the sums of the
+files and of the result differ.";
 
 pub struct Options {
-    pub mode: Mode,
+    pub reading: Reading,
+    pub quiet: bool,
     pub lines: Vec<Cut>,
     pub output: Option<PathBuf>,
     pub files: Vec<PathBuf>,
+    pub files_from: Option<PathBuf>,
+    pub null: bool,
 }
 
 pub enum Asked {
-    Help,
+    /// Help, version or a completion script.
+    Print(Vec<u8>),
     Gather(Options),
 }
 
-pub fn parse(mut words: impl Iterator<Item = OsString>) -> Result<Asked, Failure> {
-    let mut options = Options {
-        mode: Mode::Checked,
-        lines: Vec::new(),
-        output: None,
-        files: Vec::new(),
+/// The words begin with the command's name.
+pub fn parse(words: impl Iterator<Item = OsString>) -> Result<Asked, Failure> {
+    let matches = match command().try_get_matches_from(words) {
+        Ok(matches) => matches,
+        Err(error) => return explained(&error),
     };
-    while let Some(word) = words.next() {
-        match word.to_str() {
-            Some("--help" | "-h") => return Ok(Asked::Help),
-            Some("--lossy") => options.mode = Mode::Lossy,
-            Some("--lines") => {
-                let cut = words.next().ok_or_else(|| wants("--lines"))?;
-                options.lines.push(Cut::parse(&cut)?);
-            }
-            Some("-o" | "--output") => {
-                let path = words.next().ok_or_else(|| wants("-o"))?;
-                options.output = Some(path.into()).filter(|path: &PathBuf| path.as_os_str() != "-");
-            }
-            Some("--") => options.files.extend(words.by_ref().map(PathBuf::from)),
-            Some(option) if option.len() > 1 && option.starts_with('-') => {
-                return Err(Failure::Usage(format!("unknown option {option}")))
-            }
-            _ => options.files.push(word.into()),
-        }
+    match matches.get_one::<String>("completions") {
+        Some(shell) => Ok(Asked::Print(script(shell))),
+        None => options(matches).map(Asked::Gather),
     }
-    let from_input = options.files.iter().filter(|file| file.as_os_str() == "-");
-    if from_input.count() > 1 {
-        return Err(Failure::Usage(
-            "standard input can be read only once".into(),
-        ));
-    }
-    if options.files.is_empty() {
-        return Err(Failure::Usage("no tracefile is named".into()));
-    }
-    Ok(Asked::Gather(options))
 }
 
-fn wants(option: &str) -> Failure {
-    Failure::Usage(format!("{option} wants a value"))
+fn options(mut matches: ArgMatches) -> Result<Options, Failure> {
+    let mode = if matches.get_flag("lossy") {
+        Mode::Lossy
+    } else {
+        Mode::Checked
+    };
+    let cuts = matches.remove_many::<OsString>("lines").unwrap_or_default();
+    let output = matches.remove_one::<PathBuf>("output");
+    Ok(Options {
+        reading: Reading {
+            mode,
+            as_written: matches.get_flag("as-written"),
+        },
+        quiet: matches.get_flag("quiet"),
+        lines: cuts.map(|cut| Cut::parse(&cut)).collect::<Result<_, _>>()?,
+        output: output.filter(|path| path.as_os_str() != "-"),
+        files: matches
+            .remove_many("files")
+            .map_or(Vec::new(), |files| files.collect()),
+        files_from: matches.remove_one("files-from"),
+        null: matches.get_flag("null"),
+    })
+}
+
+fn command() -> Command {
+    Command::new(NAME)
+        .version(env!("CARGO_PKG_VERSION"))
+        .about(ABOUT)
+        .after_help(AFTER)
+        .term_width(80)
+        .args(reading_arguments())
+        .args(file_arguments())
+        .arg(flag("quiet", "Print no notes and no progress bar").short('q'))
+        .arg(
+            Arg::new("completions")
+                .long("completions")
+                .value_name("SHELL")
+                .value_parser(["bash", "zsh", "fish"])
+                .help("Print a completion script for this shell"),
+        )
+}
+
+fn reading_arguments() -> [Arg; 3] {
+    let lossy =
+        "Where start lines or checksums differ, the later wins; without it such files are refused";
+    let as_written =
+        "Take files in which one thing replaces another as they are; what is lost is told";
+    let lines =
+        "Keep only these lines of the source file FILE, as 10-20, 7 or 100- with commas between; \
+        sections of other files stay as they are; given twice, all lines are kept";
+    [
+        flag("lossy", lossy),
+        flag("as-written", as_written),
+        value("lines", "FILE:RANGES", value_parser!(OsString))
+            .action(ArgAction::Append)
+            .help(lines),
+    ]
+}
+
+fn file_arguments() -> [Arg; 4] {
+    let output = "Write to OUT, which is replaced only when all is done; a device, fifo or socket is written to";
+    let from = "Read the tracefiles' names from FILE, one a line; '-' is standard input";
+    [
+        value("output", "OUT", value_parser!(PathBuf))
+            .short('o')
+            .value_hint(ValueHint::FilePath)
+            .help(output),
+        value("files-from", "FILE", value_parser!(PathBuf))
+            .value_hint(ValueHint::FilePath)
+            .help(from),
+        flag(
+            "null",
+            "In the FILE of --files-from a byte 0 ends each name",
+        )
+        .short('0')
+        .requires("files-from"),
+        Arg::new("files")
+            .value_name("TRACEFILE")
+            .num_args(0..)
+            .value_parser(value_parser!(PathBuf))
+            .value_hint(ValueHint::FilePath)
+            .help("The tracefiles, before those of --files-from"),
+    ]
+}
+
+fn flag(name: &'static str, help: &'static str) -> Arg {
+    let flag = Arg::new(name).long(name);
+    flag.action(ArgAction::SetTrue).help(help)
+}
+
+fn value(name: &'static str, shown: &'static str, parser: ValueParser) -> Arg {
+    let value = Arg::new(name).long(name);
+    value.value_name(shown).value_parser(parser)
+}
+
+fn script(shell: &str) -> Vec<u8> {
+    let mut script = Vec::new();
+    let (command, out) = (&mut command(), &mut script);
+    match shell {
+        "bash" => clap_complete::generate(Bash, command, NAME, out),
+        "zsh" => clap_complete::generate(Zsh, command, NAME, out),
+        _ => clap_complete::generate(Fish, command, NAME, out),
+    }
+    script
+}
+
+/// Help and version are errors to clap. Its messages of wrong usage get the form of this command's: the command's name in front, a small
+/// letter, and no usage lines.
+fn explained(error: &clap::Error) -> Result<Asked, Failure> {
+    let text = error.render().to_string();
+    if matches!(
+        error.kind(),
+        ErrorKind::DisplayHelp | ErrorKind::DisplayVersion
+    ) {
+        return Ok(Asked::Print(text.into_bytes()));
+    }
+    let text = text.strip_prefix("error: ").unwrap_or(&text);
+    let text = text.split("\nUsage:").next().unwrap_or(text);
+    let text = text.split("\nFor more information").next().unwrap_or(text);
+    let mut letters = text.trim_end().chars();
+    let first = letters.next().map(|letter| letter.to_ascii_lowercase());
+    Err(Failure::Usage(first.into_iter().chain(letters).collect()))
+}
+
+#[cfg(test)]
+mod tests {
+    #[test]
+    fn the_arguments_fit_together() {
+        super::command().debug_assert();
+    }
 }

@@ -1,32 +1,21 @@
 //! docs/DIFFERENCES.md row by row: the smallest input of each, and what the port makes of it. That the Rust makes the same of it is
 //! compared by the harness, on these and many others.
 
-use std::process::{Command, Stdio};
-use std::sync::atomic::{AtomicU32, Ordering};
+mod common;
+
+use common::Folder;
 
 /// What the command prints for texts, or what it says of the refusal.
-fn gathered(texts: &[&str]) -> Result<String, String> {
-    static MADE: AtomicU32 = AtomicU32::new(0);
-    let number = MADE.fetch_add(1, Ordering::Relaxed);
-    let name = format!("lcov-differences-{}-{number}", std::process::id());
-    let folder = std::env::temp_dir().join(name);
-    std::fs::create_dir(&folder).unwrap();
+fn gathered(options: &[&str], texts: &[&str]) -> Result<String, String> {
     let names: Vec<String> = (0..texts.len()).map(|k| format!("t{k}")).collect();
-    for (name, text) in names.iter().zip(texts) {
-        std::fs::write(folder.join(name), text).unwrap();
-    }
-    let output = Command::new(env!("CARGO_BIN_EXE_lcov-gather"))
-        .args(&names)
-        .current_dir(&folder)
-        .stdin(Stdio::null())
-        .output()
-        .unwrap();
-    std::fs::remove_dir_all(&folder).unwrap();
-    let words = |bytes| String::from_utf8(bytes).unwrap();
+    let names: Vec<&str> = names.iter().map(String::as_str).collect();
+    let files: Vec<(&str, &str)> = names.iter().copied().zip(texts.iter().copied()).collect();
+    let output = Folder::with(&files).run(&[options, &names].concat());
     if output.status.success() {
-        Ok(words(output.stdout))
+        Ok(common::printed(&output))
     } else {
-        Err(words(output.stderr)
+        assert_eq!(output.status.code(), Some(1));
+        Err(common::said(&output)
             .trim_end()
             .replacen("lcov-gather: ", "", 1))
     }
@@ -42,11 +31,24 @@ fn text(lines: &str) -> String {
 }
 
 fn prints(texts: &[&str], printed: &str) {
-    assert_eq!(gathered(texts), Ok(text(printed)), "{texts:?}");
+    assert_eq!(gathered(&[], texts), Ok(text(printed)), "{texts:?}");
+    let as_written = gathered(&["--as-written"], texts);
+    assert_eq!(as_written, Ok(text(printed)), "{texts:?}");
 }
 
 fn refuses(texts: &[&str], said: &str) {
-    assert_eq!(gathered(texts), Err(said.to_owned()), "{texts:?}");
+    assert_eq!(gathered(&[], texts), Err(said.to_owned()), "{texts:?}");
+    let as_written = gathered(&["--as-written", "--quiet"], texts);
+    assert_eq!(as_written, Err(said.to_owned()), "{texts:?}");
+}
+
+/// One text in which something is replaced: what is printed of it as it is written, and what is said without that option.
+fn replaces(replacing: &str, printed: &str, said: &str) {
+    let as_written = gathered(&["--as-written"], &[replacing]);
+    assert_eq!(as_written, Ok(text(printed)), "{replacing}");
+    let advice = "refused, since the result would be short; --as-written takes such files";
+    let refused = Err(format!("{said}\nlcov-gather: {advice}"));
+    assert_eq!(gathered(&[], &[replacing]), refused, "{replacing}");
 }
 
 #[test]
@@ -60,9 +62,10 @@ fn order_of_lf_and_lh() {
 #[test]
 fn each_section_has_its_own_tn() {
     let two = text("TN:a SF:x DA:1,1 end_of_record SF:y DA:1,1 end_of_record");
-    prints(
-        &[&two],
+    replaces(
+        &two,
         "TN: SF:y DA:1,1 LF:1 LH:1 end_of_record TN:a SF:x DA:1,1 LF:1 LH:1 end_of_record",
+        "t0:5: the section of y has no TN, and the TN at t0:1 is not for it",
     );
     refuses(
         &[&text("SF:a TN:b")],
@@ -72,27 +75,34 @@ fn each_section_has_its_own_tn() {
 
 #[test]
 fn a_repeated_line_or_branch_stays_as_last_given() {
-    prints(
-        &[&section("DA:1,2 DA:1,3")],
+    replaces(
+        &section("DA:1,2 DA:1,3"),
         "TN: SF:m DA:1,3 LF:1 LH:1 end_of_record",
+        "t0:3: DA:1 replaces the one at t0:2",
     );
-    prints(
-        &[&section("BRDA:1,0,0,2 BRDA:1,0,0,3")],
+    replaces(
+        &section("BRDA:1,0,0,2 BRDA:1,0,0,3"),
         "TN: SF:m BRDA:1,0,0,3 BRF:1 BRH:1 end_of_record",
+        "t0:3: BRDA:1,0,0 replaces the one at t0:2",
     );
 }
 
 #[test]
 fn a_section_that_comes_again_replaces_the_first() {
     let twice = section("DA:1,1") + &section("DA:2,1");
-    prints(&[&twice], "TN: SF:m DA:2,1 LF:1 LH:1 end_of_record");
+    replaces(
+        &twice,
+        "TN: SF:m DA:2,1 LF:1 LH:1 end_of_record",
+        "t0:4: the section of m replaces the one at t0:1",
+    );
 }
 
 #[test]
 fn fn_after_fnda_sets_the_count_to_0() {
-    prints(
-        &[&section("FNDA:2,f FN:3,f")],
+    replaces(
+        &section("FNDA:2,f FN:3,f"),
         "TN: SF:m FN:3,f FNDA:0,f FNF:1 FNH:0 end_of_record",
+        "t0:3: FN sets the count of f, given at t0:2, to 0",
     );
 }
 

@@ -1,95 +1,14 @@
 //! The tool driven as a user would: files in a folder, the command, and what it leaves.
 
+mod common;
+
+use common::{missing, printed, said, section, Folder};
 use std::fs;
-use std::io::Write;
 use std::path::{Path, PathBuf};
-use std::process::{Command, Output, Stdio};
-use std::sync::atomic::{AtomicU32, Ordering};
-
-/// A folder of its own, removed at the end.
-struct Folder(PathBuf);
-
-impl Folder {
-    fn new() -> Self {
-        static MADE: AtomicU32 = AtomicU32::new(0);
-        let number = MADE.fetch_add(1, Ordering::Relaxed);
-        let name = format!("lcov-gather-{}-{number}", std::process::id());
-        let path = std::env::temp_dir().join(name);
-        fs::create_dir(&path).unwrap();
-        Folder(path)
-    }
-
-    fn with(files: &[(&str, &str)]) -> Self {
-        let folder = Folder::new();
-        for (name, text) in files {
-            fs::write(folder.0.join(name), text).unwrap();
-        }
-        folder
-    }
-
-    fn run(&self, words: &[&str]) -> Output {
-        self.run_with(words, "")
-    }
-
-    fn run_with(&self, words: &[&str], input: &str) -> Output {
-        let mut child = Command::new(env!("CARGO_BIN_EXE_lcov-gather"))
-            .args(words)
-            .current_dir(&self.0)
-            .stdin(Stdio::piped())
-            .stdout(Stdio::piped())
-            .stderr(Stdio::piped())
-            .spawn()
-            .unwrap();
-        child
-            .stdin
-            .take()
-            .unwrap()
-            .write_all(input.as_bytes())
-            .unwrap();
-        child.wait_with_output().unwrap()
-    }
-
-    fn text(&self, name: &str) -> String {
-        fs::read_to_string(self.0.join(name)).unwrap()
-    }
-
-    /// What is there, in order.
-    fn names(&self) -> Vec<String> {
-        let mut names: Vec<String> = fs::read_dir(&self.0)
-            .unwrap()
-            .map(|entry| entry.unwrap().file_name().into_string().unwrap())
-            .collect();
-        names.sort();
-        names
-    }
-}
-
-impl Drop for Folder {
-    fn drop(&mut self) {
-        let _ = fs::remove_dir_all(&self.0);
-    }
-}
+use std::process::Command;
 
 fn samples() -> PathBuf {
     Path::new(env!("CARGO_MANIFEST_DIR")).join("../../tests/samples")
-}
-
-fn printed(output: &Output) -> String {
-    assert!(output.status.success(), "{}", said(output));
-    String::from_utf8(output.stdout.clone()).unwrap()
-}
-
-fn said(output: &Output) -> String {
-    String::from_utf8(output.stderr.clone()).unwrap()
-}
-
-fn section(path: &str, lines: &[(u32, u64)]) -> String {
-    let mut text = format!("TN:\nSF:{path}\n");
-    for (line, count) in lines {
-        text += &format!("DA:{line},{count}\n");
-    }
-    let hit = lines.iter().filter(|(_, count)| *count > 0).count();
-    text + &format!("LF:{}\nLH:{hit}\nend_of_record\n", lines.len())
 }
 
 #[test]
@@ -223,9 +142,161 @@ fn wrong_usage_and_missing_files_have_status_2() {
 #[test]
 fn help_tells_every_option() {
     let help = printed(&Folder::new().run(&["--help"]));
-    for option in ["--lossy", "--lines", "-o", "--help", "Exit status"] {
+    let page = fs::read_to_string(Path::new(env!("CARGO_MANIFEST_DIR")).join("lcov-gather.1"));
+    let page = page.unwrap();
+    for option in [
+        "--lossy",
+        "--as-written",
+        "--lines",
+        "-o",
+        "--output",
+        "--files-from",
+        "-0",
+        "--null",
+        "-q",
+        "--quiet",
+        "--completions",
+        "-h",
+        "--help",
+        "-V",
+        "--version",
+    ] {
         assert!(help.contains(option), "{option}");
+        assert!(page.contains(&format!("Fl {}", &option[1..])), "{option}");
     }
+    assert!(help.contains("Exit status: 0 done; 1 "));
+    assert!(help.lines().all(|line| line.chars().count() <= 80));
+}
+
+#[test]
+fn version_and_suggestions() {
+    let folder = Folder::new();
+    let version = format!("lcov-gather {}\n", env!("CARGO_PKG_VERSION"));
+    assert_eq!(printed(&folder.run(&["--version"])), version);
+    let output = folder.run(&["--as-writen", "a"]);
+    assert_eq!(output.status.code(), Some(2));
+    assert!(
+        said(&output).contains("'--as-written'"),
+        "{}",
+        said(&output)
+    );
+    assert!(said(&output).ends_with("\ntry 'lcov-gather --help'\n"));
+}
+
+/// Each script is taken by its shell, where that is installed, and names the options.
+#[test]
+fn completion_scripts() {
+    let folder = Folder::new();
+    for shell in ["bash", "zsh", "fish"] {
+        let script = printed(&folder.run(&["--completions", shell]));
+        assert!(script.contains("files-from"), "{shell}");
+        fs::write(folder.path(shell), script).unwrap();
+        let check = Command::new(shell)
+            .arg("-n")
+            .arg(folder.path(shell))
+            .output();
+        if let Ok(check) = check {
+            assert!(check.status.success(), "{shell}: {}", said(&check));
+        }
+    }
+    assert_eq!(
+        folder.run(&["--completions", "tcsh"]).status.code(),
+        Some(2)
+    );
+}
+
+#[test]
+fn a_file_that_is_named_twice_counts_twice_and_is_told() {
+    let folder = Folder::with(&[("a", &section("x", &[(1, 1)])), ("b", "")]);
+    fs::hard_link(folder.path("a"), folder.path("c")).unwrap();
+    std::os::unix::fs::symlink("a", folder.path("d")).unwrap();
+    let words = ["a", "./a", "c", "d", "b"];
+    let output = folder.run(&words);
+    assert_eq!(printed(&output), section("x", &[(1, 4)]));
+    assert_eq!(
+        said(&output),
+        "lcov-gather: ./a: the same file as a, counted once more\n\
+         lcov-gather: c: the same file as a, counted once more\n\
+         lcov-gather: d: the same file as a, counted once more\n\
+         lcov-gather: b: the file is empty\n"
+    );
+    for quiet in ["-q", "--quiet"] {
+        let output = folder.run(&[&[quiet], &words[..]].concat());
+        assert_eq!(printed(&output), section("x", &[(1, 4)]));
+        assert_eq!(said(&output), "");
+    }
+}
+
+#[test]
+fn standard_input_may_be_a_file_that_is_named() {
+    let folder = Folder::with(&[("a", &section("x", &[(1, 1)]))]);
+    let output = folder
+        .command(&["a", "-"])
+        .stdin(fs::File::open(folder.path("a")).unwrap())
+        .output()
+        .unwrap();
+    assert_eq!(printed(&output), section("x", &[(1, 2)]));
+    assert_eq!(
+        said(&output),
+        "lcov-gather: standard input: the same file as a, counted once more\n"
+    );
+}
+
+#[test]
+fn a_file_without_counts_is_told() {
+    let folder = Folder::with(&[("a", "TN:t\nSF:x\nLF:0\nend_of_record\n")]);
+    let output = folder.run(&["a"]);
+    assert_eq!(printed(&output), "");
+    assert_eq!(
+        said(&output),
+        "lcov-gather: a: the file has no functions, branches and lines\n"
+    );
+    assert_eq!(said(&folder.run(&["--quiet", "a"])), "");
+}
+
+/// A path with any byte but the one that ends it; the named files come first, as the spelling of the path shows.
+#[test]
+fn files_from_a_list() {
+    let folder = Folder::with(&[
+        ("a", &section("x//y", &[(1, 1)])),
+        ("b b", &section("x/y", &[(1, 2)])),
+        ("c\nc", &section("x/./y", &[(1, 4)])),
+        ("lines", "b b\n\nb b"),
+        ("nulls", "c\nc\0b b\0"),
+        ("none", ""),
+    ]);
+    let prints = |words: &[&str], input: &str, spelling: &str, count| {
+        let output = folder.run_with(words, input);
+        assert_eq!(printed(&output), section(spelling, &[(1, count)]));
+    };
+    prints(&["--files-from", "lines", "a"], "", "x//y", 5);
+    prints(&["--files-from", "lines"], "", "x/y", 4);
+    prints(&["--files-from", "-", "a"], "b b\n", "x//y", 3);
+    prints(&["--files-from", "nulls", "-0"], "", "x/./y", 6);
+    prints(&["--null", "--files-from", "-", "a"], "c\nc", "x//y", 5);
+    prints(&["--files-from", "none", "a"], "", "x//y", 1);
+    for words in [
+        &["--files-from", "none"][..],
+        &["--files-from", "missing", "a"],
+        &["--files-from", "-", "-"],
+        &["--files-from", "nulls", "a"],
+        &["-0", "a"],
+    ] {
+        assert_eq!(folder.run(words).status.code(), Some(2), "{words:?}");
+    }
+}
+
+/// A fifo can be read only once.
+#[test]
+fn a_fifo_is_a_file_too() {
+    let folder = Folder::with(&[("a", &section("x", &[(1, 1)]))]);
+    let made = Command::new("mkfifo").arg(folder.path("fifo")).status();
+    assert!(made.unwrap().success());
+    let fifo = folder.path("fifo");
+    let writer = std::thread::spawn(move || fs::write(fifo, section("x", &[(1, 2)])));
+    let output = folder.run(&["fifo", "a"]);
+    writer.join().unwrap().unwrap();
+    assert_eq!(printed(&output), section("x", &[(1, 3)]));
 }
 
 /// Debian's tools read what was written, where they are installed.
@@ -243,8 +314,7 @@ fn lcov_and_genhtml_read_the_release() {
             .output()
     };
     let Ok(summary) = tool("lcov", &["--summary", "release.info"]) else {
-        println!("lcov is not installed");
-        return;
+        return missing("lcov");
     };
     let told = String::from_utf8_lossy(&summary.stdout) + String::from_utf8_lossy(&summary.stderr);
     assert!(summary.status.success(), "{told}");

@@ -1,0 +1,129 @@
+//! What the tests of the command share: folders, runs of the command, and real data.
+
+// Each test file is a program of its own and uses a part of this.
+#![allow(dead_code)]
+
+use std::fs;
+use std::io::{self, Write};
+use std::path::{Path, PathBuf};
+use std::process::{Command, Output, Stdio};
+use std::sync::atomic::{AtomicU32, Ordering};
+
+pub const COMMAND: &str = env!("CARGO_BIN_EXE_lcov-gather");
+
+/// A folder of its own, removed at the end.
+pub struct Folder(pub PathBuf);
+
+impl Folder {
+    pub fn new() -> Self {
+        static MADE: AtomicU32 = AtomicU32::new(0);
+        let number = MADE.fetch_add(1, Ordering::Relaxed);
+        let name = format!("lcov-gather-{}-{number}", std::process::id());
+        let path = std::env::temp_dir().join(name);
+        fs::create_dir(&path).unwrap();
+        Folder(path)
+    }
+
+    pub fn with(files: &[(&str, &str)]) -> Self {
+        let folder = Folder::new();
+        for (name, text) in files {
+            fs::write(folder.0.join(name), text).unwrap();
+        }
+        folder
+    }
+
+    pub fn path(&self, name: &str) -> PathBuf {
+        self.0.join(name)
+    }
+
+    pub fn command(&self, words: &[&str]) -> Command {
+        let mut command = Command::new(COMMAND);
+        command.args(words).current_dir(&self.0);
+        command
+    }
+
+    pub fn run(&self, words: &[&str]) -> Output {
+        self.run_with(words, "")
+    }
+
+    pub fn run_with(&self, words: &[&str], input: &str) -> Output {
+        let mut child = self
+            .command(words)
+            .stdin(Stdio::piped())
+            .stdout(Stdio::piped())
+            .stderr(Stdio::piped())
+            .spawn()
+            .unwrap();
+        // A command that is refused before it reads closes the pipe.
+        let _ = child.stdin.take().unwrap().write_all(input.as_bytes());
+        child.wait_with_output().unwrap()
+    }
+
+    pub fn text(&self, name: &str) -> String {
+        fs::read_to_string(self.0.join(name)).unwrap()
+    }
+
+    /// What is there, in order.
+    pub fn names(&self) -> Vec<String> {
+        let mut names: Vec<String> = fs::read_dir(&self.0)
+            .unwrap()
+            .map(|entry| entry.unwrap().file_name().into_string().unwrap())
+            .collect();
+        names.sort();
+        names
+    }
+}
+
+impl Drop for Folder {
+    fn drop(&mut self) {
+        let _ = fs::remove_dir_all(&self.0);
+    }
+}
+
+pub fn printed(output: &Output) -> String {
+    assert!(output.status.success(), "{}", said(output));
+    String::from_utf8(output.stdout.clone()).unwrap()
+}
+
+pub fn said(output: &Output) -> String {
+    String::from_utf8(output.stderr.clone()).unwrap()
+}
+
+pub fn section(path: &str, lines: &[(u32, u64)]) -> String {
+    let mut text = format!("TN:\nSF:{path}\n");
+    for (line, count) in lines {
+        text += &format!("DA:{line},{count}\n");
+    }
+    let hit = lines.iter().filter(|(_, count)| *count > 0).count();
+    text + &format!("LF:{}\nLH:{hit}\nend_of_record\n", lines.len())
+}
+
+/// Says past the test harness, which hides what a passed test prints.
+pub fn say_loudly(what: &str) {
+    let _ = io::stderr().write_all(format!("\n*** NOT RUN: {what} ***\n").as_bytes());
+}
+
+/// A tool or data that a test needs is missing: a failure where CI is set.
+pub fn missing(what: &str) {
+    assert!(std::env::var_os("CI").is_none(), "missing: {what}");
+    say_loudly(&format!("{what} is missing"));
+}
+
+/// The files of an archive of real tracefiles, in order; none if it is missing.
+pub fn real_files(archive: &str, folder: &Folder) -> Option<Vec<PathBuf>> {
+    let data = Path::new(env!("CARGO_MANIFEST_DIR")).join("../../../shared/data");
+    let packed = data.join(format!("{archive}.tar.xz"));
+    let unpacked = Command::new("tar")
+        .arg("-xJf")
+        .arg(&packed)
+        .current_dir(&folder.0)
+        .output();
+    if !packed.exists() || !unpacked.is_ok_and(|output| output.status.success()) {
+        missing(&format!("{archive}.tar.xz, or tar with xz,"));
+        return None;
+    }
+    let entries = fs::read_dir(folder.path(archive)).unwrap();
+    let mut files: Vec<PathBuf> = entries.map(|entry| entry.unwrap().path()).collect();
+    files.sort();
+    Some(files)
+}
