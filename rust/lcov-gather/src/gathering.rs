@@ -150,7 +150,7 @@ impl Gathering<'_> {
 }
 
 /// One walk over the records of a file, for the audit and for the guard. Whether the file has a function, branch or line.
-fn scan(text: &[u8], file: &str, read: &mut Sums, guarded: Option<&mut Replacements>) -> bool {
+pub fn scan(text: &[u8], file: &str, read: &mut Sums, guarded: Option<&mut Replacements>) -> bool {
     let mut has_items = false;
     let mut guard = Guard::default();
     let mut guarded = guarded;

@@ -1,0 +1,140 @@
+//! The command's own reader of lines against the library's: what the library takes, the command takes with the same values.
+
+mod common;
+
+use common::{real_files, Folder};
+use lcov_gather::record::{parse, records, Record};
+use lcov_sys::WORDS;
+use std::path::Path;
+
+/// What the library makes of a line; none if it refuses it. Tests and functions have their text in the line.
+fn by_library(line: &[u8]) -> Option<Record<'_>> {
+    let mut answer = [0; WORDS];
+    if lcov_sys::read_line(line, &mut answer) != 0 {
+        return None;
+    }
+    let [kind, a, b, c, d, given, start, len] = answer;
+    let text = &line[start as usize..(start + len) as usize];
+    Some(match kind {
+        1 => Record::TestName(text),
+        2 => Record::SourceFile(text),
+        3 => Record::Function(text),
+        4 => Record::Calls {
+            count: a,
+            name: text,
+        },
+        7 => Record::Branch {
+            key: [a as u32, b as u32, c as u32],
+            taken: (given == 1).then_some(d),
+        },
+        10 => Record::Line {
+            line: a as u32,
+            count: b,
+        },
+        13 => Record::End,
+        _ => Record::Found,
+    })
+}
+
+/// Whether the library takes the line.
+fn agrees(line: &[u8]) -> bool {
+    let taken = by_library(line);
+    if taken.is_some() {
+        assert_eq!(parse(line), taken, "{}", String::from_utf8_lossy(line));
+    }
+    taken.is_some()
+}
+
+#[test]
+fn recorded_lines() {
+    let path = Path::new(env!("CARGO_MANIFEST_DIR")).join("../../tests/lines.in");
+    let bytes = std::fs::read(path).unwrap();
+    let mut rest = &bytes[..];
+    let (mut all, mut taken) = (0, 0);
+    while let [low, high, after @ ..] = rest {
+        let (line, later) = after.split_at(usize::from(u16::from_le_bytes([*low, *high])));
+        rest = later;
+        all += 1;
+        taken += usize::from(agrees(line));
+    }
+    assert!(all > 3_000 && taken > 2_000, "{taken} of {all}");
+}
+
+#[test]
+fn every_combination_of_fields() {
+    let fields = [
+        "",
+        "0",
+        "1",
+        "+1",
+        "01",
+        "-",
+        "+",
+        "-1",
+        "4294967295",
+        "4294967296",
+        "0004294967295",
+        "18446744073709551615",
+        "18446744073709551616",
+        "a",
+        "a,b",
+    ];
+    let mut taken = 0;
+    for tag in [
+        "DA",
+        "BRDA",
+        "FN",
+        "FNDA",
+        "TN",
+        "SF",
+        "LF",
+        "end_of_record",
+    ] {
+        for a in fields {
+            for b in fields {
+                taken += usize::from(agrees(format!("{tag}:{a},{b}").as_bytes()));
+                taken += usize::from(agrees(format!("{tag}:{a},{b}\r\n\r").as_bytes()));
+                for c in fields {
+                    taken += usize::from(agrees(format!("{tag}:{a},{b},{c}").as_bytes()));
+                    taken += usize::from(agrees(format!("{tag}:1,{a},{b},{c}").as_bytes()));
+                }
+            }
+            taken += usize::from(agrees(format!("{tag}:{a}").as_bytes()));
+        }
+        taken += usize::from(agrees(tag.as_bytes()));
+    }
+    assert!(taken > 20_000, "{taken}");
+}
+
+#[test]
+fn lines_of_a_text() {
+    let numbers = |text: &[u8]| records(text).map(|(number, _)| number).collect::<Vec<_>>();
+    assert_eq!(numbers(b""), []);
+    assert_eq!(numbers(b"\n"), []);
+    assert_eq!(numbers(b"LF:1"), [1]);
+    assert_eq!(numbers(b"LF:1\nLF:1\n"), [1, 2]);
+    assert_eq!(numbers(b"LF:1\n\nLF:1\n"), [1]);
+    assert_eq!(numbers(b"LF:1\r\nend_of_record"), [1, 2]);
+}
+
+/// All lines of all real files but those with a count below 0 are taken.
+#[test]
+fn real_lines() {
+    let folder = Folder::new();
+    for (archive, refused) in [
+        ("recogniser-gcc", 1),
+        ("recogniser-clang", 0),
+        ("jsoncpp-gcc", 0),
+    ] {
+        let Some(files) = real_files(archive, &folder) else {
+            continue;
+        };
+        let all_taken = |text: &[u8]| {
+            let lines = text.split_inclusive(|&byte| byte == b'\n');
+            lines.filter(|line| !agrees(line)).count() == 0
+        };
+        let texts = files.iter().map(|file| std::fs::read(file).unwrap());
+        let wrong = texts.filter(|text| !all_taken(text)).count();
+        assert_eq!(wrong, refused, "{archive}");
+    }
+}
