@@ -1,0 +1,113 @@
+//! The peak of memory over many files: they are read round by round and never all.
+
+mod common;
+
+use common::{real_files, said, Folder};
+use std::collections::HashSet;
+use std::fs;
+use std::process::{Command, Stdio};
+
+const FILES: usize = 1_010;
+
+/// In bytes, as document and page promise for `FILES` files of 143 MB in all.
+const LIMIT: i64 = 60_000_000;
+
+/// A real file as a lab with one test name would send it: each section has that name, no section comes twice, no count is below 0.
+fn with_one_name(text: &str) -> String {
+    let mut changed = String::with_capacity(text.len());
+    let mut paths = HashSet::new();
+    for line in text.lines().filter(|line| !line.starts_with("TN:")) {
+        let end = match line.strip_prefix("SF:") {
+            Some(path) => {
+                changed += "TN:one\n";
+                if paths.insert(path) {
+                    "\n"
+                } else {
+                    ".again\n"
+                }
+            }
+            None => "\n",
+        };
+        match line.rsplit_once(",-") {
+            Some((start, digits)) if digits.parse::<u64>().is_ok() => {
+                changed += start;
+                changed += ",0";
+            }
+            _ => changed += line,
+        }
+        changed += end;
+    }
+    changed
+}
+
+/// A text of the size of the real ones, 140 kB: lines, branches and functions of 20 sections.
+fn generated() -> String {
+    let mut text = String::new();
+    for section in 0..20 {
+        text += &format!("TN:one\nSF:/build/src/file{section}.c\n");
+        for function in 0..20 {
+            text += &format!("FN:{function},function_{function}\nFNDA:1,function_{function}\n");
+        }
+        for branch in 0..150 {
+            text += &format!("BRDA:{branch},0,0,{branch}\nBRDA:{branch},0,1,-\n");
+        }
+        for line in 0..240 {
+            text += &format!("DA:{line},{}\n", 100_000 + line);
+        }
+        text += "end_of_record\n";
+    }
+    text
+}
+
+/// The names of the files, which are made one by one so that this process stays small: its own peak counts for its children.
+fn make_files(folder: &Folder) -> Vec<String> {
+    let real = real_files("recogniser-gcc", folder).unwrap_or_default();
+    let real: Vec<_> = real
+        .iter()
+        .filter(|file| fs::metadata(file).unwrap().len() > 0)
+        .collect();
+    let mut names = Vec::new();
+    for number in 0..FILES {
+        let text = match real.get(number % real.len().max(1)) {
+            Some(file) => with_one_name(&fs::read_to_string(file).unwrap()),
+            None => generated(),
+        };
+        let name = format!("{number:04}.info");
+        fs::write(folder.path(&name), text).unwrap();
+        names.push(name);
+    }
+    names
+}
+
+/// Status and peak of a command, in bytes.
+fn peak_of(command: &mut Command) -> (i32, i64) {
+    let child = command.spawn().unwrap();
+    let mut status = 0;
+    // SAFETY: all zeros are a rusage, and both places are lent for the call. Nothing else waits for this child.
+    let usage = unsafe {
+        let mut usage: libc::rusage = std::mem::zeroed();
+        let waited = libc::wait4(child.id() as i32, &mut status, 0, &mut usage);
+        assert_eq!(waited, child.id() as i32);
+        usage
+    };
+    (status, usage.ru_maxrss * 1024)
+}
+
+#[test]
+fn many_files_stay_under_60_mb() {
+    let folder = Folder::new();
+    let names = make_files(&folder);
+    let len = |name: &String| fs::metadata(folder.path(name)).unwrap().len();
+    let bytes: u64 = names.iter().map(len).sum();
+    assert!(bytes > 130_000_000, "{bytes}");
+    fs::write(folder.path("list"), names.join("\n")).unwrap();
+    let words = ["--files-from", "list", "-o", "out"];
+    for options in [&[][..], &["--as-written"]] {
+        let mut command = folder.command(&[&words[..], options].concat());
+        let (status, peak) = peak_of(command.stdin(Stdio::null()));
+        assert_eq!(status, 0, "{}", said(&command.output().unwrap()));
+        println!("{} MB, peak {} kB", bytes / 1_000_000, peak / 1000);
+        assert!(peak < LIMIT, "{options:?}: {peak}");
+        assert!(!folder.text("out").is_empty());
+    }
+}
