@@ -42,7 +42,7 @@ impl fmt::Display for Replacements {
         }
         write!(
             f,
-            "refused, since the result would be short; --as-written takes such files"
+            "refused, since counts or test names would be lost; --as-written takes such files"
         )
     }
 }
@@ -203,7 +203,8 @@ impl<'a> Guard<'a> {
         if !section.has_items {
             return;
         }
-        self.called.clear();
+        // A new map, since clearing one takes as long as it once was large.
+        self.called = HashMap::new();
         let found = &mut self.found;
         self.lines.take_repeated(|line, later, earlier| {
             let what = What::Line(line);

@@ -19,7 +19,7 @@ files, or nothing is written. '-' is standard input.";
 const AFTER: &str = "\
 A file is refused in which a section, DA or BRDA replaces an earlier one, FN
 sets a count above 0 to 0, or a section has no TN after a TN that names a test:
-the result would be short. --as-written takes such files as they are.
+counts or test names would be lost. --as-written takes such files as they are.
 
 In every run the counts of the DA and BRDA lines of all files are added up and
 compared with those of the result.

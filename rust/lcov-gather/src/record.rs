@@ -65,7 +65,7 @@ pub fn parse(line: &[u8]) -> Option<Record<'_>> {
     match tag {
         b"TN" => Some(Record::TestName(body)),
         b"SF" => Some(Record::SourceFile(body)),
-        b"FN" => cut(body).map(|(_, name)| Record::Function(name)),
+        b"FN" => function(body),
         b"FNDA" => calls(body),
         b"FNF" | b"FNH" | b"BRF" | b"BRH" | b"LF" | b"LH" => Some(Record::Found),
         b"end_of_record" => Some(Record::End),
@@ -81,55 +81,53 @@ fn without_end(mut line: &[u8]) -> &[u8] {
     line
 }
 
+fn function(body: &[u8]) -> Option<Record<'_>> {
+    let (_, name) = key_number(body)?;
+    Some(Record::Function(name))
+}
+
 fn calls(body: &[u8]) -> Option<Record<'_>> {
-    let (count, name) = cut(body)?;
-    let count = number(count)?;
+    let (count, name) = number(body)?;
+    let name = name.strip_prefix(b",")?;
     Some(Record::Calls { count, name })
 }
 
 fn line_data(body: &[u8]) -> Option<Record<'_>> {
-    let (line, rest) = cut(body)?;
+    let (line, rest) = key_number(body)?;
+    let (count, rest) = number(rest)?;
     // What follows a second comma is the checksum.
-    let count = cut(rest).map_or(rest, |(count, _)| count);
-    Some(Record::Line {
-        line: number_32(line)?,
-        count: number(count)?,
-    })
+    let is_end = matches!(rest, [] | [b',', ..]);
+    is_end.then_some(Record::Line { line, count })
 }
 
 fn branch_data(body: &[u8]) -> Option<Record<'_>> {
-    let (line, rest) = cut(body)?;
-    let (block, rest) = cut(rest)?;
-    let (branch, taken) = cut(rest)?;
-    let key = [number_32(line)?, number_32(block)?, number_32(branch)?];
-    let taken = match taken {
-        b"-" => None,
-        given => Some(number(given)?),
+    let (line, rest) = key_number(body)?;
+    let (block, rest) = key_number(rest)?;
+    let (branch, rest) = key_number(rest)?;
+    let (taken, rest) = match rest {
+        [b'-', rest @ ..] => (None, rest),
+        _ => number(rest).map(|(taken, rest)| (Some(taken), rest))?,
     };
-    Some(Record::Branch { key, taken })
+    let key = [line, block, branch];
+    rest.is_empty().then_some(Record::Branch { key, taken })
 }
 
-/// What is before the first comma, and what is after it.
-fn cut(body: &[u8]) -> Option<(&[u8], &[u8])> {
-    let comma = body.iter().position(|&byte| byte == b',')?;
-    Some((&body[..comma], &body[comma + 1..]))
+/// A number of 32 bits and the comma after it; what follows.
+fn key_number(body: &[u8]) -> Option<(u32, &[u8])> {
+    let (value, rest) = number(body)?;
+    Some((u32::try_from(value).ok()?, rest.strip_prefix(b",")?))
 }
 
-fn number_32(field: &[u8]) -> Option<u32> {
-    number(field).and_then(|value| u32::try_from(value).ok())
-}
-
-/// One '+' or none, then one or more digits.
-fn number(field: &[u8]) -> Option<u64> {
-    let digits = field.strip_prefix(b"+").unwrap_or(field);
-    if digits.is_empty() {
-        return None;
+/// One '+' or none, then one or more digits; what follows.
+fn number(body: &[u8]) -> Option<(u64, &[u8])> {
+    let digits = body.strip_prefix(b"+").unwrap_or(body);
+    let mut value = 0_u64;
+    let mut rest = digits;
+    while let [digit @ b'0'..=b'9', later @ ..] = rest {
+        value = value
+            .checked_mul(10)?
+            .checked_add(u64::from(digit - b'0'))?;
+        rest = later;
     }
-    digits.iter().try_fold(0_u64, |value, &byte| {
-        let digit = byte.wrapping_sub(b'0');
-        if digit > 9 {
-            return None;
-        }
-        value.checked_mul(10)?.checked_add(u64::from(digit))
-    })
+    (rest.len() < digits.len()).then_some((value, rest))
 }

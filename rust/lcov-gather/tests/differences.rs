@@ -46,7 +46,7 @@ fn refuses(texts: &[&str], said: &str) {
 fn replaces(replacing: &str, printed: &str, said: &str) {
     let as_written = gathered(&["--as-written"], &[replacing]);
     assert_eq!(as_written, Ok(text(printed)), "{replacing}");
-    let advice = "refused, since the result would be short; --as-written takes such files";
+    let advice = "refused, since counts or test names would be lost; --as-written takes such files";
     let refused = Err(format!("{said}\nlcov-gather: {advice}"));
     assert_eq!(gathered(&[], &[replacing]), refused, "{replacing}");
 }

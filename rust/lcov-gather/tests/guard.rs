@@ -9,7 +9,7 @@ use lcov_gather::guard::Replacements;
 use lcov_sys::{Refusal, WORDS, WORDS_PER_ENTRY};
 
 const ADVICE: &str =
-    "lcov-gather: refused, since the result would be short; --as-written takes such files\n";
+    "lcov-gather: refused, since counts or test names would be lost; --as-written takes such files\n";
 
 /// Lines parted by blanks, each with byte 10 after it.
 fn text(lines: &str) -> String {

@@ -109,7 +109,7 @@ fn a_device_of_mknod_is_written_to() {
     }
 }
 
-/// A terminal is a device that any user can make.
+/// A terminal is a device that any user can make. It is named by a link, so that a command at fault replaces only that.
 #[test]
 fn a_terminal_is_written_to() {
     let folder = folder();
@@ -132,26 +132,27 @@ fn a_terminal_is_written_to() {
     symlink(name, folder.path("link")).unwrap();
     // SAFETY: openpty opened it, and nothing else has it.
     let mut terminal = unsafe { fs::File::from_raw_fd(primary) };
-    for out in [name, "link"] {
-        assert_eq!(printed(&folder.run(&["-o", out, "a"])), "");
-        let mut received = vec![0; 2 * result().len()];
-        let len = terminal.read(&mut received).unwrap();
-        let received = String::from_utf8(received[..len].to_vec()).unwrap();
-        assert_eq!(received.replace('\r', ""), result(), "{out}");
-        assert!(fs::metadata(name).unwrap().file_type().is_char_device());
-    }
+    assert_eq!(printed(&folder.run(&["-o", "link", "a"])), "");
+    let mut received = vec![0; 2 * result().len()];
+    let len = terminal.read(&mut received).unwrap();
+    let received = String::from_utf8(received[..len].to_vec()).unwrap();
+    assert_eq!(received.replace('\r', ""), result());
+    assert!(fs::metadata(name).unwrap().file_type().is_char_device());
     let link = fs::symlink_metadata(folder.path("link")).unwrap();
     assert!(link.is_symlink());
 }
 
-/// The links of /proc lead to open files: a pipe is written to, a file that has a name is replaced, one without is written to.
+/// As /dev/stdout and /dev/fd/3, but links of this test's own: a command that replaces links must not harm the system's. They lead to
+/// open files: a pipe is written to, a file that has a name is replaced, one without is written to.
 #[test]
-fn standard_output_by_its_name() {
+fn links_to_open_files() {
     let folder = folder();
-    assert_eq!(printed(&folder.run(&["-o", "/dev/stdout", "a"])), result());
+    symlink("/proc/self/fd/1", folder.path("stdout")).unwrap();
+    symlink("/proc/self/fd/3", folder.path("three")).unwrap();
+    assert_eq!(printed(&folder.run(&["-o", "stdout", "a"])), result());
     let script = [
-        r#""$0" -o /dev/stdout a > out"#,
-        r#"exec 3<> gone; rm gone; "$0" -o /dev/fd/3 a; cat /dev/fd/3 > found"#,
+        r#""$0" -o stdout a > out"#,
+        r#"exec 3<> gone; rm gone; "$0" -o three a; cat three > found"#,
     ];
     for line in script {
         let mut shell = Command::new("sh");
@@ -162,7 +163,7 @@ fn standard_output_by_its_name() {
     }
     assert_eq!(folder.text("out"), result());
     assert_eq!(folder.text("found"), result());
-    assert_eq!(folder.names(), ["a", "found", "out"]);
+    assert_eq!(folder.names(), ["a", "found", "out", "stdout", "three"]);
 }
 
 #[test]
