@@ -65,7 +65,15 @@ struct Found<'a> {
     what: What<'a>,
 }
 
-impl Found<'_> {
+impl<'a> Found<'a> {
+    fn new(later: u32, earlier: u32, what: What<'a>) -> Self {
+        Found {
+            later,
+            earlier,
+            what,
+        }
+    }
+
     fn message(&self, file: &str) -> String {
         let earlier = format!("{file}:{}", self.earlier);
         let words = match self.what {
@@ -187,11 +195,8 @@ impl<'a> Guard<'a> {
             }
             Record::Function(name) => {
                 if let Some(earlier) = self.called.remove(name) {
-                    self.found.push(Found {
-                        later: place,
-                        earlier,
-                        what: What::Function(name),
-                    });
+                    let what = What::Function(name);
+                    self.found.push(Found::new(place, earlier, what));
                 }
             }
             _ => {}
@@ -207,20 +212,10 @@ impl<'a> Guard<'a> {
         self.called = HashMap::new();
         let found = &mut self.found;
         self.lines.take_repeated(|line, later, earlier| {
-            let what = What::Line(line);
-            found.push(Found {
-                later,
-                earlier,
-                what,
-            });
+            found.push(Found::new(later, earlier, What::Line(line)));
         });
         self.branches.take_repeated(|key, later, earlier| {
-            let what = What::Branch(key);
-            found.push(Found {
-                later,
-                earlier,
-                what,
-            });
+            found.push(Found::new(later, earlier, What::Branch(key)));
         });
         self.keep(&section);
         self.found.sort_by_key(|found| found.later);
@@ -235,20 +230,14 @@ impl<'a> Guard<'a> {
         // A section after an empty TN has the empty name either way, so nothing is lost.
         if let (None, Some((name, earlier))) = (section.test, self.last_test) {
             if !name.is_empty() {
-                self.found.push(Found {
-                    later: place,
-                    earlier,
-                    what: What::TestName(path),
-                });
+                let what = What::TestName(path);
+                self.found.push(Found::new(place, earlier, what));
             }
         }
         let key = (section.test.unwrap_or_default(), canonical(path));
         if let Some(earlier) = self.sections.insert(key, place) {
-            self.found.push(Found {
-                later: place,
-                earlier,
-                what: What::Section(path),
-            });
+            let what = What::Section(path);
+            self.found.push(Found::new(place, earlier, what));
         }
     }
 }

@@ -1,7 +1,7 @@
 //! The command: its words are parsed, what they ask for is done, and the exit status tells how that went.
 
 use lcov_gather::options::{self, Asked};
-use lcov_gather::{output, run};
+use lcov_gather::{output, reporter, run};
 use std::process::ExitCode;
 
 fn main() -> ExitCode {
@@ -13,7 +13,7 @@ fn main() -> ExitCode {
     match done {
         Ok(()) => ExitCode::SUCCESS,
         Err(failure) => {
-            eprintln!("lcov-gather: {failure}");
+            reporter::tell(&failure);
             ExitCode::from(failure.status())
         }
     }

@@ -2,11 +2,16 @@
 
 use indicatif::{ProgressBar, ProgressDrawTarget, ProgressStyle};
 use std::fmt::Display;
-use std::io::{self, IsTerminal};
+use std::io::{self, IsTerminal, Write};
 use std::time::{Duration, Instant};
 
 /// A shorter gather has no progress bar.
 const LONG: Duration = Duration::from_millis(500);
+
+/// One line on standard error. Unlike `eprintln!`, it does not end the run where that can't be written to.
+pub fn tell(what: impl Display) {
+    let _ = writeln!(io::stderr(), "lcov-gather: {what}");
+}
 
 pub struct Reporter {
     quiet: bool,
@@ -29,7 +34,7 @@ impl Reporter {
     /// One line that is no failure.
     pub fn note(&self, what: impl Display) {
         if !self.quiet {
-            self.bar.suspend(|| eprintln!("lcov-gather: {what}"));
+            self.bar.suspend(|| tell(what));
         }
     }
 

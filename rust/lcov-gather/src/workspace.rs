@@ -2,6 +2,9 @@
 
 use lcov_sys::{Refusal, MAX_ENTRIES, OUTPUT_TOO_SHORT, WORDS, WORDS_PER_ENTRY};
 
+/// The length of an output is a multiple of it.
+const STEP: usize = 16 << 20;
+
 /// Scratch for as many entries as there may be, and an output. Memory is mapped where a call writes, so a long output that is not used costs
 /// nothing.
 pub struct Workspace {
@@ -51,11 +54,11 @@ impl Workspace {
         out
     }
 
-    /// The old output is dropped and not copied, which would touch both.
+    /// The old output is dropped and not copied, which would touch both. The new one is long enough for a slightly longer round too.
     fn lengthen(&mut self, len: usize) {
         if self.out.len() < len {
             self.out = Vec::new();
-            self.out = vec![0; len.next_power_of_two()];
+            self.out = vec![0; len.next_multiple_of(STEP)];
         }
     }
 }

@@ -2,14 +2,14 @@
 
 mod common;
 
-use common::{real_files, said, Folder};
+use common::{said, unpacked, Folder};
 use std::collections::HashSet;
 use std::fs;
 use std::process::{Command, Stdio};
 
 const FILES: usize = 1_010;
 
-/// In bytes, as document and page promise for `FILES` files of 143 MB in all.
+/// The most that so many files, of 143 MB in all, may take, in bytes.
 const LIMIT: i64 = 60_000_000;
 
 /// A real file as a lab with one test name would send it: each section has that name, no section comes twice, no count is below 0.
@@ -48,7 +48,7 @@ fn generated() -> String {
         for function in 0..20 {
             text += &format!("FN:{function},function_{function}\nFNDA:1,function_{function}\n");
         }
-        for branch in 0..150 {
+        for branch in 0..120 {
             text += &format!("BRDA:{branch},0,0,{branch}\nBRDA:{branch},0,1,-\n");
         }
         for line in 0..240 {
@@ -61,7 +61,7 @@ fn generated() -> String {
 
 /// The names of the files, which are made one by one so that this process stays small: its own peak counts for its children.
 fn make_files(folder: &Folder) -> Vec<String> {
-    let real = real_files("recogniser-gcc", folder).unwrap_or_default();
+    let real = unpacked("recogniser-gcc", folder).unwrap_or_default();
     let real: Vec<_> = real
         .iter()
         .filter(|file| fs::metadata(file).unwrap().len() > 0)

@@ -2,7 +2,7 @@
 
 mod common;
 
-use common::{missing, printed, said, section, Folder};
+use common::{missing, printed, said, say_loudly, section, Folder};
 use std::fs;
 use std::path::{Path, PathBuf};
 use std::process::Command;
@@ -183,7 +183,7 @@ fn version_and_suggestions() {
     assert!(said(&output).ends_with("\ntry 'lcov-gather --help'\n"));
 }
 
-/// Each script is taken by its shell, where that is installed, and names the options.
+/// Each script names the options, and its shell finds no fault in it.
 #[test]
 fn completion_scripts() {
     let folder = Folder::new();
@@ -191,18 +191,26 @@ fn completion_scripts() {
         let script = printed(&folder.run(&["--completions", shell]));
         assert!(script.contains("files-from"), "{shell}");
         fs::write(folder.path(shell), script).unwrap();
-        let check = Command::new(shell)
-            .arg("-n")
-            .arg(folder.path(shell))
-            .output();
-        if let Ok(check) = check {
-            assert!(check.status.success(), "{shell}: {}", said(&check));
+        let mut check = Command::new(shell);
+        match check.arg("-n").arg(folder.path(shell)).output() {
+            Ok(check) => assert!(check.status.success(), "{shell}: {}", said(&check)),
+            Err(_) => say_loudly(&format!("{shell} -n on its completion script")),
         }
     }
-    assert_eq!(
-        folder.run(&["--completions", "tcsh"]).status.code(),
-        Some(2)
-    );
+    let unknown = folder.run(&["--completions", "tcsh"]);
+    assert_eq!(unknown.status.code(), Some(2));
+}
+
+#[test]
+fn bash_completes_an_option() {
+    let folder = Folder::new();
+    let script = printed(&folder.run(&["--completions", "bash"]));
+    let ask = "COMP_WORDS=(lcov-gather --as); COMP_CWORD=1; _lcov-gather lcov-gather --as lcov-gather; echo ${COMPREPLY[@]}";
+    let mut bash = Command::new("bash");
+    match bash.args(["-c", &format!("{script}\n{ask}")]).output() {
+        Ok(answer) => assert_eq!(printed(&answer), "--as-written\n"),
+        Err(_) => missing("bash"),
+    }
 }
 
 #[test]
@@ -284,6 +292,17 @@ fn files_from_a_list() {
     ] {
         assert_eq!(folder.run(words).status.code(), Some(2), "{words:?}");
     }
+}
+
+/// A note that nobody can read is no reason to write no result.
+#[test]
+fn standard_error_may_be_full() {
+    let folder = Folder::with(&[("a", &section("x", &[(1, 1)])), ("b", "")]);
+    let Ok(full) = fs::OpenOptions::new().write(true).open("/dev/full") else {
+        return missing("/dev/full");
+    };
+    let output = folder.command(&["a", "b"]).stderr(full).output().unwrap();
+    assert_eq!(printed(&output), section("x", &[(1, 1)]));
 }
 
 /// A fifo can be read only once.

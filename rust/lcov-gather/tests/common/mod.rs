@@ -109,17 +109,22 @@ pub fn missing(what: &str) {
     say_loudly(&format!("{what} is missing"));
 }
 
-/// The files of an archive of real tracefiles, in order; none if it is missing.
+/// The files of an archive of real tracefiles, for a test that needs them.
 pub fn real_files(archive: &str, folder: &Folder) -> Option<Vec<PathBuf>> {
-    let data = Path::new(env!("CARGO_MANIFEST_DIR")).join("../../../shared/data");
-    let packed = data.join(format!("{archive}.tar.xz"));
-    let unpacked = Command::new("tar")
-        .arg("-xJf")
-        .arg(&packed)
-        .current_dir(&folder.0)
-        .output();
-    if !packed.exists() || !unpacked.is_ok_and(|output| output.status.success()) {
+    let files = unpacked(archive, folder);
+    if files.is_none() {
         missing(&format!("{archive}.tar.xz, or tar with xz,"));
+    }
+    files
+}
+
+/// The files of an archive of real tracefiles, in order; none if it, or the tool that unpacks it, is missing.
+pub fn unpacked(archive: &str, folder: &Folder) -> Option<Vec<PathBuf>> {
+    let data = Path::new(env!("CARGO_MANIFEST_DIR")).join("../../../shared/data");
+    let mut tar = Command::new("tar");
+    tar.arg("-xJf").arg(data.join(format!("{archive}.tar.xz")));
+    let output = tar.current_dir(&folder.0).output().ok()?;
+    if !output.status.success() {
         return None;
     }
     let entries = fs::read_dir(folder.path(archive)).unwrap();
