@@ -292,7 +292,7 @@ fn loses_a_name(text: &str) -> bool {
         let own = section
             .lines()
             .filter_map(|line| line.strip_prefix("TN:"))
-            .last();
+            .next_back();
         let lost = own.is_none() && !last.is_empty() && measure(section)[0] > 0;
         last = own.unwrap_or(last);
         lost

@@ -79,7 +79,8 @@ fn make_files(folder: &Folder) -> Vec<String> {
     names
 }
 
-/// Status and peak of a command, in bytes.
+/// Status and peak of a command, in bytes. `Child::wait` does not tell the peak, so the child is waited for by wait4.
+#[allow(clippy::zombie_processes)]
 fn peak_of(command: &mut Command) -> (i32, i64) {
     let child = command.spawn().unwrap();
     let mut status = 0;
