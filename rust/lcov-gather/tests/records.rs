@@ -121,6 +121,7 @@ fn lines_of_a_text() {
 
 /// All lines of all real files but those with a count below 0 are taken.
 #[test]
+#[ignore = "needs the real tracefiles of LCOV_DATA"]
 fn real_lines() {
     let folder = Folder::new();
     for (archive, refused) in [
@@ -128,9 +129,7 @@ fn real_lines() {
         ("recogniser-clang", 0),
         ("jsoncpp-gcc", 0),
     ] {
-        let Some(files) = real_files(archive, &folder) else {
-            continue;
-        };
+        let files = real_files(archive, &folder);
         let all_taken = |text: &[u8]| {
             let lines = text.split_inclusive(|&byte| byte == b'\n');
             lines.filter(|line| !agrees(line)).count() == 0

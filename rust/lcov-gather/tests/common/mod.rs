@@ -103,24 +103,25 @@ pub fn say_loudly(what: &str) {
     let _ = io::stderr().write_all(format!("\n*** NOT RUN: {what} ***\n").as_bytes());
 }
 
-/// A tool or data that a test needs is missing: a failure where CI is set.
+/// A tool that a test needs is missing: a failure where CI is set.
 pub fn missing(what: &str) {
     assert!(std::env::var_os("CI").is_none(), "missing: {what}");
     say_loudly(&format!("{what} is missing"));
 }
 
 /// The files of an archive of real tracefiles, for a test that needs them.
-pub fn real_files(archive: &str, folder: &Folder) -> Option<Vec<PathBuf>> {
+pub fn real_files(archive: &str, folder: &Folder) -> Vec<PathBuf> {
     let files = unpacked(archive, folder);
-    if files.is_none() {
-        missing(&format!("{archive}.tar.xz, or tar with xz,"));
-    }
-    files
+    files.unwrap_or_else(|| panic!("no {archive}.tar.xz in LCOV_DATA, or no tar with xz"))
 }
 
-/// The files of an archive of real tracefiles, in order; none if it, or the tool that unpacks it, is missing.
+/// The files of an archive of real tracefiles, in order; none if it, or the tool that unpacks it, is missing. The archives are not part of
+/// the repository: they are where LCOV_DATA says, as seen from its root.
 pub fn unpacked(archive: &str, folder: &Folder) -> Option<Vec<PathBuf>> {
-    let data = Path::new(env!("CARGO_MANIFEST_DIR")).join("../../../shared/data");
+    let named = std::env::var_os("LCOV_DATA").unwrap_or_else(|| "../shared/data".into());
+    let data = Path::new(env!("CARGO_MANIFEST_DIR"))
+        .join("../..")
+        .join(named);
     let mut tar = Command::new("tar");
     tar.arg("-xJf").arg(data.join(format!("{archive}.tar.xz")));
     let output = tar.current_dir(&folder.0).output().ok()?;
