@@ -2,7 +2,7 @@
 
 mod common;
 
-use common::{printed, said, say_loudly, section, Folder};
+use common::{printed, said, say_not_permitted, section, Folder};
 use std::ffi::CString;
 use std::fs::{self, Permissions};
 use std::io::Read;
@@ -38,7 +38,7 @@ fn make_device(path: &Path, minor: u32) -> bool {
     let made = unsafe { libc::mknod(c_path(path).as_ptr(), mode, libc::makedev(1, minor)) };
     let usable = made == 0 && fs::OpenOptions::new().write(true).open(path).is_ok();
     if !usable {
-        say_loudly("mknod of a character device is not permitted here, and -o to it is not tested");
+        say_not_permitted("mknod of a character device; -o to it is not tested");
     }
     usable
 }
@@ -47,7 +47,7 @@ fn is_superuser() -> bool {
     // SAFETY: geteuid has no arguments and always succeeds.
     let is_superuser = unsafe { libc::geteuid() } == 0;
     if !is_superuser {
-        say_loudly("files of other owners can't be made here, and -o over them is not tested");
+        say_not_permitted("files of other owners; -o over them is not tested");
     }
     is_superuser
 }

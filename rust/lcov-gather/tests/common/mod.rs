@@ -99,8 +99,18 @@ pub fn section(path: &str, lines: &[(u32, u64)]) -> String {
 }
 
 /// Says past the test harness, which hides what a passed test prints.
+fn say_past_harness(what: &str) {
+    let _ = io::stderr().write_all(format!("\n*** {what} ***\n").as_bytes());
+}
+
+/// Something that can be installed is missing; tests/run looks for these words.
 pub fn say_loudly(what: &str) {
-    let _ = io::stderr().write_all(format!("\n*** NOT RUN: {what} ***\n").as_bytes());
+    say_past_harness(&format!("NOT RUN: {what}"));
+}
+
+/// Only a superuser may do what a test needs, and nothing that is installed changes that.
+pub fn say_not_permitted(what: &str) {
+    say_past_harness(&format!("NOT PERMITTED: {what}"));
 }
 
 /// A tool that a test needs is missing: a failure where CI is set.
