@@ -1,6 +1,6 @@
 //! Lays the unchanged Rust out in OUT_DIR/lcov, beside our stand-ins for the three files that are not published with it.
 //!
-//! The Rust is found in the folder LCOV_SRC (as seen from the repository's root), by default `../shared/docs/src`.
+//! The Rust is found in the folder LCOV_SRC (as seen from the repository's root), by default in `upstream` of this package.
 
 use std::path::{Path, PathBuf};
 use std::{env, fs};
@@ -32,13 +32,15 @@ fn main() {
 }
 
 fn upstream_folder(package: &Path) -> PathBuf {
-    let root = package.join("../..");
-    root.join(env::var_os("LCOV_SRC").unwrap_or_else(|| "../shared/docs/src".into()))
+    match env::var_os("LCOV_SRC") {
+        Some(named) => package.join("../..").join(named),
+        None => package.join("upstream"),
+    }
 }
 
 fn copy_tree(from: &Path, to: &Path) {
     let listed = fs::read_dir(from)
-        .unwrap_or_else(|e| panic!("no Rust to ask in {} ({e}): set LCOV_SRC", from.display()));
+        .unwrap_or_else(|e| panic!("no Rust to ask in {} ({e})", from.display()));
     fs::create_dir_all(to).unwrap();
     for entry in listed {
         let entry = entry.unwrap();
