@@ -1,14 +1,16 @@
 /* Gathers two tracefiles with the C calls: the texts are packed into a bundle, and the output is lent again where it was too short.
  *
  *     cc -Iinclude examples/gather.c target/staticlib/liblcov_c.a -o gather && ./gather a.info b.info
+ *
+ * or, after `make install`,
+ *
+ *     cc examples/gather.c $(pkg-config --cflags --libs lcov) -o gather
  */
 #include <stdio.h>
 #include <stdlib.h>
 #include <string.h>
 
 #include "lcov.h"
-
-enum { OUTPUT_TOO_SHORT = 14, ENTRIES = 65535, WORDS_PER_ENTRY = 32 };
 
 static void put(uint8_t *bundle, size_t place, uint32_t number)
 {
@@ -49,14 +51,14 @@ int main(int argc, char **argv)
     memcpy(bundle + 24, a, a_len);
     memcpy(bundle + 24 + a_len, b, b_len);
 
-    size_t words = (size_t)ENTRIES * WORDS_PER_ENTRY, room = len;
-    uint64_t *scratch = malloc(words * sizeof *scratch), answer[8];
+    size_t words = (size_t)LCOV_MAX_ENTRIES * LCOV_WORDS_PER_ENTRY, room = len;
+    uint64_t *scratch = malloc(words * sizeof *scratch), answer[LCOV_ANSWER_WORDS];
     uint8_t *out = malloc(room);
-    uint32_t refused = lcov_gather_with(bundle, len, scratch, words, out, room, answer, 8);
-    if (refused == OUTPUT_TOO_SHORT) {
+    uint32_t refused = lcov_gather_with(bundle, len, scratch, words, out, room, answer, LCOV_ANSWER_WORDS);
+    if (refused == LCOV_OUTPUT_TOO_SHORT) {
         room = (size_t)answer[3];
         out = realloc(out, room);
-        refused = lcov_gather_with(bundle, len, scratch, words, out, room, answer, 8);
+        refused = lcov_gather_with(bundle, len, scratch, words, out, room, answer, LCOV_ANSWER_WORDS);
     }
     if (refused != 0) {
         fprintf(stderr, "%s: refusal %u at line %llu, field %llu\n", argv[1 + answer[0]], refused, (unsigned long long)answer[1],

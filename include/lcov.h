@@ -1,19 +1,11 @@
-/* The LCOV gatherer in the C calling form. Link liblcov_c.a, which `rt staticlib lcov_c` writes to target/staticlib/.
+/* The LCOV gatherer in the C calling form. Link the static library: `make install` and `pkg-config --libs lcov`, or
+ * target/staticlib/liblcov_c.a, which `rt staticlib lcov_c` writes.
  *
  * Any bytes and any buffers may be handed in: every call returns. A slice is a pointer and a length; a pointer may be anything where the
  * length is 0. Slices that are written to must not overlap others of the call.
  *
- * A call that can be refused returns 0, or document 01's number:
- *    1  tag unknown                             10  more entries than the scratch allows
- *    2  field missing                           11  start lines differ
- *    3  too many fields                         12  checksums differ
- *    4  number empty                            13  line or branch sum past 2^64 - 1
- *    5  bad digit                               14  output shorter than the bytes to be written
- *    6  number too large                        15  range list full
- *    7  TN inside a section                     16  bundle not well formed
- *    8  text ends inside a section              17  record's text part outside the lent text
- *    9  FNDA sum past 2^64 - 1                  18  range list not well formed
- * and puts eight words into `answer` where that holds them all (a shorter slice stays). On a refusal they are
+ * A call that can be refused returns 0, or a number of `enum lcov_refusal`, and puts eight words into `answer` where that holds them all (a
+ * shorter slice stays). On a refusal they are
  *    text index from 0, line from 1, field from 1, needed length, 0, 0, 0, 0      (what does not apply is 0)
  */
 #ifndef LCOV_H
@@ -25,6 +17,42 @@
 #ifdef __cplusplus
 extern "C" {
 #endif
+
+#define LCOV_VERSION "0.1.0"
+
+/* The words of an answer. */
+#define LCOV_ANSWER_WORDS 8
+
+/* So many words of scratch allow one entry. */
+#define LCOV_WORDS_PER_ENTRY 32
+
+/* The most entries, however long the scratch. */
+#define LCOV_MAX_ENTRIES 65535
+
+/* The most texts that a bundle names. */
+#define LCOV_MAX_TEXTS 64
+
+/* Why a call is refused, and which of its words are told. */
+enum lcov_refusal {
+    LCOV_UNKNOWN_RECORD = 1,           /* tag unknown: text, line */
+    LCOV_FIELD_NOT_FOUND = 2,          /* field missing: text, line, field */
+    LCOV_TOO_MANY_FIELDS = 3,          /* too many fields: text, line */
+    LCOV_EMPTY_NUMBER = 4,             /* number empty: text, line, field */
+    LCOV_INVALID_DIGIT = 5,            /* bad digit: text, line, field */
+    LCOV_NUMBER_OVERFLOW = 6,          /* number too large: text, line, field */
+    LCOV_UNEXPECTED_RECORD = 7,        /* TN inside a section: text, line */
+    LCOV_UNEXPECTED_EOF = 8,           /* text ends inside a section: text, last line + 1 */
+    LCOV_CALL_OVERFLOW = 9,            /* FNDA sum past 2^64 - 1: text, line */
+    LCOV_TOO_MANY_ENTRIES = 10,        /* more entries than the scratch allows: text, line; line 0 in a merge */
+    LCOV_UNMATCHED_FUNCTION_LINE = 11, /* start lines differ: text */
+    LCOV_UNMATCHED_CHECKSUM = 12,      /* checksums differ: text */
+    LCOV_COUNT_OVERFLOW = 13,          /* line or branch sum past 2^64 - 1: text */
+    LCOV_OUTPUT_TOO_SHORT = 14,        /* output shorter than the bytes to be written: needed length */
+    LCOV_RANGES_FULL = 15,             /* range list full */
+    LCOV_MALFORMED_BUNDLE = 16,        /* bundle not well formed */
+    LCOV_PART_OUTSIDE = 17,            /* record's text part outside the lent text */
+    LCOV_MALFORMED_RANGES = 18         /* range list not well formed */
+};
 
 /* Reads one line, with or without its end. The words are
  *    kind, four numbers, given, start, length
@@ -42,11 +70,11 @@ uint32_t lcov_print_line(const uint8_t *line, size_t line_len, uint8_t *out, siz
  * needed length of refusal 14 is the length of the whole report.
  *
  * scratch is lent for the call: it may hold anything before, no call reads what it held, and it holds anything afterwards. It allows
- * scratch_len / 32 entries, rounded down, and never more than 65,535; the entries are the sections and all functions, branches and lines
- * in them.
+ * scratch_len / LCOV_WORDS_PER_ENTRY entries, rounded down, and never more than LCOV_MAX_ENTRIES; the entries are the sections and all
+ * functions, branches and lines in them.
  *
- * A bundle is n and T, then n starts, then n lengths, all little-endian u32, then T bytes of text. n is at most 64, the slice is exactly
- * 8 + 8n + T long, and each start + length is at most T. Texts may overlap; a text named twice counts twice. With n = 0 nothing is
+ * A bundle is n and T, then n starts, then n lengths, all little-endian u32, then T bytes of text. n is at most LCOV_MAX_TEXTS, the slice is
+ * exactly 8 + 8n + T long, and each start + length is at most T. Texts may overlap; a text named twice counts twice. With n = 0 nothing is
  * written. */
 
 /* Reads one text and prints its report. Refuses with 1 to 10 and 14. */

@@ -1,33 +1,15 @@
 //! The port for Rust programs: the calls of the archive that `rt staticlib lcov_c` writes, as include/lcov.h declares them for C, and safe
 //! ones over them. A program that uses them links the archive (rust/lcov-gather/build.rs shows how).
 //!
-//! A call that can be refused returns 0, or document 01's number:
-//!
-//! | number | when | values |
-//! |---|---|---|
-//! | 1 | tag unknown | text, line |
-//! | 2 | field missing | text, line, field |
-//! | 3 | too many fields | text, line |
-//! | 4, 5, 6 | number empty; bad digit; number too large | text, line, field |
-//! | 7 | TN inside a section | text, line |
-//! | 8 | text ends inside a section | text, line: the number of lines and one |
-//! | 9 | FNDA sum past 2^64 − 1 | text, line |
-//! | 10 | more entries than the scratch allows | text, line; line 0 where the joined report has too many |
-//! | 11, 12 | start lines differ; checksums differ | text |
-//! | 13 | line or branch sum past 2^64 − 1 | text |
-//! | 14 | output too short | needed length |
-//! | 15 | range list full | |
-//! | 16 | bundle not well formed | |
-//! | 17 | record's text part outside the lent text | |
-//! | 18 | range list not well formed | |
-//!
-//! and puts eight words into `answer` where that holds them all; a shorter slice stays. A refusal's words are text index from 0, line from
-//! 1, field from 1 and needed length, then zeros; what does not apply is 0. A call that is refused leaves the output and the range list as
-//! they were.
+//! A call that can be refused returns 0, or the number of a [`Fault`], and puts eight words into `answer` where that holds them all; a
+//! shorter slice stays. A refusal's words are text index from 0, line from 1, field from 1 and needed length, then zeros; what does not apply
+//! is 0. A call that is refused leaves the output and the range list as they were.
 
+mod fault;
 mod refusal;
 
-pub use refusal::{Refusal, MEANINGS};
+pub use fault::Fault;
+pub use refusal::Refusal;
 
 /// So many words of scratch allow one entry.
 pub const WORDS_PER_ENTRY: usize = 32;
@@ -48,7 +30,7 @@ pub const fn roomy(read: usize) -> usize {
 }
 
 /// The refusal of an output that is too short, which tells the needed length.
-pub const OUTPUT_TOO_SHORT: u32 = 14;
+pub const OUTPUT_TOO_SHORT: u32 = Fault::OutputTooShort as u32;
 
 // What [`compare_paths`] answers.
 pub const LESS: u32 = 0;

@@ -1,28 +1,6 @@
 //! A refusal in words.
 
-use crate::WORDS;
-
-/// What each number of document 01 says, from 1 on.
-pub const MEANINGS: [&str; 18] = [
-    "tag unknown",
-    "field missing",
-    "too many fields",
-    "number empty",
-    "bad digit",
-    "number too large",
-    "TN inside a section",
-    "the text ends inside a section",
-    "the calls of a function add up past 2^64 - 1",
-    "too many entries",
-    "the start lines of a function differ",
-    "the checksums of a line differ",
-    "the counts of a line or branch add up past 2^64 - 1",
-    "the output is too short",
-    "the range list is full",
-    "the bundle is not well formed",
-    "a record's text part is outside the lent text",
-    "the range list is not well formed",
-];
+use crate::{Fault, WORDS};
 
 /// A refusal's number, and where it was met: what does not apply is 0.
 #[derive(Debug, Clone, Copy, PartialEq, Eq)]
@@ -53,12 +31,14 @@ impl Refusal {
         })
     }
 
+    /// None where no call gives the number.
+    pub fn fault(&self) -> Option<Fault> {
+        Fault::of(self.number)
+    }
+
     pub fn meaning(&self) -> &'static str {
-        let place = self.number as usize;
-        place
-            .checked_sub(1)
-            .and_then(|place| MEANINGS.get(place))
-            .unwrap_or(&"no refusal of document 01")
+        self.fault()
+            .map_or("no refusal of document 01", Fault::meaning)
     }
 }
 
@@ -71,6 +51,7 @@ mod tests {
         assert_eq!(Refusal::unless_answered(0, [7, 0, 0, 0, 0, 0, 0, 0]), Ok(7));
         let refused = Refusal::unless_answered(5, [1, 3, 2, 0, 0, 0, 0, 0]).unwrap_err();
         assert_eq!((refused.text, refused.line, refused.field), (1, 3, 2));
+        assert_eq!(refused.fault(), Some(Fault::InvalidDigit));
         assert_eq!(refused.meaning(), "bad digit");
         let last = Refusal {
             number: 18,
