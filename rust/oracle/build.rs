@@ -39,8 +39,8 @@ fn upstream_folder(package: &Path) -> PathBuf {
 }
 
 fn copy_tree(from: &Path, to: &Path) {
-    let listed = fs::read_dir(from)
-        .unwrap_or_else(|e| panic!("no Rust to ask in {} ({e})", from.display()));
+    let listed =
+        fs::read_dir(from).unwrap_or_else(|e| panic!("no Rust to ask in {} ({e})", from.display()));
     fs::create_dir_all(to).unwrap();
     for entry in listed {
         let entry = entry.unwrap();
