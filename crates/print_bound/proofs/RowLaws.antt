@@ -4,7 +4,7 @@ use native.Mathlib.Omega.{arith}
 use native.Mathlib.Nat.{zero-add}
 use mathlib.Core.Path.{_≡_, refl, sym, ap, _∙_}
 use mathlib.Core.Logic.{_≢_}
-use mathlib.Core.Bool.{true}
+use mathlib.Core.Bool.{Bool, true}
 use mathlib.Core.List.{List, [], _∷_, _++_}
 use mathlib.Core.Option.{none, some}
 use lib.ListN.{length, take, drop, length-take}
@@ -136,13 +136,36 @@ module _ {ws : List ℕ} {room : ℕ} where
       bytes = λ text. omega (arith, ρ .bytes text, total-next (rowMost text ws) j, rw e at (h text));
     }
 
-    -- the n are some of them, each once
-    pub leaving-end : {index used n : ℕ} → Store ws index used → n ≤ used → used ≤ j → j ≤ used → FitsBound ws index n room true
+    -- the rows of the index are some of them, each once
+    pub leaving-end : {index used : ℕ} → Store ws index used → used ≤ j → j ≤ used → FitsBound ws index used room true
     unfolding row
-    leaving-end {index} {used} {n} σ few h l text =
+    leaving-end {index} {used} σ h l text =
         omega (
           arith,
           rw (let z : j ≡ used = omega arith in z) at (ρ .bytes text),
-          max-total (entryAt text ws index) n,
-          total-some (rowMost text ws) (number ws index) n used (λ i k. σ .numbers .below i (omega arith)) (λ i k a b e. σ .numbers .once i k (omega arith) (omega arith) e),
+          max-total (entryAt text ws index) used,
+          total-some (rowMost text ws) (number ws index) used used (λ i k. σ .numbers .below i (omega arith)) (λ i k a b e. σ .numbers .once i k (omega arith) (omega arith) e),
         )
+
+-- of `room`, the first i rows in index order leave so much
+pub record LeavingFirst (ws : List ℕ) (index room i left : ℕ) : Type 0 where
+  pub bytes : (text : Bytes) → reportMost (tabulate (entryAt text ws index) i) + left ≤ room
+
+module _ {ws : List ℕ} {index room : ℕ} where
+  pub first-start : LeavingFirst ws index room 0 room
+  unfolding tabulate reportMost
+  first-start = record { bytes = λ text. omega arith }
+
+  module _ {i left : ℕ} (ρ : LeavingFirst ws index room i left) where
+    pub first-next : {r : Row} {n : ℕ} → room < u64-max → r ≡ row ws index i → ((text : Bytes) → min (entryMost (entryOf text r)) u64-max ≤ n) → n ≤ left
+        → LeavingFirst ws index room (i + 1) (left - n)
+    first-next {r} {n} s e h l = record {
+      bytes = λ text. omega (arith, ρ .bytes text, max-next (entryAt text ws index) i, rw e at (h text));
+    }
+
+    pub first-end : {n : ℕ} → n ≤ i → i ≤ n → FitsBound ws index n room true
+    first-end {n} h l text = omega (arith, rw (let z : i ≡ n = omega arith in z) at (ρ .bytes text))
+
+-- where all used rows are entries
+pub fits-all : (ws : List ℕ) (index used n room : ℕ) (r : Bool) → n ≡ used → FitsBound ws index used room r → FitsBound ws index n room r
+fits-all ws index used n room r e h = rw e h

@@ -50,11 +50,11 @@ fn max_line_len(row: Row) -> u64
     saturating_add(saturating_add(row.test_len, row.path_len), 80)
 }
 
-// True only if the first n rows print at most `room` bytes; false does not show the contrary. It adds up all used rows
-// in memory order, which is faster than index order; few of them are not among the n.
-pub fn surely_fits(words: &[u64], index: usize, used: usize, n: usize, room: usize) -> bool
-    requires { ⌜ Store (now words) index used × (n ≤ used) × (room < u64-max) ⌝ }
-    ensures { λ r. ⌜ FitsBound (now (words .entry)) index n room r ⌝ }
+// Whether all used rows print at most `room` bytes, in memory order, which is faster than index order. Every used row
+// must be an entry: a row that is none may never have been written.
+fn all_fit(words: &[u64], index: usize, used: usize, room: usize) -> bool
+    requires { ⌜ Store (now words) index used × (room < u64-max) ⌝ }
+    ensures { λ r. ⌜ FitsBound (now (words .entry)) index used room r ⌝ }
 {
     let mut left = room as u64;
     let mut j = 0;
@@ -67,4 +67,33 @@ pub fn surely_fits(words: &[u64], index: usize, used: usize, n: usize, room: usi
         j += 1;
     }
     true
+}
+
+// Whether the first n rows print at most `room` bytes, in index order: it reads no other row.
+fn first_fit(words: &[u64], index: usize, used: usize, n: usize, room: usize) -> bool
+    requires { ⌜ Store (now words) index used × (n ≤ used) × (room < u64-max) ⌝ }
+    ensures { λ r. ⌜ FitsBound (now (words .entry)) index n room r ⌝ }
+{
+    let mut left = room as u64;
+    let mut i = 0;
+    while i < n {
+        let most = max_line_len(table::get(words, index, used, i));
+        if left < most {
+            return false;
+        }
+        left = left - most;
+        i += 1;
+    }
+    true
+}
+
+// True only if the first n rows print at most `room` bytes; false does not show the contrary.
+pub fn surely_fits(words: &[u64], index: usize, used: usize, n: usize, room: usize) -> bool
+    requires { ⌜ Store (now words) index used × (n ≤ used) × (room < u64-max) ⌝ }
+    ensures { λ r. ⌜ FitsBound (now (words .entry)) index n room r ⌝ }
+{
+    if n == used {
+        return all_fit(words, index, used, room);
+    }
+    first_fit(words, index, used, n, room)
 }

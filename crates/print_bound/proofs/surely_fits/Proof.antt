@@ -1,29 +1,14 @@
--- `print_bound::surely_fits` meets its contract: the bounds of the rows so far are subtracted from the room. Assumes
--- nothing.
-use Prim.Native.Nat.{_-_, _≤_}
-use native.Mathlib.Omega.{arith}
+-- `print_bound::surely_fits` meets its contract. Assumes nothing.
 use borrow.Author.Needs.{needs}
-use Rattle.print_bound.proofs.RowLaws.{Leaving, leaving-start, leaving-next, leaving-end}
+use Rattle.print_bound.proofs.RowLaws.{fits-all}
 use Rattle.print_bound.proofs.surely_fits.Statement.{statement}
 use Rattle.print_bound.proofs.surely_fits.Tie as tie
-
-abbrev Inv-loop : tie.InvT-loop
-Inv-loop words index used n room left₀ j₀ left j = (j ≤ used) × Leaving words room j left
-
-abbrev μ-loop : tie.MeasureT-loop
-μ-loop words index used n room left₀ j₀ left j = used - j
 
 pub surely-fits-spec : {M : Type 1} → statement M
 surely-fits-spec =
     tie.close
     (tie.spec
-    Inv-loop
-    μ-loop
-    (λ c. search (leaving-start, needs))
-    (λ c κs. let s = c .before .before .before in omega (arith, c .loop-test .taken, s .pre .0 .rows-end, s .pre .0 .index-end))
     (λ c κs. search needs)
-    (λ c. search needs)
-    (λ c. search needs)
-    (λ c. search needs)
-    (λ c. search (leaving-next, needs))
-    (λ c. search (leaving-end, needs)))
+    (λ c. search (fits-all, needs))
+    (λ c κs. search needs)
+    (λ c. search needs))
