@@ -15,7 +15,8 @@ use Rattle.model.specs.Bytes.{Bytes}
 use Rattle.model.specs.Answer.{Answer, accepted, refused, unplaced}
 use Rattle.model.specs.Limits.{program-input, program-words, program-output}
 use Rattle.model.specs.Output.{outputAfter}
-use Rattle.model.specs.Calls.{writeAnswer}
+use Rattle.model.specs.Calls.{WriteCall, writeAnswer}
+use Rattle.model.proofs.CallLaws.{write-exact}
 use Rattle.model.specs.Tags.{defaultTag}
 use Rattle.model.specs.Gather.{gather, printedAnswer, gatherProgram}
 use Rattle.format.specs.Put.{over}
@@ -52,13 +53,17 @@ module _ (bundle old : Bytes) (words : ℕ) (scratch : words ≡ program-words) 
   as-lent : answered bundle words (length old) ≡ answered bundle program-words program-output
   as-lent = rw (scratch, lent)
 
-  pub gathered : (out : Bytes) (n : ℕ) (a : WriteAnswer) → a ≡ writeAnswer (answered bundle words (length old)) → out ≡ outputAfter (answered bundle words (length old)) old → a ≡ Written n
+  pub gathered : (out : Bytes) (n : ℕ) (a : WriteAnswer) → WriteCall (answered bundle words (length old)) old out a → a ≡ Written n
       → Fronts n out (printedAnswer (answered bundle program-words program-output))
-  gathered out n a e o w = fronts-as _ _ (ap printedAnswer as-lent) (written-shown old out n (answered bundle words (length old)) (sym w ∙ e) o)
+  gathered out n a c w =
+      fronts-as _ _ (ap printedAnswer as-lent)
+      (written-shown old out n (answered bundle words (length old)) (sym w ∙ write-exact (answered bundle words (length old)) a (c .returns)) (c .leaves))
 
-  pub gather-refused : (mid out : Bytes) (n : ℕ) (a : WriteAnswer) (q : Refusal) → a ≡ writeAnswer (answered bundle words (length old)) → a ≡ Refused q
+  pub gather-refused : {was : Bytes} (mid out : Bytes) (n : ℕ) (a : WriteAnswer) (q : Refusal) → WriteCall (answered bundle words (length old)) old was a → a ≡ Refused q
       → n ≡ length (refusedLine q) → out ≡ over (refusedLine q) mid → Fronts n out (printedAnswer (answered bundle program-words program-output))
-  gather-refused mid out n a q e w l o = fronts-as _ _ (ap printedAnswer as-lent) (refused-shown mid out n (answered bundle words (length old)) q (sym w ∙ e) l o)
+  gather-refused mid out n a q c w l o =
+      fronts-as _ _ (ap printedAnswer as-lent)
+      (refused-shown mid out n (answered bundle words (length old)) q (sym w ∙ write-exact (answered bundle words (length old)) a (c .returns)) l o)
 
 -- any input
 module _ (input old out : Bytes) (n : ℕ) where

@@ -21,7 +21,8 @@ use Rattle.model.specs.Printing.{sections, printSections, printReport}
 use Rattle.model.specs.Ranges.{wellFormedRanges}
 use Rattle.model.specs.Filter.{filterSection, filterText}
 use Rattle.model.specs.Output.{written, outputAfter}
-use Rattle.model.specs.Calls.{writeAnswer}
+use Rattle.model.specs.Calls.{WriteCall, writeAnswer}
+use Rattle.model.proofs.CallLaws.{write-called}
 use Rattle.model.specs.Bundle.{wellFormed, texts}
 use Rattle.model.specs.Gather.{entryLimit, readAndPrint, gatherTexts, gather}
 use Rattle.table_section.specs.Sections.{entriesAt}
@@ -68,6 +69,9 @@ told-refused answer r out is = rw (← is) (refl, refl)
 
 told-as : (a b : Answer Bytes) (out out′ : Bytes) (r : WriteAnswer) → a ≡ b → Told a out out′ r → Told b out out′ r
 told-as a b out out′ r e t = rw e at t
+
+pub called : {answer : Answer Bytes} {out out′ : Bytes} {r : WriteAnswer} → Told answer out out′ r → WriteCall answer out out′ r
+called {answer} {out} {out′} {r} t = write-called answer out out′ r (t .0) (t .1)
 
 -- a table can be printed: it is in place, and behind its index there is room to sort functions
 abbrev Ready : Bytes → List ℕ → ℕ → ℕ → ℕ → ℕ → Type 0

@@ -16,23 +16,24 @@ use Rattle.model.specs.Tags.{defaultTag}
 use Rattle.model.specs.Report.{Report}
 use Rattle.model.specs.Printing.{printReport}
 use Rattle.model.specs.Output.{outputAfter}
-use Rattle.model.specs.Calls.{writeAnswer}
+use Rattle.model.specs.Calls.{WriteCall, writeAnswer}
+use Rattle.model.proofs.CallLaws.{write-exact}
 use Rattle.model.specs.Gather.{readAndPrint, gather}
 use Rattle.model.specs.Joined.{joinedReport}
 use Rattle.model.proofs.Demand.{demand3-default}
-use Rattle.lcov.specs.Demand.{Called, GatherCall, IsWritten, Wrote, AcceptsAndWrites, Demand3Calls}
+use Rattle.lcov.specs.Demand.{GatherCall, IsWritten, Wrote, AcceptsAndWrites, Demand3Calls}
 
 -- ---- what was written is the answer
 
 module _ (out out′ : Bytes) (r : WriteAnswer) where
-  pub wrote-of : (g : Answer Bytes) → Called g out out′ r → (bytes : Bytes) → g ≡ accepted bytes → Wrote bytes out out′ r
+  pub wrote-of : (g : Answer Bytes) → WriteCall g out out′ r → (bytes : Bytes) → g ≡ accepted bytes → Wrote bytes out out′ r
   unfolding writeAnswer outputAfter
-  wrote-of g c bytes e = record { number = c .returns ∙ ap writeAnswer e; front = c .leaves ∙ ap (λ (a : Answer Bytes). outputAfter a out) e }
+  wrote-of g c bytes e = record { number = write-exact g r (c .returns) ∙ ap writeAnswer e; front = c .leaves ∙ ap (λ (a : Answer Bytes). outputAfter a out) e }
 
-  pub of-wrote : (g : Answer Bytes) → Called g out out′ r → (bytes : Bytes) → Wrote bytes out out′ r → g ≡ accepted bytes
+  pub of-wrote : (g : Answer Bytes) → WriteCall g out out′ r → (bytes : Bytes) → Wrote bytes out out′ r → g ≡ accepted bytes
   unfolding writeAnswer outputAfter
   of-wrote (accepted bs) c bytes w =
-      let both : Write.Written (length bs) ≡ Write.Written (length bytes) = sym (c .returns) ∙ w .number in
+      let both : Write.Written (length bs) ≡ Write.Written (length bytes) = sym (write-exact (accepted bs) r (c .returns)) ∙ w .number in
       let long : length bs ≡ length bytes = written-inj both in
       let fronts : bs ++ drop (length bs) out ≡ bytes ++ drop (length bytes) out = sym (c .leaves) ∙ w .front in
       let same : bs ≡ bytes =
@@ -41,24 +42,24 @@ module _ (out out′ : Bytes) (r : WriteAnswer) where
     where
       written-inj : {m n : ℕ} → Write.Written m ≡ Write.Written n → m ≡ n
       written-inj p = cc
-  of-wrote (refused q) c bytes w = absurd (clash (sym (w .number) ∙ c .returns))
+  of-wrote (refused q) c bytes w = absurd (clash (sym (w .number) ∙ write-exact (refused q) r (c .returns)))
     where
       clash : {n : ℕ} {q : Refusal} → Write.Written n ≡ Write.Refused q → ⊥
       clash p = impossible cc
 
-  pub written-accepted : (g : Answer Bytes) → Called g out out′ r → IsWritten r → IsAccepted g
+  pub written-accepted : (g : Answer Bytes) → WriteCall g out out′ r → IsWritten r → IsAccepted g
   unfolding writeAnswer
   written-accepted (accepted bs) c i = tt
-  written-accepted (refused q) c i = rw (c .returns) at i
+  written-accepted (refused q) c i = rw (write-exact (refused q) r (c .returns)) at i
 
-  pub accepted-written : (g : Answer Bytes) → Called g out out′ r → IsAccepted g → IsWritten r
+  pub accepted-written : (g : Answer Bytes) → WriteCall g out out′ r → IsAccepted g → IsWritten r
   unfolding writeAnswer
-  accepted-written (accepted bs) c i = rw (c .returns) tt
+  accepted-written (accepted bs) c i = rw (write-exact (accepted bs) r (c .returns)) tt
   accepted-written (refused q) c i = absurd i
 
-  pub refused-stays : (g : Answer Bytes) → Called g out out′ r → (q : Refusal) → r ≡ Write.Refused q → out′ ≡ out
+  pub refused-stays : (g : Answer Bytes) → WriteCall g out out′ r → (q : Refusal) → r ≡ Write.Refused q → out′ ≡ out
   unfolding writeAnswer outputAfter
-  refused-stays (accepted bs) c q e = absurd (clash (sym (c .returns) ∙ e))
+  refused-stays (accepted bs) c q e = absurd (clash (sym (write-exact (accepted bs) r (c .returns)) ∙ e))
     where
       clash : {n : ℕ} {q : Refusal} → Write.Written n ≡ Write.Refused q → ⊥
       clash p = impossible cc
@@ -85,6 +86,10 @@ demand3-calls =
     let d = demand3-default in
     record {
       gathers = accepts-and-writes;
+      once = d .once;
+      ordered = d .ordered;
+      keys = d .keys;
+      values = d .values;
       reads-back = λ bundle words out out′ r c reports a bytes w words₂ out₂ out₂′ r₂ limits room c₂.
           (let wrote = of-wrote out out′ r (gather defaultTag Checked bundle words (length out)) c bytes w in
           let same = accepted-inj (sym wrote ∙ d .writes bundle words (length out) reports a) in

@@ -19,15 +19,14 @@ ghost use Rattle.model.specs.Limits.{max-texts, max-entries};
 ghost use Rattle.model.specs.Answer.{inText};
 ghost use Rattle.model.specs.Tags.{defaultTag};
 ghost use Rattle.model.specs.Bundle.{wellFormed, textCount, textAt, texts};
-ghost use Rattle.model.specs.Calls.{writeAnswer};
-ghost use Rattle.model.specs.Output.{outputAfter};
-ghost use Rattle.model.specs.Gather.{entryLimit, readAndPrint, gatherText, gatherTexts};
+ghost use Rattle.model.specs.Calls.{WriteCall};
+ghost use Rattle.model.specs.Gather.{entryLimit, gatherText, gatherTexts};
 ghost use Rattle.model.specs.Gather.{gather as gatherOf};
 ghost use Rattle.model.specs.Filter.{filterText};
 ghost use Rattle.line_num_pairs.specs.Pairs.{rangesIn};
 ghost use Rattle.section.specs.Reading.{SectionRoom};
 ghost use Rattle.lcov.specs.Layout.{index-at, spare-at, base-at, ScratchRoom};
-ghost use Rattle.lcov.specs.Demand.{AcceptsAndWrites};
+ghost use Rattle.lcov.specs.Demand.{GatherCall, ReadCall, AcceptsAndWrites};
 ghost use Rattle.lcov.specs.Gathering.{inTextOf, joinedAt, JoinedTable, ReadOne, ReadBehind, GatheredAs};
 
 // The fixed numbers of model/specs/Limits.antt that code outside needs too: `words-per-entry`, and the scratch and the output of the program
@@ -199,8 +198,7 @@ fn gather_texts(bundle: &[u8], scratch: &mut [u64], limit: usize, mode: Mode) ->
 
 // A bundle's texts gathered in one of the two modes.
 fn gather(bundle: &[u8], scratch: &mut [u64], out: &mut [u8], mode: Mode) -> WriteAnswer
-    ensures { λ r. ⌜ r ≡ writeAnswer (gatherOf defaultTag mode (now (bundle .entry)) (length (now (scratch .entry))) (length (now (out .entry)))) ⌝ }
-    ensures { λ _. ⌜ now (out .exit) ≡ outputAfter (gatherOf defaultTag mode (now (bundle .entry)) (length (now (scratch .entry))) (length (now (out .entry)))) (now (out .entry)) ⌝ }
+    ensures { λ r. ⌜ WriteCall (gatherOf defaultTag mode (now (bundle .entry)) (length (now (scratch .entry))) (length (now (out .entry)))) (now (out .entry)) (now (out .exit)) r ⌝ }
 {
     if bundle::is_well_formed(bundle) {
         let limit = entry_limit(scratch.len());
@@ -221,8 +219,7 @@ fn gather(bundle: &[u8], scratch: &mut [u64], out: &mut [u8], mode: Mode) -> Wri
 // The checked gather (`Report::merge`): given start lines and checksums must agree. The last promise is demand 3's for this call; the whole
 // of it, for this call and `read_text`, is `Demand3Calls` in specs/Demand.antt.
 pub fn gather_checked(bundle: &[u8], scratch: &mut [u64], out: &mut [u8]) -> WriteAnswer
-    ensures { λ r. ⌜ r ≡ writeAnswer (gatherOf defaultTag Checked (now (bundle .entry)) (length (now (scratch .entry))) (length (now (out .entry)))) ⌝ }
-    ensures { λ _. ⌜ now (out .exit) ≡ outputAfter (gatherOf defaultTag Checked (now (bundle .entry)) (length (now (scratch .entry))) (length (now (out .entry)))) (now (out .entry)) ⌝ }
+    ensures call { λ r. ⌜ GatherCall (now (bundle .entry)) (length (now (scratch .entry))) (now (out .entry)) (now (out .exit)) r ⌝ }
     ensures demand { λ r. ⌜ AcceptsAndWrites (now (bundle .entry)) (length (now (scratch .entry))) (now (out .entry)) (now (out .exit)) r ⌝ }
 {
     gather(bundle, scratch, out, Mode::Checked)
@@ -230,16 +227,14 @@ pub fn gather_checked(bundle: &[u8], scratch: &mut [u64], out: &mut [u8]) -> Wri
 
 // The lossy gather (`merge_lossy`): "the later given start line or checksum wins".
 pub fn gather_lossy(bundle: &[u8], scratch: &mut [u64], out: &mut [u8]) -> WriteAnswer
-    ensures { λ r. ⌜ r ≡ writeAnswer (gatherOf defaultTag Lossy (now (bundle .entry)) (length (now (scratch .entry))) (length (now (out .entry)))) ⌝ }
-    ensures { λ _. ⌜ now (out .exit) ≡ outputAfter (gatherOf defaultTag Lossy (now (bundle .entry)) (length (now (scratch .entry))) (length (now (out .entry)))) (now (out .entry)) ⌝ }
+    ensures { λ r. ⌜ WriteCall (gatherOf defaultTag Lossy (now (bundle .entry)) (length (now (scratch .entry))) (length (now (out .entry)))) (now (out .entry)) (now (out .exit)) r ⌝ }
 {
     gather(bundle, scratch, out, Mode::Lossy)
 }
 
 // One text read, its report printed.
 pub fn read_text(text: &[u8], scratch: &mut [u64], out: &mut [u8]) -> WriteAnswer
-    ensures { λ r. ⌜ r ≡ writeAnswer (readAndPrint defaultTag (now (text .entry)) (length (now (scratch .entry))) (length (now (out .entry)))) ⌝ }
-    ensures { λ _. ⌜ now (out .exit) ≡ outputAfter (readAndPrint defaultTag (now (text .entry)) (length (now (scratch .entry))) (length (now (out .entry)))) (now (out .entry)) ⌝ }
+    ensures { λ r. ⌜ ReadCall (now (text .entry)) (length (now (scratch .entry))) (now (out .entry)) (now (out .exit)) r ⌝ }
 {
     let limit = entry_limit(scratch.len());
     let index = index_at(limit);
@@ -260,8 +255,7 @@ pub fn filter_text(
     scratch: &mut [u64],
     out: &mut [u8],
 ) -> WriteAnswer
-    ensures { λ r. ⌜ r ≡ writeAnswer (filterText defaultTag (now (text .entry)) (rangesIn (now (pairs .entry))) used (length (now (scratch .entry))) (length (now (out .entry)))) ⌝ }
-    ensures { λ _. ⌜ now (out .exit) ≡ outputAfter (filterText defaultTag (now (text .entry)) (rangesIn (now (pairs .entry))) used (length (now (scratch .entry))) (length (now (out .entry)))) (now (out .entry)) ⌝ }
+    ensures { λ r. ⌜ WriteCall (filterText defaultTag (now (text .entry)) (rangesIn (now (pairs .entry))) used (length (now (scratch .entry))) (length (now (out .entry)))) (now (out .entry)) (now (out .exit)) r ⌝ }
 {
     if line_num_pairs::is_well_formed(pairs, used) {
         let limit = entry_limit(scratch.len());

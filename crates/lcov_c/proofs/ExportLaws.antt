@@ -12,31 +12,38 @@ use Rattle.model.specs.Bytes.{Bytes, newline}
 use Rattle.model.specs.Answer.{Answer, refused, _>>=_}
 use Rattle.model.specs.Record.{Record}
 use Rattle.model.specs.Tags.{defaultTag}
-use Rattle.model.specs.Line.{readLine, printRecord}
+use Rattle.model.specs.Line.{printRecord}
 use Rattle.model.specs.Output.{written, outputAfter}
-use Rattle.model.specs.Parts.{printLine}
+use Rattle.model.specs.Parts.{lentLine, printLine}
+use Rattle.model.proofs.LentLaws.{line-refused}
+use Rattle.model.proofs.LentLaws as LentLaws
 use Rattle.model.specs.declared.Range.{Range}
 use Rattle.model.specs.declared.InsertAnswer.{InsertAnswer}
 use Rattle.model.specs.declared.QueryAnswer.{QueryAnswer}
-use Rattle.model.specs.Ranges.{sliceAfter}
-use Rattle.model.specs.Calls.{lineRead, writeAnswer, insertAnswer, queryAnswer}
+use Rattle.model.specs.Calls.{LineCall, WriteCall, InsertCall, QueryCall, lineAnswer, writeAnswer}
+use Rattle.model.proofs.CallLaws.{line-exact, write-exact, insert-exact, query-exact}
 use Rattle.compare.specs.declared.Order.{Order}
 use Rattle.compare.specs.Orders.{orderOf}
 use Rattle.lcov_c_words.specs.Words.{lineWords, lineNumber, writeWords, writeNumber, insertWords, insertNumber, queryWords, queryNumber, withPrefix}
 use Rattle.lcov_c.specs.Exports.{ReadLine, printedLine, AnswerStored, RangeInserted, Queried, rangeWords, orderNumber}
 
-pub line-read : (line : Bytes) (slice slice′ : List ℕ) (number : ℕ) (got : LineAnswer) (words : List ℕ) → lineRead line got ≡ readLine defaultTag line
+pub line-read : (line : Bytes) (slice slice′ : List ℕ) (number : ℕ) (got : LineAnswer) (words : List ℕ) → LineCall (lentLine defaultTag line) got
     → number ≡ lineNumber got → words ≡ lineWords got → slice′ ≡ withPrefix words slice → ReadLine line slice slice′ number
-line-read line slice slice′ number got words is n w e = record { answer = got; is = is; numbered = n; words = rw w at e }
+line-read line slice slice′ number got words call n w e =
+    let is = line-exact (lentLine defaultTag line) got call in
+    record { numbered = n ∙ ap lineNumber is; words = rw (w, is) at e }
 
 -- ---- a line read and printed
 
-module _ (line : Bytes) (room : ℕ) (got : LineAnswer) (is : lineRead line got ≡ readLine defaultTag line) where
+module _ (line : Bytes) (room : ℕ) (got : LineAnswer) (call : LineCall (lentLine defaultTag line) got) where
+  is : got ≡ lineAnswer (lentLine defaultTag line)
+  is = line-exact (lentLine defaultTag line) got call
+
   -- a line that is refused is not printed
   module _ (r : Refusal) (e : got ≡ Line.Refused r) where
     refused-line : printedLine line room ≡ refused r
-    unfolding printedLine lineRead
-    refused-line = rw (← is, e)
+    unfolding printedLine
+    refused-line = rw (line-refused defaultTag line got is r e)
 
     pub refused-number : (n : ℕ) → n ≡ lineNumber got → n ≡ writeNumber (writeAnswer (printedLine line room))
     unfolding writeAnswer
@@ -54,10 +61,13 @@ module _ (line : Bytes) (room : ℕ) (got : LineAnswer) (is : lineRead line got 
   -- one that is read is printed as its record is
   module _ (lent : LentRecord) (e : got ≡ Line.Read lent) where
     pub read-line : printLine defaultTag line lent room ≡ printedLine line room
-    unfolding printLine printedLine lineRead
-    read-line = let h : lineRead line (Line.Read lent) ≡ readLine defaultTag line = rw e at is in rw h
+    unfolding printLine printedLine
+    read-line = rw (LentLaws.line-read defaultTag line got is lent e)
 
-    module _ (wrote : WriteAnswer) (w : wrote ≡ writeAnswer (printLine defaultTag line lent room)) where
+    module _ (old out : Bytes) (wrote : WriteAnswer) (print : WriteCall (printLine defaultTag line lent room) old out wrote) where
+      w : wrote ≡ writeAnswer (printLine defaultTag line lent room)
+      w = write-exact (printLine defaultTag line lent room) wrote (print .returns)
+
       pub read-number : (n : ℕ) → n ≡ writeNumber wrote → n ≡ writeNumber (writeAnswer (printedLine line room))
       read-number n h = h ∙ ap writeNumber w ∙ ap (λ (a : Answer Bytes). writeNumber (writeAnswer a)) read-line
 
@@ -65,27 +75,31 @@ module _ (line : Bytes) (room : ℕ) (got : LineAnswer) (is : lineRead line got 
           → slice′ ≡ withPrefix (writeWords (writeAnswer (printedLine line room))) slice
       read-words words slice slice′ v h = rw (v, w, read-line) at h
 
-    pub read-out : (old out : Bytes) → out ≡ outputAfter (printLine defaultTag line lent room) old → out ≡ outputAfter (printedLine line room) old
-    read-out old out h = rw read-line at h
+      pub read-out : out ≡ outputAfter (printedLine line room) old
+      read-out = rw read-line at (print .leaves)
 
 -- ---- texts read and gathered
 
-pub told : (answer : Answer Bytes) (got : WriteAnswer) (slice slice′ : List ℕ) (out out′ : Bytes) (number : ℕ) → got ≡ writeAnswer answer
-    → out′ ≡ outputAfter answer out → number ≡ writeNumber got → slice′ ≡ withPrefix (writeWords got) slice → AnswerStored answer slice slice′ out out′ number
-told answer got slice slice′ out out′ number is output n w =
-    record { numbered = n ∙ ap writeNumber is; words = rw is at w; output = output }
+pub told : (answer : Answer Bytes) (got : WriteAnswer) (slice slice′ : List ℕ) (out out′ : Bytes) (number : ℕ) → WriteCall answer out out′ got
+    → number ≡ writeNumber got → slice′ ≡ withPrefix (writeWords got) slice → AnswerStored answer slice slice′ out out′ number
+told answer got slice slice′ out out′ number call n w =
+    let is = write-exact answer got (call .returns) in
+    record { numbered = n ∙ ap writeNumber is; words = rw is at w; output = call .leaves }
 
 -- ---- ranges
 
 pub inserted : (answer : Answer (List Range)) (got : InsertAnswer) (words slice slice′ : List ℕ) (ranges ranges′ : List Range) (number : ℕ)
-    → got ≡ insertAnswer answer → ranges′ ≡ sliceAfter answer ranges → words ≡ insertWords got → slice′ ≡ withPrefix words slice → number ≡ insertNumber got
+    → InsertCall answer ranges ranges′ got → words ≡ insertWords got → slice′ ≡ withPrefix words slice → number ≡ insertNumber got
     → RangeInserted answer slice slice′ ranges ranges′ number
-inserted answer got words slice slice′ ranges ranges′ number is kept w h n =
-    record { numbered = n ∙ ap insertNumber is; words = rw (w, is) at h; kept = kept }
+inserted answer got words slice slice′ ranges ranges′ number call w h n =
+    let is = insert-exact answer got (call .returns) in
+    record { numbered = n ∙ ap insertNumber is; words = rw (w, is) at h; kept = call .leaves }
 
-pub queried : (answer : Answer Bool) (got : QueryAnswer) (words slice slice′ : List ℕ) (number : ℕ) → got ≡ queryAnswer answer → words ≡ queryWords got
+pub queried : (answer : Answer Bool) (got : QueryAnswer) (words slice slice′ : List ℕ) (number : ℕ) → QueryCall answer got → words ≡ queryWords got
     → slice′ ≡ withPrefix words slice → number ≡ queryNumber got → Queried answer slice slice′ number
-queried answer got words slice slice′ number is w h n = record { numbered = n ∙ ap queryNumber is; words = rw (w, is) at h }
+queried answer got words slice slice′ number call w h n =
+    let is = query-exact answer got call in
+    record { numbered = n ∙ ap queryNumber is; words = rw (w, is) at h }
 
 pub half-open-words : (range is : Range) (slice slice′ : List ℕ) → range ≡ is → slice′ ≡ withPrefix (rangeWords range) slice → slice′ ≡ withPrefix (rangeWords is) slice
 half-open-words range is slice slice′ e h = rw e at h

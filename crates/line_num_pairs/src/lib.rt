@@ -10,8 +10,8 @@ ghost use mathlib.Core.List.{_∷_};
 ghost use Prim.Native.Nat.{_+_, _-_, _≤_, _<_, min, max};
 ghost use lib.ListN.{length, take};
 ghost use Rattle.table.specs.Places.{PartitionPoint};
-ghost use Rattle.model.specs.Ranges.{wellFormedRanges, halfOpen, joinInto, insertCall, sliceAfter, holds, queryCall};
-ghost use Rattle.model.specs.Calls.{insertAnswer, queryAnswer};
+ghost use Rattle.model.specs.Ranges.{wellFormedRanges, halfOpen, joinInto, insertCall, holds, queryCall};
+ghost use Rattle.model.specs.Calls.{InsertCall, QueryCall};
 ghost use Rattle.line_num_pairs.specs.Pairs.{pair, rangeAt, span, rangesIn, EndsBefore, RangePlaced, Carried, Cleared, replacedBy, filledUp};
 
 // "Half-open a..b becomes a to b − 1, with b = 0 read as b = 1."
@@ -118,7 +118,7 @@ pub fn holds_at(pairs: &[[u32; 2]], used: usize, s: u32, e: u32) -> bool
 }
 
 pub fn query(pairs: &[[u32; 2]], used: usize, s: u32, e: u32) -> QueryAnswer
-    ensures { λ r. ⌜ r ≡ queryAnswer (queryCall (rangesIn (now (pairs .entry))) used s e) ⌝ }
+    ensures { λ r. ⌜ QueryCall (queryCall (rangesIn (now (pairs .entry))) used s e) r ⌝ }
 {
     if !is_well_formed(pairs, used) {
         return QueryAnswer::Refused(refusal::unplaced(Fault::MalformedRanges));
@@ -222,8 +222,7 @@ fn put_joined(pairs: &mut [[u32; 2]], used: usize, first: usize, joined: Joined)
 // "Insert drops start > end, joins overlaps and neighbours, answers the new number of pairs, zeroes those past it, and gives 15 exactly
 // if the slice can't hold the result."
 pub fn insert(pairs: &mut [[u32; 2]], used: usize, start: u32, end: u32) -> InsertAnswer
-    ensures answer { λ r. ⌜ r ≡ insertAnswer (insertCall (rangesIn (now (pairs .entry))) used (pair start end)) ⌝ }
-    ensures slice { λ _. ⌜ rangesIn (now (pairs .exit)) ≡ sliceAfter (insertCall (rangesIn (now (pairs .entry))) used (pair start end)) (rangesIn (now (pairs .entry))) ⌝ }
+    ensures { λ r. ⌜ InsertCall (insertCall (rangesIn (now (pairs .entry))) used (pair start end)) (rangesIn (now (pairs .entry))) (rangesIn (now (pairs .exit))) r ⌝ }
 {
     if !is_well_formed(pairs, used) {
         return InsertAnswer::Refused(refusal::unplaced(Fault::MalformedRanges));

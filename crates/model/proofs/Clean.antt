@@ -53,6 +53,7 @@ use Rattle.model.specs.Line.{
 use Rattle.model.specs.Reading.{withoutEmptyLast, lines}
 use Rattle.model.specs.Valid.{LineText, Given, ChecksumText}
 use Rattle.model.proofs.ByteLaws.{Trim}
+use Rattle.model.proofs.FieldTexts.{after-has, from-has, text-has}
 
 -- ---- texts
 
@@ -76,13 +77,7 @@ clean-tail : (b : ℕ) (bs : Bytes) → LineText (b ∷ bs) → LineText bs
 clean-tail b bs c = record { one-line = c .one-line .1; clean-end = trim-tail b bs (c .clean-end) }
 
 clean-after : (sep : ℕ) (bs : Bytes) {rest : Bytes} → LineText bs → after sep bs ≡ some rest → LineText rest
-unfolding after
-clean-after sep [] c p = impossible cc
-clean-after sep (b ∷ bs) {rest} c p = go (eqb b sep) p (clean-after sep bs (clean-tail b bs c))
-  where
-    go : (test : Bool) → (if test then some bs else after sep bs) ≡ some rest → (after sep bs ≡ some rest → LineText rest) → LineText rest
-    go true q ih = let e : bs ≡ rest = cc in rw (← e) (clean-tail b bs c)
-    go false q ih = ih q
+clean-after = after-has LineText clean-tail
 
 free-beforeTrimmed : (b : ℕ) (bs : Bytes) → eqb b newline ≡ false → Free newline bs → Free newline (beforeTrimmed b bs)
 unfolding beforeTrimmed
@@ -183,15 +178,7 @@ abbrev Gives : (A : Type 0) → Answer A → A → Type 0
 Gives A answer a = answer ≡ accepted a
 
 clean-from : (k : ℕ) (body : Bytes) {rest : Bytes} → LineText body → fromField k body ≡ some rest → LineText rest
-unfolding fromField
-clean-from zero body c p = impossible cc
-clean-from (suc zero) body {rest} c p = let e : body ≡ rest = cc in rw (← e) c
-clean-from (suc (suc k)) body {rest} c p = go (fromField (suc k) body) refl p (λ r q. clean-from (suc k) body {rest = r} c q)
-  where
-    go : (o : Option Bytes) → fromField (suc k) body ≡ o → elim o as (λ _. Option Bytes) [ none ↦ none | some r ↦ after comma r ] ≡ some rest
-        → ((r : Bytes) → fromField (suc k) body ≡ some r → LineText r) → LineText rest
-    go none e q ih = impossible cc
-    go (some r) e q ih = clean-after comma r (ih r e) q
+clean-from = from-has LineText clean-tail
 
 inField-accepted : (k : ℕ) (r : Answer ℕ) {n : ℕ} → inField k r ≡ accepted n → r ≡ accepted n
 unfolding inField
@@ -208,13 +195,7 @@ numberField-fits max k body {n} p = go (fromField k body) p
     go (some rest) q = readNumber-fits max (before comma rest) (inField-accepted k (readNumber max (before comma rest)) q)
 
 textField-clean : (k : ℕ) (body : Bytes) {text : Bytes} → LineText body → textField k body ≡ accepted text → LineText text
-unfolding textField
-textField-clean k body {text} c p = go (fromField k body) refl p
-  where
-    go : (o : Option Bytes) → fromField k body ≡ o
-        → Gives Bytes (elim o [ none ↦ refuseField FieldNotFound k | some rest ↦ accepted rest ]) text → LineText text
-    go none e q = absurd (not-accepted q)
-    go (some rest) e q = clean-from k body c (e ∙ ap (λ (r : Bytes). some r) (accepted-inj q))
+textField-clean = text-has LineText clean-tail
 
 -- a given count is a count
 abbrev pub TakenFits : Option ℕ → Type 0
@@ -279,7 +260,7 @@ RecordFits (linesFound found) = found ≤ u32-max
 RecordFits (linesHit hit) = hit ≤ u32-max
 RecordFits endOfRecord = Unit {0}
 
-lastBefore-accepted : (k : ℕ) (body : Bytes) (made : Record) {r : Record} → lastBefore k body made ≡ accepted r → made ≡ r
+pub lastBefore-accepted : (k : ℕ) (body : Bytes) (made : Record) {r : Record} → lastBefore k body made ≡ accepted r → made ≡ r
 unfolding lastBefore
 lastBefore-accepted k body made {r} p = go (fromField k body) p
   where

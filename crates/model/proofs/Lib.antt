@@ -3,7 +3,10 @@ pub mod ByteLaws
 pub mod NumberLaws
 pub mod KeyOrder
 pub mod TagLaws
+pub mod FieldTexts
 pub mod Clean
+pub mod LentLaws
+pub mod CallLaws
 pub mod Read
 pub mod Items
 pub mod Entries

@@ -1,5 +1,5 @@
 -- Records whose texts are parts of a lent text, and the line printer. Assumes nothing.
-use Prim.Native.Nat.{ℕ, _+_}
+use Prim.Native.Nat.{ℕ, _+_, _-_}
 use mathlib.Core.List.{[], _∷_, _++_}
 use mathlib.Core.Option.{Option, none, some}
 use lib.Dec.{leb}
@@ -15,7 +15,7 @@ use Rattle.model.specs.declared.Record.{Record as LentRecord}
 use Rattle.model.specs.declared.Record.the-variants as Lent
 use Rattle.model.specs.Order.{if_then_else_}
 use Rattle.model.specs.Bytes.{Bytes, newline}
-use Rattle.model.specs.Answer.{Answer, accepted, _>>=_, refuse}
+use Rattle.model.specs.Answer.{Answer, accepted, _>>=_, refuse, onLine}
 use Rattle.model.specs.Record.{
   Record,
   testName,
@@ -32,7 +32,7 @@ use Rattle.model.specs.Record.{
   linesHit,
   endOfRecord,
 }
-use Rattle.model.specs.Line.{printRecord}
+use Rattle.model.specs.Line.{trimmed, readRecord, printRecord}
 use Rattle.model.specs.Output.{written}
 
 -- a part of a text, where it lies in the text
@@ -63,7 +63,45 @@ recordIn text (Lent.LinesFound found) = accepted (linesFound found)
 recordIn text (Lent.LinesHit hit) = accepted (linesHit hit)
 recordIn text Lent.EndOfRecord = accepted endOfRecord
 
+-- ---- the line reader: each text of a record ends its line, so it is the line's last bytes
+
+-- a text that ends a line, as a part of that line
+unfoldable pub endPart : Bytes → Bytes → Part
+endPart line text = record { start = length line - length text; len = length text }
+
+unfoldable pub lentTaken : Option ℕ → Taken
+lentTaken (some count) = Tk.Given count
+lentTaken none = Tk.Absent
+
+unfoldable pub lentChecksum : Bytes → Option Bytes → Checksum
+lentChecksum line (some text) = Ck.Given (endPart line text)
+lentChecksum line none = Ck.Absent
+
+-- a record that was read from a line, its text as a part of the line
+unfoldable pub lentFrom : Bytes → Record → LentRecord
+lentFrom line (testName name) = Lent.TestName (endPart line name)
+lentFrom line (sourceFile path) = Lent.SourceFile (endPart line path)
+lentFrom line (functionName start name) = Lent.FunctionName start (endPart line name)
+lentFrom line (functionData count name) = Lent.FunctionData count (endPart line name)
+lentFrom line (functionsFound found) = Lent.FunctionsFound found
+lentFrom line (functionsHit hit) = Lent.FunctionsHit hit
+lentFrom line (branchData number block branch taken) = Lent.BranchData number block branch (lentTaken taken)
+lentFrom line (branchesFound found) = Lent.BranchesFound found
+lentFrom line (branchesHit hit) = Lent.BranchesHit hit
+lentFrom line (lineData number count checksum) = Lent.LineData number count (lentChecksum line checksum)
+lentFrom line (linesFound found) = Lent.LinesFound found
+lentFrom line (linesHit hit) = Lent.LinesHit hit
+lentFrom line endOfRecord = Lent.EndOfRecord
+
 module _ (tag : Kind → Bytes) where
+  -- a line read, its refusal without the line's number. Bytes 10 and 13 at its end belong to no text
+  unfoldable pub lentRecord : Bytes → Answer LentRecord
+  lentRecord line = readRecord tag line >>= λ made. accepted (lentFrom (trimmed line) made)
+
+  -- a lone line is line 1
+  unfoldable pub lentLine : Bytes → Answer LentRecord
+  lentLine line = onLine 1 (lentRecord line)
+
   -- the line printer: the record's line, with byte 10 after it
   unfoldable pub printLine : Bytes → LentRecord → ℕ → Answer Bytes
   printLine text lent room = do

@@ -13,7 +13,8 @@ use Rattle.model.specs.declared.Refusal.{Refusal}
 use Rattle.model.specs.declared.WriteAnswer.{WriteAnswer}
 use Rattle.model.specs.declared.WriteAnswer.the-variants.{Written, Refused}
 use Rattle.model.specs.Bytes.{Bytes}
-use Rattle.model.specs.Calls.{writeAnswer}
+use Rattle.model.specs.Calls.{WriteCall, writeAnswer}
+use Rattle.model.proofs.CallLaws.{write-exact}
 use Rattle.model.specs.Limits.{u64-max}
 use Rattle.model.specs.Output.{outputAfter}
 use Rattle.model.specs.Parts.{printLine}
@@ -127,12 +128,14 @@ module _ (write : Bool) (writes : write ≡ true) (out : Bytes) (at : ℕ) (t : 
   rest-room = simp (length-take, length-drop) (omega (arith, line-room))
 
   module _ (few : length out * 1 < 2 ^ 63) (ys : Bytes) (wrote : WriteAnswer)
-      (answers : wrote ≡ writeAnswer (printLine defaultTag t a (length (take (length out - at) (drop at out)))))
-      (leaves : ys ≡ outputAfter (printLine defaultTag t a (length (take (length out - at) (drop at out)))) (take (length out - at) (drop at out))) where
+      (call : WriteCall (printLine defaultTag t a (length (take (length out - at) (drop at out)))) (take (length out - at) (drop at out)) ys wrote) where
+    answers : wrote ≡ writeAnswer (printLine defaultTag t a (length (take (length out - at) (drop at out))))
+    answers = write-exact (printLine defaultTag t a (length (take (length out - at) (drop at out)))) wrote (call .returns)
+
     rest-put : take at out ++ (ys ++ drop (length out - at) (drop at out)) ≡ putAt out at (lineIn t a)
     unfolding outputAfter
     rest-put =
-        let y : ys ≡ over (lineIn t a) (take (length out - at) (drop at out)) = leaves ∙ lent-out (take (length out - at) (drop at out)) t a rest-room in
+        let y : ys ≡ over (lineIn t a) (take (length out - at) (drop at out)) = call .leaves ∙ lent-out (take (length out - at) (drop at out)) t a rest-room in
         let nothing : drop (length out - at) (drop at out) ≡ [] = drop-end (drop at out) (length out - at) (simp length-drop (omega arith)) in
         rw (y, nothing, to-end out at, append-nil, drop-drop)
 

@@ -2,8 +2,7 @@
 ghost use mathlib.Core.Path.{_≡_};
 ghost use mathlib.Core.List.{[]};
 ghost use lib.ListN.{length};
-ghost use Rattle.model.specs.Calls.{writeAnswer};
-ghost use Rattle.model.specs.Output.{outputAfter};
+ghost use Rattle.model.specs.Calls.{WriteCall};
 ghost use Rattle.model.specs.Parts.{printLine};
 ghost use Rattle.model.specs.Tags.{defaultTag};
 ghost use Rattle.record_display.specs.Fields.{neededAt};
@@ -45,8 +44,7 @@ pub fn line_len(text: &[u8], record: Record) -> usize
 
 // Prints a record, whose text parts lie in text, with byte 10 after it.
 pub fn print_line(text: &[u8], record: Record, out: &mut [u8]) -> WriteAnswer
-    ensures { λ r. ⌜ r ≡ writeAnswer (printLine defaultTag (now (text .entry)) «record» (length (now (out .entry)))) ⌝ }
-    ensures { λ _. ⌜ now (out .exit) ≡ outputAfter (printLine defaultTag (now (text .entry)) «record» (length (now (out .entry)))) (now (out .entry)) ⌝ }
+    ensures { λ r. ⌜ WriteCall (printLine defaultTag (now (text .entry)) «record» (length (now (out .entry)))) (now (out .entry)) (now (out .exit)) r ⌝ }
 {
     let fields = fields::fields_of(record);
     let last = fields.last;
@@ -64,8 +62,7 @@ pub fn print_line(text: &[u8], record: Record, out: &mut [u8]) -> WriteAnswer
 // Prints a line's record with no checksum, as `print_line` does, and makes no record of it where the output surely holds it: most lines of a
 // report are such.
 pub fn print_line_data(line: u32, count: u64, out: &mut [u8]) -> WriteAnswer
-    ensures { λ r. ⌜ r ≡ writeAnswer (printLine defaultTag [] (counted line count) (length (now (out .entry)))) ⌝ }
-    ensures { λ _. ⌜ now (out .exit) ≡ outputAfter (printLine defaultTag [] (counted line count) (length (now (out .entry)))) (now (out .entry)) ⌝ }
+    ensures { λ r. ⌜ WriteCall (printLine defaultTag [] (counted line count) (length (now (out .entry)))) (now (out .entry)) (now (out .exit)) r ⌝ }
 {
     if put::MAX_HEAD <= out.len() {
         let n = put::put_line_data(line as u64, count, out);

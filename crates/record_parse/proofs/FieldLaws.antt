@@ -27,7 +27,7 @@ use Rattle.model.specs.Limits.{u32-max}
 use Rattle.model.specs.Number.{readNumber}
 use Rattle.model.specs.Record.{Record}
 use Rattle.model.specs.Line.{fromField, inField, numberField, textField, takenField, lastBefore}
-use Rattle.model.specs.Parts.{partOf}
+use Rattle.model.specs.Parts.{endPart}
 use Rattle.scan.specs.declared.Number.{Number}
 use Rattle.scan.specs.declared.Number.the-variants.{Last, More, Fault as Bad}
 use Rattle.scan.specs.Scan.{followed, numberIn, nextOf, valueOf, NumberRead}
@@ -45,13 +45,12 @@ part s at = take (length s - at) (drop at s)
 pub to-end : (s : Bytes) (at : ℕ) → part s at ≡ drop at s
 to-end s at = take-all (length s - at) (drop at s) (simp length-drop (omega arith))
 
--- a part up to the end of what was read
-pub part-rest : (line : Bytes) (at : ℕ) (tail : Bytes) → at ≤ length line → partOf (line ++ tail) (partFrom at (part line at)) ≡ accepted (drop at line)
-unfolding partOf
-part-rest line at tail h =
-    let long : length (drop at line) ≡ length line - at = length-drop at line in
-    let fits : at + (length line - at) ≤ length (line ++ tail) = simp length-append (omega arith) in
-    rw (to-end line at, long, le-leb (at + (length line - at)) (length (line ++ tail)) fits, drop-append-le at line tail h, take-at (drop at line) tail (length line - at) long)
+-- a part up to the end of the line
+pub part-rest : (line : Bytes) (at : ℕ) → at ≤ length line → partFrom at (part line at) ≡ endPart line (drop at line)
+unfolding endPart
+part-rest line at h =
+    let start : length line - length (drop at line) ≡ at = rw (length-drop at line) (omega arith) in
+    rw (to-end line at, start)
 
 -- what is left after the first separator
 pub after-at : (c : ℕ) (s : Bytes) → after c s ≡ cond (ltb (length (before c s)) (length s)) (some (drop (length (before c s) + 1) s)) none

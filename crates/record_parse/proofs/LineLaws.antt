@@ -29,7 +29,7 @@ use Rattle.model.specs.Answer.{Answer, accepted, refused, _>>=_, refuse, refuse
 use Rattle.model.specs.Limits.{u32-max, u64-max}
 use Rattle.model.specs.Record.{Record, functionName, functionData, branchData, lineData}
 use Rattle.model.specs.Line.{fromField, inField, numberField, textField, takenField, checksumField, lastBefore, readOne}
-use Rattle.model.specs.Parts.{partOf, takenIn, checksumIn, recordIn}
+use Rattle.model.specs.Parts.{endPart, lentTaken, lentChecksum, lentFrom}
 use Rattle.scan.specs.declared.Number.{Number}
 use Rattle.scan.specs.declared.Number.the-variants.{Last, More, Fault as Bad}
 use Rattle.scan.specs.Scan.{numberIn, NumberRead}
@@ -136,47 +136,48 @@ module _ {body line : Bytes} {k at : ℕ} (here : FieldAt body line k at) (p : P
   unfolding textField
   field = rw (here .is, textField)
 
-  there : (tail : Bytes) → partOf (line ++ tail) p ≡ accepted (drop at line)
-  there tail = rw is (part-rest line at tail (here .within))
+  there : p ≡ endPart line (drop at line)
+  there = is ∙ part-rest line at (here .within)
 
   pub name-read : (start : ℕ) → Answers line (Read (Lent.FunctionName start p)) (textField k body >>= λ name. accepted (functionName start name))
-  unfolding recordIn
-  name-read start = rw field (read (Lent.FunctionName start p) (functionName start (drop at line)) (λ tail. rw (there tail)))
+  unfolding lentFrom
+  name-read start = rw field (read (functionName start (drop at line)) (Lent.FunctionName start p) (ap (λ (q : Part). Lent.FunctionName start q) there))
 
   pub data-read : (count : ℕ) → Answers line (Read (Lent.FunctionData count p)) (textField k body >>= λ name. accepted (functionData count name))
-  unfolding recordIn
-  data-read count = rw field (read (Lent.FunctionData count p) (functionData count (drop at line)) (λ tail. rw (there tail)))
+  unfolding lentFrom
+  data-read count = rw field (read (functionData count (drop at line)) (Lent.FunctionData count p) (ap (λ (q : Part). Lent.FunctionData count q) there))
 
 -- ---- a checksum: DA
 
 pub line-read : {body line : Bytes} {k at : ℕ} → FieldAt body line k at → (checksum : Checksum) → checksum ≡ checksumFrom at (part line at) → (l count : ℕ) → Answers line (Read (Lent.LineData l count checksum)) (accepted (lineData l count (checksumField k body)))
-unfolding recordIn checksumIn checksumField
+unfolding lentFrom lentChecksum checksumField
 line-read {body} {line} {k} {at} here checksum is l count =
     rw (is, here .is, checksumField, to-end line at) (go (sameBytes (drop at line) (ascii "-")))
   where
     go : (d : Bool) → Answers line (Read (Lent.LineData l count (cond d Ck.Absent (Ck.Given (partFrom at (drop at line)))))) (accepted (lineData l count (cond d none (some (drop at line)))))
-    go true = read (Lent.LineData l count Ck.Absent) (lineData l count none) (λ tail. refl)
-    go false = read (Lent.LineData l count (Ck.Given (partFrom at (drop at line)))) (lineData l count (some (drop at line))) (λ tail. rw (rw (to-end line at) at (part-rest line at tail (here .within))))
+    go true = read (lineData l count none) (Lent.LineData l count Ck.Absent) refl
+    go false = read (lineData l count (some (drop at line))) (Lent.LineData l count (Ck.Given (partFrom at (drop at line))))
+        (ap (λ (q : Part). Lent.LineData l count (Ck.Given q)) (rw (to-end line at) at (part-rest line at (here .within))))
 
 pub line-last : {body line : Bytes} {at max : ℕ} → FieldAt body line 2 at → {got : Number} → NumberField max at (part line at) got → (l count : ℕ) → got ≡ Last count → Answers line (Read (Lent.LineData l count Ck.Absent)) (numberField max 2 body >>= λ n. accepted (lineData l n (checksumField 3 body)))
-unfolding recordIn checksumIn checksumField
+unfolding lentFrom lentChecksum checksumField
 line-last here seen l count e =
     rw (last-value here seen count e, no-field here seen count e, checksumField)
-    (read (Lent.LineData l count Ck.Absent) (lineData l count none) (λ tail. refl))
+    (read (lineData l count none) (Lent.LineData l count Ck.Absent) refl)
 
 -- ---- one number: FNF, FNH, BRF, BRH, LF, LH
 
 pub count-is : (kind known : Total) (n : ℕ) (lent : LentRecord) → kind ≡ known → lent ≡ countLent known n → lent ≡ countLent kind n
 count-is kind known n lent e q = rw e q
 
-count-in : (kind : Total) (n : ℕ) (text : Bytes) → recordIn text (countLent kind n) ≡ accepted (countMade kind n)
-unfolding recordIn
-count-in Ct.FunctionsFound n text = refl
-count-in Ct.FunctionsHit n text = refl
-count-in Ct.BranchesFound n text = refl
-count-in Ct.BranchesHit n text = refl
-count-in Ct.LinesFound n text = refl
-count-in Ct.LinesHit n text = refl
+count-in : (kind : Total) (n : ℕ) (line : Bytes) → countLent kind n ≡ lentFrom line (countMade kind n)
+unfolding lentFrom
+count-in Ct.FunctionsFound n line = refl
+count-in Ct.FunctionsHit n line = refl
+count-in Ct.BranchesFound n line = refl
+count-in Ct.BranchesHit n line = refl
+count-in Ct.LinesFound n line = refl
+count-in Ct.LinesHit n line = refl
 
 module _ {body line : Bytes} {at : ℕ} (here : FieldAt body line 1 at) (got : Number) (seen : NumberField u32-max at (part line at) got) where
   pub count-up : (made : ℕ → Record) (r : LineAnswer) → NotLast got → r ≡ numberRefusal 1 got → Answers line r (readOne made body)
@@ -187,7 +188,7 @@ module _ {body line : Bytes} {at : ℕ} (here : FieldAt body line 1 at) (got : N
   unfolding readOne
   count-last kind n lent e q =
       rw (last-value here seen n e, at-last body 2 (countMade kind n) (no-field here seen n e), q)
-      (read (countLent kind n) (countMade kind n) (λ tail. count-in kind n (line ++ tail)))
+      (read (countMade kind n) (countLent kind n) (count-in kind n line))
 
 -- ---- taken: the end of BRDA
 
@@ -231,27 +232,27 @@ from-zero (More v n) = ap (λ (m : ℕ). More v m) (omega arith)
 from-zero (Bad f) = refl
 
 module _ (l b c : ℕ) (rest : Bytes) where
-  abbrev Ends : Bytes → LineAnswer → Type 0
-  Ends body r = Answers [] r (takenField u64-max 4 body >>= λ taken. lastBefore 5 body (branchData l b c taken))
+  abbrev Ends : Bytes → Bytes → LineAnswer → Type 0
+  Ends line body r = Answers line r (takenField u64-max 4 body >>= λ taken. lastBefore 5 body (branchData l b c taken))
 
   pub taken-dash : (d : Bool) → d ≡ sameBytes rest (ascii "-") → d ≡ true → TakenRead l b c rest (Read (Lent.BranchData l b c Tk.Absent))
-  unfolding before after compareBytes recordIn takenIn
-  taken-dash d e t = record { is = λ body here. go body (here ∙ ap (λ (s : Bytes). some s) (bytes-same .same-eq rest (ascii "-") (sym e ∙ t))) }
+  unfolding before after compareBytes lentFrom lentTaken
+  taken-dash d e t = record { is = λ line body here. go line body (here ∙ ap (λ (s : Bytes). some s) (bytes-same .same-eq rest (ascii "-") (sym e ∙ t))) }
     where
-      go : (body : Bytes) → fromField 4 body ≡ some (ascii "-") → Ends body (Read (Lent.BranchData l b c Tk.Absent))
-      go body here =
+      go : (line body : Bytes) → fromField 4 body ≡ some (ascii "-") → Ends line body (Read (Lent.BranchData l b c Tk.Absent))
+      go line body here =
           rw (dash-none body (ascii "-") here refl, at-last body 5 (branchData l b c none) (fifth body (ascii "-") here))
-          (read (Lent.BranchData l b c Tk.Absent) (branchData l b c none) (λ tail. refl))
+          (read (branchData l b c none) (Lent.BranchData l b c Tk.Absent) refl)
 
   pub taken-more : (d : Bool) (r : LineAnswer) → d ≡ sameBytes (take 2 rest) (ascii "-,") → d ≡ true → r ≡ refusedAt TooManyFields 0 → TakenRead l b c rest r
   unfolding before after compareBytes
   taken-more d r e t q =
       let front : take 2 rest ≡ ascii "-," = bytes-same .same-eq (take 2 rest) (ascii "-,") (sym e ∙ t) in
       let all : rest ≡ 45 ∷ 44 ∷ drop 2 rest = sym (take-append-drop 2 rest) ∙ ap (λ (s : Bytes). s ++ drop 2 rest) front in
-      record { is = λ body here. go body (drop 2 rest) (here ∙ ap (λ (s : Bytes). some s) all) }
+      record { is = λ line body here. go line body (drop 2 rest) (here ∙ ap (λ (s : Bytes). some s) all) }
     where
-      go : (body xs : Bytes) → fromField 4 body ≡ some (45 ∷ 44 ∷ xs) → Ends body r
-      go body xs here =
+      go : (line body xs : Bytes) → fromField 4 body ≡ some (45 ∷ 44 ∷ xs) → Ends line body r
+      go line body xs here =
           refused-up TooManyFields 0 q
           (rw (dash-none body (45 ∷ 44 ∷ xs) here refl) (past-last body 5 (branchData l b c none) xs (fifth body (45 ∷ 44 ∷ xs) here)))
 
@@ -264,19 +265,19 @@ module _ (l b c : ℕ) (rest : Bytes) where
     seen-whole = rw (to-end rest 0) (record { is = seen .is ∙ sym (from-zero (numberIn u64-max rest)); long = omega (arith, seen .long); most = seen .most })
 
     last-there : (v : ℕ) → got ≡ Last v → TakenRead l b c rest (Read (Lent.BranchData l b c (Tk.Given v)))
-    unfolding recordIn takenIn
-    last-there v e = record { is = λ body here. go body here }
+    unfolding lentFrom lentTaken
+    last-there v e = record { is = λ line body here. go line body here }
       where
-        go : (body : Bytes) → fromField 4 body ≡ some rest → Ends body (Read (Lent.BranchData l b c (Tk.Given v)))
-        go body here =
+        go : (line body : Bytes) → fromField 4 body ≡ some rest → Ends line body (Read (Lent.BranchData l b c (Tk.Given v)))
+        go line body here =
             rw (number body here, last-value (whole body rest here) seen-whole v e, at-last body 5 (branchData l b c (some v)) (no-field (whole body rest here) seen-whole v e))
-            (read (Lent.BranchData l b c (Tk.Given v)) (branchData l b c (some v)) (λ tail. refl))
+            (read (branchData l b c (some v)) (Lent.BranchData l b c (Tk.Given v)) refl)
 
     up-there : (r : LineAnswer) → NotLast got → r ≡ numberRefusal 4 got → TakenRead l b c rest r
-    up-there r other q = record { is = λ body here. go body here }
+    up-there r other q = record { is = λ line body here. go line body here }
       where
-        go : (body : Bytes) → fromField 4 body ≡ some rest → Ends body r
-        go body here =
+        go : (line body : Bytes) → fromField 4 body ≡ some rest → Ends line body r
+        go line body here =
             rw (number body here, bind-assoc (numberField u64-max 4 body) (λ t. accepted (some t)) (λ taken. lastBefore 5 body (branchData l b c taken)))
             (last-up (whole body rest here) seen-whole (λ n. branchData l b c (some n)) r other q)
 
@@ -302,14 +303,8 @@ module _ (l b c : ℕ) (rest : Bytes) where
     pub taken-up : (r : LineAnswer) → NotLast got → r ≡ numberRefusal 4 got → TakenRead l b c rest r
     taken-up r other q = up-there plain got seen r other q
 
--- ---- whatever follows the bytes that were read
-
-pub longer : {s : Bytes} {r : LineAnswer} {x : Answer Record} (t : Bytes) → Answers s r x → Answers (s ++ t) r x
-longer {s} t (read lent made f) = read lent made (λ tail. rw append-assoc (f (t ++ tail)))
-longer t (refusal q) = refusal q
-
 pub taken-read : {body line : Bytes} {at : ℕ} → FieldAt body line 4 at → (l b c : ℕ) (r : LineAnswer) → TakenRead l b c (part line at) r → Answers line r (takenField u64-max 4 body >>= λ taken. lastBefore 5 body (branchData l b c taken))
-taken-read {body} {line} {at} here l b c r w = longer line (w .is body (here .is ∙ ap (λ (s : Bytes). some s) (sym (to-end line at))))
+taken-read {body} {line} {at} here l b c r w = w .is line body (here .is ∙ ap (λ (s : Bytes). some s) (sym (to-end line at)))
 
 -- with numerals for the fields, as the code has them
 module _ {body line : Bytes} {at max : ℕ} (got : Number) (seen : NumberField max at (part line at) got) (v n : ℕ) (is : got ≡ More v n) where

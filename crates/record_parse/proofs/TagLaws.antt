@@ -8,7 +8,7 @@ use native.Mathlib.Omega.{arith}
 use lib.Dec.{ltb, eqb}
 use lib.ListN.{length, take, drop, drop-of-length-le, length-take, take-append-drop}
 use borrow.Author.Tests.{lt-ltb, le-ltb, ltb-true, ltb-false}
-use Rattle.ordmap.proofs.Results.{impossible}
+use Rattle.ordmap.proofs.Results.{impossible, not-refused}
 use Rattle.model.specs.declared.Fault.the-variants.{UnknownRecord}
 use Rattle.model.specs.declared.Kind.{Kind}
 use Rattle.model.specs.declared.Kind.the-variants as Kd
@@ -19,16 +19,17 @@ use Rattle.model.specs.declared.Record.the-variants as Lent
 use Rattle.model.specs.declared.LineAnswer.{LineAnswer}
 use Rattle.model.specs.declared.LineAnswer.the-variants.{Read, Refused}
 use Rattle.model.specs.Bytes.{Bytes, newline, return, colon, sameBytes, before, after, Free}
-use Rattle.model.specs.Answer.{Answer, accepted, refused, refuse, onLine}
+use Rattle.model.specs.Answer.{Answer, accepted, refused, _>>=_, refuse, onLine}
 use Rattle.model.specs.Record.{Record, testName, sourceFile, endOfRecord}
 use Rattle.model.specs.Tags.{allKinds, defaultTag}
 use Rattle.model.specs.Line.{beforeTrimmed, trimmed, kindAmong, readOne, readBody, bodyOf, readTrimmed, readRecord, readLine}
-use Rattle.model.specs.Parts.{recordIn}
+use Rattle.model.specs.Parts.{lentFrom, lentRecord, lentLine}
 use Rattle.model.proofs.ByteLaws.{before-seam}
 use Rattle.model.proofs.KeyOrder.{bytes-same}
 use Rattle.model.proofs.TagLaws.{defaultTag-lawful, kindAmong-tag}
-use Rattle.model.specs.Calls.{lineRead}
-use Rattle.record_parse.specs.Answers.{partsInside, Answers, read, refusal}
+use Rattle.model.specs.Calls.{lineValues, LineCall, lineAnswer}
+use Rattle.model.proofs.CallLaws.{line-exact}
+use Rattle.record_parse.specs.Answers.{Answers, read, refusal}
 use Rattle.record_parse.specs.Fields.{refusedAt, partFrom}
 use Rattle.record_parse.specs.Lines.{countMade, countKind, CountOf, bodyIn, bodyAt}
 use Rattle.record_parse.specs.declared.lines.Total.{Total}
@@ -36,7 +37,6 @@ use Rattle.record_parse.specs.declared.lines.Total.the-variants as Ct
 use Rattle.record_parse.specs.declared.lines.TotalAnswer.{TotalAnswer}
 use Rattle.record_parse.specs.declared.lines.TotalAnswer.the-variants as CA
 use Rattle.record_parse.proofs.FieldLaws.{part, part-rest, after-at}
-use Rattle.record_parse.proofs.LineLaws.{longer}
 
 -- ---- the kind of a tag
 
@@ -95,16 +95,20 @@ unknown line body tg r got e seen u a b c d f g h =
 module _ (line : Bytes) (at : ℕ) (tg : Bytes) (d : Bool) (yes-is : d ≡ true) where
   module _ (p : Part) (is : p ≡ partFrom at (part line at)) (there : at ≤ length line) where
     pub test-tagged : d ≡ sameBytes tg (defaultTag Kd.TestName) → Answers line (Read (Lent.TestName p)) (bodyIn (kindAmong defaultTag allKinds tg) (drop at line))
-    unfolding readBody recordIn
-    test-tagged e = tagged Kd.TestName (drop at line) tg d (rw is (read (Lent.TestName (partFrom at (part line at))) (testName (drop at line)) (λ tail. rw (part-rest line at tail there)))) e yes-is
+    unfolding readBody lentFrom
+    test-tagged e =
+        tagged Kd.TestName (drop at line) tg d
+        (read (testName (drop at line)) (Lent.TestName p) (ap (λ (q : Part). Lent.TestName q) (is ∙ part-rest line at there))) e yes-is
 
     pub source-tagged : d ≡ sameBytes tg (defaultTag Kd.SourceFile) → Answers line (Read (Lent.SourceFile p)) (bodyIn (kindAmong defaultTag allKinds tg) (drop at line))
-    unfolding readBody recordIn
-    source-tagged e = tagged Kd.SourceFile (drop at line) tg d (rw is (read (Lent.SourceFile (partFrom at (part line at))) (sourceFile (drop at line)) (λ tail. rw (part-rest line at tail there)))) e yes-is
+    unfolding readBody lentFrom
+    source-tagged e =
+        tagged Kd.SourceFile (drop at line) tg d
+        (read (sourceFile (drop at line)) (Lent.SourceFile p) (ap (λ (q : Part). Lent.SourceFile q) (is ∙ part-rest line at there))) e yes-is
 
   pub end-tagged : (body : Bytes) → d ≡ sameBytes tg (defaultTag Kd.EndOfRecord) → Answers line (Read Lent.EndOfRecord) (bodyIn (kindAmong defaultTag allKinds tg) body)
-  unfolding readBody recordIn
-  end-tagged body e = tagged Kd.EndOfRecord body tg d (read Lent.EndOfRecord endOfRecord (λ tail. refl)) e yes-is
+  unfolding readBody lentFrom
+  end-tagged body e = tagged Kd.EndOfRecord body tg d (read endOfRecord Lent.EndOfRecord refl) e yes-is
 
 -- ---- where the tag ends
 
@@ -162,53 +166,36 @@ body-is s = rw (after-at colon s, bodyOf) (go (ltb (length (before colon s)) (le
 
 -- ---- a whole line
 
-trimmed-append : (line : Bytes) → trimmed line ++ drop (length (trimmed line)) line ≡ line
-unfolding trimmed beforeTrimmed
-trimmed-append [] = refl
-trimmed-append (b ∷ bs) = go (trimmed bs) (trimmed-append bs)
-  where
-    end : (d : Bool) → cond d [] (b ∷ []) ++ drop (length (cond d [] (b ∷ []))) (b ∷ bs) ≡ b ∷ bs
-    end true = refl
-    end false = refl
+answer-is : {line : Bytes} {r : LineAnswer} {x : Answer Record} → Answers line r x → LineCall (x >>= λ made. accepted (lentFrom line made)) r
+unfolding lineValues
+answer-is (read made lent e) = ap (λ (l : LentRecord). accepted l) e
+answer-is (refusal q) = refl
 
-    go : (t : Bytes) → t ++ drop (length t) bs ≡ bs → beforeTrimmed b t ++ drop (length (beforeTrimmed b t)) (b ∷ bs) ≡ b ∷ bs
-    go [] e = end (eqb b newline || eqb b return)
-    go (c ∷ cs) e = ap (λ (r : Bytes). b ∷ r) e
-
-told : {line : Bytes} {r : LineAnswer} {x : Answer Record} → Answers line r x → lineRead line r ≡ x
-unfolding lineRead
-told {line} (read lent made f) = rw (append-nil line) at (f [])
-told (refusal q) = refl
-
-inside : {line : Bytes} {r : LineAnswer} {x : Answer Record} → Answers line r x → partsInside line r
-inside {line} (read lent made f) = (made, rw (append-nil line) at (f []))
-inside (refusal q) = tt
-
-module _ (line s : Bytes) (mark at : ℕ) (r : LineAnswer) (is : s ≡ trimmed line) (found : mark ≡ length (before 58 s)) (start : at ≡ bodyAt (length s) mark)
-    (body : Answers s r (bodyIn (kindAmong defaultTag allKinds (take mark s)) (drop at s))) where
-  record-read : Answers line r (readRecord defaultTag line)
-  unfolding readRecord readTrimmed
-  record-read =
-      let b : Answers s r (bodyIn (kindAmong defaultTag allKinds (before colon s)) (bodyOf s)) = rw (start, found, before-prefix 58 s, body-is s) at body in
-      let c : Answers (trimmed line) r (readTrimmed defaultTag (trimmed line)) = rw is at b in
-      rw (trimmed-append line) at (longer (drop (length (trimmed line)) line) c)
-
-  pub record-told : lineRead line r ≡ readRecord defaultTag line
-  record-told = told record-read
-
-  pub record-inside : partsInside line r
-  record-inside = inside record-read
+pub record-read : (line s : Bytes) (mark at : ℕ) (r : LineAnswer) → s ≡ trimmed line → mark ≡ length (before 58 s) → at ≡ bodyAt (length s) mark
+    → Answers s r (bodyIn (kindAmong defaultTag allKinds (take mark s)) (drop at s)) → LineCall (lentRecord defaultTag line) r
+unfolding lentRecord readRecord readTrimmed
+record-read line s mark at r is found start body =
+    let b : Answers s r (bodyIn (kindAmong defaultTag allKinds (before colon s)) (bodyOf s)) = rw (start, found, before-prefix 58 s, body-is s) at body in
+    let c : Answers (trimmed line) r (readTrimmed defaultTag (trimmed line)) = rw is at b in
+    answer-is c
 
 -- ---- a lone line is line 1
 
-module _ (line : Bytes) (got : LineAnswer) (seen : lineRead line got ≡ readRecord defaultTag line) (lies : partsInside line got) where
-  pub lone-read : (lent : LentRecord) → got ≡ Read lent → lineRead line (Read lent) ≡ readLine defaultTag line
-  unfolding lineRead readLine
-  lone-read lent e = go (rw e at lies) (rw e at seen)
+module _ (line : Bytes) (got : LineAnswer) (seen : LineCall (lentRecord defaultTag line) got) where
+  pub lone-read : (lent : LentRecord) → got ≡ Read lent → LineCall (lentLine defaultTag line) (Read lent)
+  unfolding lineValues lentLine
+  lone-read lent e = go (lentRecord defaultTag line) (rw e at seen)
     where
-      go : partsInside line (Read lent) → recordIn line lent ≡ readRecord defaultTag line → recordIn line lent ≡ onLine 1 (readRecord defaultTag line)
-      go (made, is) q = rw (← q, is)
+      go : (a : Answer LentRecord) → LineCall a (Read lent) → LineCall (onLine 1 a) (Read lent)
+      go (accepted l) q = q
+      go (refused r) q = absurd (not-refused q)
 
-  pub lone-refused : (q : Refusal) → got ≡ Refused q → lineRead line (Refused (record { fault = q .fault; text = q .text; line = 1; field = q .field; needed = q .needed })) ≡ readLine defaultTag line
-  unfolding lineRead readLine
-  lone-refused q e = let is : refused q ≡ readRecord defaultTag line = rw e at seen in rw (← is)
+  pub lone-refused : (q : Refusal) → got ≡ Refused q
+      → LineCall (lentLine defaultTag line) (Refused (record { fault = q .fault; text = q .text; line = 1; field = q .field; needed = q .needed }))
+  unfolding lineValues lineAnswer lentLine
+  lone-refused q e = go (lentRecord defaultTag line) (sym e ∙ line-exact (lentRecord defaultTag line) got seen)
+    where
+      go : (a : Answer LentRecord) → Refused q ≡ lineAnswer a
+          → LineCall (onLine 1 a) (Refused (record { fault = q .fault; text = q .text; line = 1; field = q .field; needed = q .needed }))
+      go (accepted l) p = impossible cc
+      go (refused r) p = let z : q ≡ r = cc in rw z

@@ -2,7 +2,6 @@
 use Prim.Native.Nat.{ℕ, _+_}
 use mathlib.Core.Path.{_≡_}
 use mathlib.Core.Bool.{true, false}
-use mathlib.Core.List.{[]}
 use mathlib.Core.Option.{Option, none, some}
 use lib.Dec.{ltb}
 use Rattle.model.specs.declared.Fault.the-variants.{UnknownRecord}
@@ -35,8 +34,8 @@ use Rattle.record_parse.specs.Answers.{Answers}
 
 -- the answer for every BRDA body whose field 4 is at the front of rest
 pub record TakenRead (line block branch : ℕ) (rest : Bytes) (r : LineAnswer) : Type 0 where
-  pub is : (body : Bytes) → fromField 4 body ≡ some rest
-      → Answers [] r (takenField u64-max 4 body >>= λ taken. lastBefore 5 body (branchData line block branch taken))
+  pub is : (whole body : Bytes) → fromField 4 body ≡ some rest
+      → Answers whole r (takenField u64-max 4 body >>= λ taken. lastBefore 5 body (branchData line block branch taken))
 
 -- ---- the six kinds that hold one number
 

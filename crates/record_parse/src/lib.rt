@@ -4,9 +4,10 @@ ghost use Prim.Native.Nat.{_≤_};
 ghost use lib.ListN.{length, drop};
 ghost use Rattle.model.specs.Bytes.{before};
 ghost use Rattle.model.specs.Tags.{allKinds, defaultTag};
-ghost use Rattle.model.specs.Line.{kindAmong, readRecord, readLine};
-ghost use Rattle.model.specs.Calls.{lineRead};
-ghost use Rattle.record_parse.specs.Answers.{Answers, partsInside};
+ghost use Rattle.model.specs.Line.{kindAmong};
+ghost use Rattle.model.specs.Parts.{lentRecord, lentLine};
+ghost use Rattle.model.specs.Calls.{LineCall};
+ghost use Rattle.record_parse.specs.Answers.{Answers};
 ghost use Rattle.record_parse.specs.Lines.{bodyIn, bodyAt};
 
 mod fields;
@@ -79,8 +80,7 @@ fn tag_end(s: &[u8]) -> usize
 
 // Reads a line; its refusal has no line number yet.
 pub fn read_record(line: &[u8]) -> LineAnswer
-    ensures answer { λ r. ⌜ lineRead (now (line .entry)) r ≡ readRecord defaultTag (now (line .entry)) ⌝ }
-    ensures inside { λ r. ⌜ partsInside (now (line .entry)) r ⌝ }
+    ensures { λ r. ⌜ LineCall (lentRecord defaultTag (now (line .entry))) r ⌝ }
 {
     let s = scan::trim(line);
     let colon = tag_end(s);
@@ -90,7 +90,7 @@ pub fn read_record(line: &[u8]) -> LineAnswer
 
 // Reads a lone line, which is line 1.
 pub fn read_line(line: &[u8]) -> LineAnswer
-    ensures { λ r. ⌜ lineRead (now (line .entry)) r ≡ readLine defaultTag (now (line .entry)) ⌝ }
+    ensures { λ r. ⌜ LineCall (lentLine defaultTag (now (line .entry))) r ⌝ }
 {
     let got = read_record(line);
     match got {

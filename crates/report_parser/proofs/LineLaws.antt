@@ -16,9 +16,10 @@ use Rattle.model.specs.Bytes.{Bytes, newline, before}
 use Rattle.model.specs.Answer.{accepted, refused}
 use Rattle.model.specs.Tags.{defaultTag}
 use Rattle.model.specs.Line.{readRecord}
-use Rattle.model.specs.Parts.{recordIn}
-use Rattle.model.specs.Calls.{lineRead}
-use Rattle.record_parse.specs.Answers.{partsInside}
+use Rattle.model.specs.Parts.{recordIn, lentRecord}
+use Rattle.model.specs.Calls.{LineCall, lineAnswer}
+use Rattle.model.proofs.CallLaws.{line-exact}
+use Rattle.model.proofs.LentLaws.{record-read, record-refused}
 use Rattle.section.specs.declared.State.{State}
 use Rattle.section.specs.declared.Step.{Step}
 use Rattle.section.specs.declared.Step.the-variants as S
@@ -54,42 +55,41 @@ module _ (text : List ℕ) (at len : ℕ) where
   pub line-end-fits : at < length text → len ≤ length (restOf text at) → length text < 2 ^ 64 → Fits w64 (at + len)
   line-end-fits h e b = record { fits = omega (arith, line-end h e) }
 
-module _ (text : List ℕ) (at len : ℕ) (got : LineAnswer) where
-  pub record-at : (lent : LentRecord) → got ≡ A.Read lent → partsInside (lineOf text at len) got → RecordAt text at len lent
-  record-at lent e i =
-      let (made, h) = inside lent e i in
-      record { made = made; is = rw (line-is text at len) at h }
-    where
-      inside : (lent : LentRecord) → got ≡ A.Read lent → partsInside (lineOf text at len) got → partsInside (lineOf text at len) (A.Read lent)
-      inside lent e i = rw e at i
+-- the answer about the line as the code lends it is that about the line
+as-lent : (text : List ℕ) (at len : ℕ) (got : LineAnswer) → LineCall (lentRecord defaultTag (lineOf text at len)) got
+    → got ≡ lineAnswer (lentRecord defaultTag (take len (drop at text)))
+as-lent text at len got is = line-exact (lentRecord defaultTag (take len (drop at text))) got (rw (line-is text at len) at is)
 
-module _ (text ws : List ℕ) (index limit at number len : ℕ) (st : State) (more : at < length text)
-    (cut : len ≡ length (before newline (restOf text at))) (short : len ≤ length (restOf text at)) (got : LineAnswer)
-    (is : lineRead (lineOf text at len) got ≡ readRecord defaultTag (lineOf text at len)) where
-  read-is : lineRead (take len (drop at text)) got ≡ readRecord defaultTag (take len (drop at text))
-  read-is = rw (line-is text at len) at is
+pub record-at : (text : List ℕ) (at len : ℕ) (got : LineAnswer) (lent : LentRecord) → got ≡ A.Read lent → LineCall (lentRecord defaultTag (lineOf text at len)) got
+    → RecordAt text at len lent
+record-at text at len got lent e is =
+    let (made, h, p) = record-read defaultTag (take len (drop at text)) got (as-lent text at len got is) lent e in
+    record { made = made; is = h }
 
-  pub done-refused : (q : Refusal) (r : LineStep) → got ≡ A.Refused q → r ≡ refusedLine number got → LineDone text ws ws index limit at number st r
-  unfolding lineRead
-  done-refused q r e h =
-      let f : readRecord defaultTag (take len (drop at text)) ≡ refused q = sym (rw e at read-is) in
-      let t = line-refused text ws index limit at number st more len (cut-is text at len cut) q f in
-      record { after = rw (h, e) t }
+module _ (text : List ℕ) (at len : ℕ) (got : LineAnswer) (is : LineCall (lentRecord defaultTag (lineOf text at len)) got) where
+  read-is : got ≡ lineAnswer (lentRecord defaultTag (take len (drop at text)))
+  read-is = as-lent text at len got is
 
-  module _ (lent : LentRecord) (e : got ≡ A.Read lent) (i : partsInside (lineOf text at len) got) (ws′ : List ℕ) (done : Step)
-      (steps : Steps text ws ws′ index limit st lent at len done) where
-    lent-is : recordIn (take len (drop at text)) lent ≡ readRecord defaultTag (take len (drop at text))
-    unfolding lineRead
-    lent-is = rw e at read-is
+  module _ (ws : List ℕ) (index limit number : ℕ) (st : State) (more : at < length text)
+      (cut : len ≡ length (before newline (restOf text at))) (short : len ≤ length (restOf text at)) where
+    pub done-refused : (q : Refusal) (r : LineStep) → got ≡ A.Refused q → r ≡ refusedLine number got → LineDone text ws ws index limit at number st r
+    done-refused q r e h =
+        let f = record-refused defaultTag (take len (drop at text)) got read-is q e in
+        let t = line-refused text ws index limit at number st more len (cut-is text at len cut) q f in
+        record { after = rw (h, e) t }
 
-    pub done-step : (fault : Fault) (r : LineStep) → done ≡ S.Refused fault → r ≡ refusedStep number done → LineDone text ws ws′ index limit at number st r
-    done-step fault r d h =
-        let r = record-at text at len got lent e i in
-        let t = step-refused text ws index limit at number st more len (cut-is text at len cut) lent (r .made) (r .is) lent-is ws′ done fault (steps .by (r .made) (r .is)) d in
-        record { after = rw (h, d) t }
+    module _ (lent : LentRecord) (e : got ≡ A.Read lent) (ws′ : List ℕ) (done : Step) (steps : Steps text ws ws′ index limit st lent at len done) where
+      lent-is : recordIn (take len (drop at text)) lent ≡ readRecord defaultTag (take len (drop at text))
+      lent-is = let (made, h, p) = record-read defaultTag (take len (drop at text)) got read-is lent e in h ∙ sym p
 
-    pub done-next : (after : State) → done ≡ S.Next after → LineDone text ws ws′ index limit at number st (L.Next after (at + len + 1))
-    done-next after d =
-        let r = record-at text at len got lent e i in
-        let (valid, left) = step-next text ws index limit at number st more len (cut-is text at len cut) lent (r .made) (r .is) lent-is ws′ done after (steps .by (r .made) (r .is)) d in
-        record { after = (valid, left, omega arith, omega (arith, line-end text at len more short)) }
+      pub done-step : (fault : Fault) (r : LineStep) → done ≡ S.Refused fault → r ≡ refusedStep number done → LineDone text ws ws′ index limit at number st r
+      done-step fault r d h =
+          let r = record-at text at len got lent e is in
+          let t = step-refused text ws index limit at number st more len (cut-is text at len cut) lent (r .made) (r .is) lent-is ws′ done fault (steps .by (r .made) (r .is)) d in
+          record { after = rw (h, d) t }
+
+      pub done-next : (after : State) → done ≡ S.Next after → LineDone text ws ws′ index limit at number st (L.Next after (at + len + 1))
+      done-next after d =
+          let r = record-at text at len got lent e is in
+          let (valid, left) = step-next text ws index limit at number st more len (cut-is text at len cut) lent (r .made) (r .is) lent-is ws′ done after (steps .by (r .made) (r .is)) d in
+          record { after = (valid, left, omega arith, omega (arith, line-end text at len more short)) }

@@ -20,10 +20,10 @@ gather-spec =
     (λ c. search needs)
     (λ c. let g = c .before .before .before .before .before .before .before in
     let s = start g in
-    gathered (now (s .args .bundle)) (now (s .args .out)) _ (s .pre .0) (s .pre .1) _ (c .before .n .given .0 .0) (g .gather-checked .result) (search needs) (search needs) (search needs))
+    gathered (now (s .args .bundle)) (now (s .args .out)) _ (s .pre .0) (s .pre .1) _ (c .before .n .given .0 .0) (g .gather-checked .result) (g .gather-checked .ensures .0) (search needs))
     (λ c. search needs)
     (λ c. search needs)
     (λ c. let p = c .before .before in
     let g = c .before .before .before .before .before .before .before .before .before .before .before in
     let s = start g in
-    gather-refused (now (s .args .bundle)) (now (s .args .out)) _ (s .pre .0) (s .pre .1) _ _ _ (g .gather-checked .result) _ (search needs) (search needs) (p .put-refusal .ensures .0) (p .put-refusal .ensures .1)))
+    gather-refused (now (s .args .bundle)) (now (s .args .out)) _ (s .pre .0) (s .pre .1) _ _ _ (g .gather-checked .result) _ (g .gather-checked .ensures .0) (search needs) (p .put-refusal .ensures .0) (p .put-refusal .ensures .1)))

@@ -12,7 +12,7 @@ use Rattle.model.specs.Printing.{sections, printSections}
 use Rattle.model.specs.Ranges.{wellFormedRanges}
 use Rattle.model.specs.Filter.{filterSection}
 use Rattle.line_num_pairs.specs.Pairs.{rangesIn}
-use Rattle.lcov.proofs.CallLaws.{limit-few, limit-room, reading-refused, reading-ready, reading-printed, filter-means, filter-bad}
+use Rattle.lcov.proofs.CallLaws.{called, limit-few, limit-room, reading-refused, reading-ready, reading-printed, filter-means, filter-bad}
 use Rattle.lcov.proofs.filter_text.Statement.{statement}
 use Rattle.lcov.proofs.filter_text.Tie as tie
 
@@ -51,9 +51,9 @@ filter-text-spec =
     let l = limited r in
     let s = start (l .before .before) in
     let a = s .args in
-    reading-refused _ _ _ (l .entry-limit .ensures) _ _ _ (r .read-lines .ensures) (printed s) (now (a .out)) _
+    called (reading-refused _ _ _ (l .entry-limit .ensures) _ _ _ (r .read-lines .ensures) (printed s) (now (a .out)) _
     (filter-means (now (a .text)) (rangesIn (now (a .pairs))) (a .used) (length (now (a .scratch))) (now (a .out)) (well l)) _
-    (c .before .refusal .given .1))
+    (c .before .refusal .given .1)))
     (λ c. search needs)
     (λ c κs. search (limit-few, needs))
     (λ c κs. let s = c .before .before in
@@ -71,11 +71,11 @@ filter-text-spec =
     let l = limited r in
     let s = start (l .before .before) in
     let a = s .args in
-    reading-printed _ _ _ (l .entry-limit .ensures) _ _ _ (r .read-lines .ensures) (printed s) (now (a .out)) _
+    called (reading-printed _ _ _ (l .entry-limit .ensures) _ _ _ (r .read-lines .ensures) (printed s) (now (a .out)) _
     (filter-means (now (a .text)) (rangesIn (now (a .pairs))) (a .used) (length (now (a .scratch))) (now (a .out)) (well l)) _ _
-    (k .kept .given .1) _ _ (p .print-filtered .ensures))
+    (k .kept .given .1) _ _ (p .print-filtered .ensures)))
     (λ c κs. search needs)
     (λ c. let e = c .before in
     let a = start (e .before) .args in
-    filter-bad (now (a .text)) (rangesIn (now (a .pairs))) (a .used) (length (now (a .scratch))) (now (a .out)) _
-    (sym (e .before .is-well-formed .ensures) ∙ e .if1 .left) (c .unplaced .ensures)))
+    called (filter-bad (now (a .text)) (rangesIn (now (a .pairs))) (a .used) (length (now (a .scratch))) (now (a .out)) _
+    (sym (e .before .is-well-formed .ensures) ∙ e .if1 .left) (c .unplaced .ensures))))

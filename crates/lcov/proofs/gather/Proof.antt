@@ -1,7 +1,7 @@
 -- `lcov::gather` meets its contract. Assumes nothing.
 use denote.Ref.{now}
 use borrow.Author.Needs.{needs}
-use Rattle.lcov.proofs.CallLaws.{limit-few, limit-space, well-formed, not-well-formed, gather-bad, gather-refused, gather-ready, gather-printed}
+use Rattle.lcov.proofs.CallLaws.{called, limit-few, limit-space, well-formed, not-well-formed, gather-bad, gather-refused, gather-ready, gather-printed}
 use Rattle.lcov.proofs.gather.Statement.{statement}
 use Rattle.lcov.proofs.gather.Tie as tie
 
@@ -27,8 +27,8 @@ gather-spec =
     (λ c. search needs)
     (λ c. let g = gathered (c .before .before .before) in
     let l = limited g in
-    gather-refused _ _ _ (well-formed _ _ (l .before .before .is-well-formed .ensures) (l .before .if1 .taken)) _ (l .entry-limit .ensures) _ _ (g .gather-texts .ensures)
-    _ _ (c .before .refusal .given .1))
+    called (gather-refused _ _ _ (well-formed _ _ (l .before .before .is-well-formed .ensures) (l .before .if1 .taken)) _ (l .entry-limit .ensures) _ _ (g .gather-texts .ensures)
+    _ _ (c .before .refusal .given .1)))
     (λ c. search needs)
     (λ c κs. search (limit-few, needs))
     (λ c κs. search (limit-few, needs))
@@ -45,8 +45,8 @@ gather-spec =
     let n = entries s in
     let g = gathered (n .before .before) in
     let l = limited g in
-    gather-printed _ _ _ (well-formed _ _ (l .before .before .is-well-formed .ensures) (l .before .if1 .taken)) _ (l .entry-limit .ensures) _ _ (g .gather-texts .ensures)
-    _ (n .n .given .1) _ (s .before .index-at .ensures) (now (l .before .before .before .before .before .before .args .out)) _ _ (p .print-report .ensures))
+    called (gather-printed _ _ _ (well-formed _ _ (l .before .before .is-well-formed .ensures) (l .before .if1 .taken)) _ (l .entry-limit .ensures) _ _ (g .gather-texts .ensures)
+    _ (n .n .given .1) _ (s .before .index-at .ensures) (now (l .before .before .before .before .before .before .args .out)) _ _ (p .print-report .ensures)))
     (λ c κs. search needs)
     (λ c. let e = c .before in
-    gather-bad _ _ _ _ _ (not-well-formed _ _ (e .before .is-well-formed .ensures) (e .if1 .left)) (c .unplaced .ensures)))
+    called (gather-bad _ _ _ _ _ (not-well-formed _ _ (e .before .is-well-formed .ensures) (e .if1 .left)) (c .unplaced .ensures))))

@@ -12,4 +12,4 @@ gather-checked-spec =
     (λ c. search needs)
     (λ c. search needs)
     (λ c. let g = c .before .before .before .before .gather .ensures in
-    (g .0, (g .1, accepts-and-writes _ _ _ _ _ (record { returns = g .0; leaves = g .1 })))))
+    (g, accepts-and-writes _ _ _ _ _ g)))

@@ -4,7 +4,7 @@ use borrow.Author.Needs.{needs}
 use lib.ListN.{length}
 use Rattle.model.specs.Tags.{defaultTag}
 use Rattle.model.specs.Printing.{printReport}
-use Rattle.lcov.proofs.CallLaws.{limit-few, limit-room, read-means, reading-refused, reading-ready, reading-printed}
+use Rattle.lcov.proofs.CallLaws.{called, limit-few, limit-room, read-means, reading-refused, reading-ready, reading-printed}
 use Rattle.lcov.proofs.read_text.Statement.{statement}
 use Rattle.lcov.proofs.read_text.Tie as tie
 
@@ -36,13 +36,13 @@ read-text-spec =
     (λ c. search needs)
     (λ c. let r = read (c .before .before .before) in
     let s = limited r .before .before .before .before .args in
-    reading-refused _ _ _ (limited r .entry-limit .ensures) _ _ _ (r .read-lines .ensures) (printReport defaultTag) (now (s .out)) _
-    (read-means (now (s .text)) (length (now (s .scratch))) (now (s .out))) _ (c .before .refusal .given .1))
+    called (reading-refused _ _ _ (limited r .entry-limit .ensures) _ _ _ (r .read-lines .ensures) (printReport defaultTag) (now (s .out)) _
+    (read-means (now (s .text)) (length (now (s .scratch))) (now (s .out))) _ (c .before .refusal .given .1)))
     (λ c. search needs)
     (λ c. search needs)
     (λ c. let p = c .before .before .before .before in
     let k = kept (p .before .before .before) in
     let r = read (k .before .before) in
     let s = limited r .before .before .before .before .args in
-    reading-printed _ _ _ (limited r .entry-limit .ensures) _ _ _ (r .read-lines .ensures) (printReport defaultTag) (now (s .out)) _
-    (read-means (now (s .text)) (length (now (s .scratch))) (now (s .out))) _ _ (k .kept .given .1) _ _ (p .print-report .ensures)))
+    called (reading-printed _ _ _ (limited r .entry-limit .ensures) _ _ _ (r .read-lines .ensures) (printReport defaultTag) (now (s .out)) _
+    (read-means (now (s .text)) (length (now (s .scratch))) (now (s .out))) _ _ (k .kept .given .1) _ _ (p .print-report .ensures))))

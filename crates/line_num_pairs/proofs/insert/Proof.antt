@@ -1,6 +1,7 @@
 -- `line_num_pairs::insert` meets its contract. Assumes nothing.
 use native.Mathlib.Omega.{arith}
 use borrow.Author.Needs.{needs}
+use Rattle.model.proofs.CallLaws.{insert-called}
 use Rattle.line_num_pairs.proofs.CallLaws.{Meets, told-well, malformed-answer, malformed-slice, dropped-answer, dropped-slice, full-answer, full-slice, put-answer, put-slice}
 use Rattle.line_num_pairs.proofs.insert.Statement.{statement}
 use Rattle.line_num_pairs.proofs.insert.Tie as tie
@@ -28,10 +29,10 @@ insert-spec =
     (λ c κs. search needs)
     (λ c κs. search needs)
     (λ c. search needs)
-    (λ c. (search (malformed-answer, needs), search (malformed-slice, needs)))
+    (λ c. insert-called _ _ _ _ (search (malformed-answer, needs)) (search (malformed-slice, needs)))
     (λ c κs. search needs)
     (λ c. search needs)
-    (λ c. (search (dropped-answer, told-well, needs), search (dropped-slice, told-well, needs)))
+    (λ c. insert-called _ _ _ _ (search (dropped-answer, told-well, needs)) (search (dropped-slice, told-well, needs)))
     (λ c κs. search (told-well, needs))
     (λ c κs. (omega arith, omega arith, search needs))
     (λ c. omega arith)
@@ -39,7 +40,7 @@ insert-spec =
     (λ c. omega arith)
     (λ c κs. search needs)
     (λ c. search needs)
-    (λ c. let μ = meets (c .before .before .before) in (full-answer _ _ _ _ _ _ _ μ (omega arith) _ (c .unplaced2 .ensures), full-slice _ _ _ _ _ _ _ μ (omega arith)))
+    (λ c. let μ = meets (c .before .before .before) in insert-called _ _ _ _ (full-answer _ _ _ _ _ _ _ μ (omega arith) _ (c .unplaced2 .ensures)) (full-slice _ _ _ _ _ _ _ μ (omega arith)))
     (λ c κs. omega arith)
     (λ c. search needs)
-    (λ c. let μ = meets (c .before .before .before .before .before) in (put-answer _ _ _ _ _ _ _ μ (omega arith), put-slice _ _ _ _ _ _ _ μ (omega arith) _ (c .before .put-joined .ensures))))
+    (λ c. let μ = meets (c .before .before .before .before .before) in insert-called _ _ _ _ (put-answer _ _ _ _ _ _ _ μ (omega arith)) (put-slice _ _ _ _ _ _ _ μ (omega arith) _ (c .before .put-joined .ensures))))

@@ -1,5 +1,6 @@
 -- `line_num_pairs::query` meets its contract. Assumes nothing.
 use borrow.Author.Needs.{needs}
+use Rattle.model.proofs.CallLaws.{query-called}
 use Rattle.line_num_pairs.proofs.CallLaws.{told-well, query-malformed, query-held}
 use Rattle.line_num_pairs.proofs.query.Statement.{statement}
 use Rattle.line_num_pairs.proofs.query.Tie as tie
@@ -10,6 +11,6 @@ query-spec =
     (tie.spec
     (λ c κs. search needs)
     (λ c κs. search needs)
-    (λ c. search (query-malformed, needs))
+    (λ c. search (query-called, query-malformed, needs))
     (λ c κs. search (told-well, needs))
-    (λ c. search (query-held, needs)))
+    (λ c. search (query-called, query-held, needs)))

@@ -1,4 +1,5 @@
 use borrow.Author.Needs.{needs}
+use Rattle.model.proofs.CallLaws.{write-called}
 use Rattle.record_display.proofs.CountLaws.{counted-room, counted-written, counted-out}
 use Rattle.record_display.proofs.print_line_data.Statement.{statement}
 use Rattle.record_display.proofs.print_line_data.Tie as tie
@@ -9,7 +10,7 @@ print-line-data-spec =
     (tie.spec
     (λ c κs. search (counted-room, needs))
     (λ c. search needs)
-    (λ c. search (counted-written, counted-out, needs))
+    (λ c. search (write-called, counted-written, counted-out, needs))
     (λ c. search needs)
     (λ c κs. search needs)
     (λ c. search needs)

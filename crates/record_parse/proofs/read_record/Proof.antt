@@ -1,6 +1,6 @@
 use borrow.Author.Needs.{needs}
 use lib.Seq.{length-take-le}
-use Rattle.record_parse.proofs.TagLaws.{record-told, record-inside}
+use Rattle.record_parse.proofs.TagLaws.{record-read}
 use Rattle.record_parse.proofs.read_record.Statement.{statement}
 use Rattle.record_parse.proofs.read_record.Tie as tie
 
@@ -13,4 +13,4 @@ read-record-spec =
     (λ c κs. search needs)
     (λ c. search (length-take-le, needs))
     (λ c κs. search needs)
-    (λ c. search (record-told, record-inside, needs)))
+    (λ c. search (record-read, needs)))

@@ -59,5 +59,5 @@ read-line-at-spec =
     let g = t .before .before .before in
     let r = line c in
     let f = cut c in
-    done-next _ _ _ _ _ _ _ _ (start f .pre .1) (f .find .ensures .0) (f .find .ensures .1) (r .read-record .result) (r .read-record .ensures .0) (g .got .given .0 .0) (g .got .given .1)
-    (r .read-record .ensures .1) (t .step .last .1 .0) (t .step .result) (t .step .ensures) (d .done .given .0 .0) (d .done .given .1)))
+    done-next _ _ _ (r .read-record .result) (r .read-record .ensures) _ _ _ _ _ (start f .pre .1) (f .find .ensures .0) (f .find .ensures .1) (g .got .given .0 .0) (g .got .given .1)
+    (t .step .last .1 .0) (t .step .result) (t .step .ensures) (d .done .given .0 .0) (d .done .given .1)))
