@@ -62,10 +62,14 @@ pub(crate) fn read_function_data(line: &[u8], at: usize) -> LineAnswer
 {
     let short = scan_digits::short_number(line, at);
     let first = number_field(at, &line[at..], short, MAX_U64);
-    let Number::More { value: count, next } = first else {
+    let Number::More {
+        value: count,
+        next: rest,
+    } = first
+    else {
         return number_refusal(first, 1);
     };
-    let name = text_field(next, &line[next..]);
+    let name = text_field(rest, &line[rest..]);
     LineAnswer::Read(Record::FunctionData { count, name })
 }
 
