@@ -111,8 +111,9 @@ uint32_t lcov_query_range(const uint32_t (*pairs)[2], size_t pairs_len, size_t u
 /* The range that the half-open a..b is, its start and end as the first two words: a to b - 1, with b = 0 read as b = 1. */
 void lcov_half_open(uint32_t a, uint32_t b, uint64_t *answer, size_t answer_len);
 
-/* Reads one text and prints what of its report the pairs hold: branches and lines whose line is held; functions that have a start line
- * and of whose lines, up to one before the next function's start, some is held. A section that is emptied is printed as TN, SF and
+/* Reads one text and prints what of its report the pairs hold: branches and lines whose line is held; functions that have a start line s
+ * and for which a pair starts at e or before and ends at s or later, where e is one before the next function's start (0 stays 0), and 2^32 - 1
+ * for the last function. A section that is emptied is printed as TN, SF and
  * end_of_record. Refuses with 18, then as lcov_read_text does. */
 uint32_t lcov_filter(const uint8_t *text, size_t text_len, const uint32_t (*pairs)[2], size_t pairs_len, size_t used, uint64_t *scratch,
                      size_t scratch_len, uint8_t *out, size_t out_len, uint64_t *answer, size_t answer_len);

@@ -1,4 +1,4 @@
-"""The questions, made from a fixed seed: small inputs that lie in document 01's domain of comparison.
+"""The questions, made from a fixed seed: small inputs that lie in SPEC 10.2's domain of comparison.
 
 Each function gives the questions of one kind. What a reader would ask first is written out; a random generator fills up the rest.
 """

@@ -1,4 +1,4 @@
-// A bundle of texts (document 01, "Bundle and scratch"): n and T, little-endian u32, then n starts and n lengths, then T text bytes.
+// A bundle of texts (SPEC 7.1): n and T, little-endian u32, then n starts and n lengths, then T text bytes.
 use model::Part;
 ghost use mathlib.Core.Path.{_≡_};
 ghost use mathlib.Core.Bool.{true};

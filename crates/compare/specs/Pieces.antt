@@ -1,5 +1,4 @@
--- The pieces of a path between its slashes, and its components from a place on, for document 01's sentences that begin "Paths compare as
--- Unix `Path`". Assumes nothing.
+-- The pieces of a path between its slashes, and its components from a position on (SPEC 4.2). Assumes nothing.
 use Prim.Native.Nat.{ℕ, zero, suc, _+_, _-_, _≤_, _<_, Ordering, Ordering·lt, Ordering·eq}
 use mathlib.Core.Path.{_≡_}
 use mathlib.Core.Logic.{_≢_}

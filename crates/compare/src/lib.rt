@@ -1,5 +1,4 @@
-// Numbers, byte strings and paths compared in three ways: less, equal or greater. Document 01 says what is compared how, in the
-// paragraph that begins "Test names and function names compare by bytes".
+// Three-way comparison of numbers, byte strings and paths. SPEC 4 says which keys compare how.
 mod path;
 mod prefix;
 

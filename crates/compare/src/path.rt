@@ -1,5 +1,5 @@
-// Paths compared as Unix `Path` compares them, by components, from document 01's sentences that begin "Paths compare as Unix `Path`"
-// and its case (h). A path is cut into pieces at its slashes; most pieces are components.
+// Paths compared by components, as Unix `Path` does (SPEC 4.2, and case (h) of SPEC 11). A path is cut into pieces at its slashes; most
+// pieces are components.
 use crate::Order;
 use crate::compare_bytes;
 use crate::compare_numbers;

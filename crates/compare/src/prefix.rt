@@ -1,4 +1,4 @@
-// How much two byte strings have in common before they differ, which is where the comparisons of document 01 spend their time: eight
+// How much two byte strings have in common before they differ, which is where the comparisons of SPEC 4.1 spend their time: eight
 // bytes at a time, and then one by one.
 ghost use mathlib.Core.Path.{_≡_};
 ghost use Prim.Native.Nat.{_+_, _≤_, min};

@@ -1,4 +1,4 @@
-// A filtered report printed: `LineNum::apply` (document 01, "Filter"). Rows and index stay: of each section, the row numbers of what stays
+// A filtered report printed: `LineNum::apply` (SPEC 8.5). Rows and index stay: of each section, the row numbers of what stays
 // are put into the spare words, and the section is printed from there.
 use model::WriteAnswer;
 use print_report::KindRanges;

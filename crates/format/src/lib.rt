@@ -1,4 +1,4 @@
-// Bytes and decimal numbers written at the front of an output: what prints a count, of document 01's paragraph "Printing".
+// Bytes and decimal numbers written at the front of an output: what prints a count, of SPEC 2.6.
 ghost use mathlib.Core.Path.{_≡_};
 ghost use mathlib.Core.List.{_∷_};
 ghost use Prim.Native.Nat.{_+_, _≤_, _<_};

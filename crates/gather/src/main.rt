@@ -1,4 +1,4 @@
-// The program `gather` (document 01): a bundle on standard input, checked mode, 8,192 words of scratch and 65,536 bytes of output. It prints
+// The program `gather` (SPEC 7.3): a bundle on standard input, checked mode, 8,192 words of scratch and 65,536 bytes of output. It prints
 // the joined tracefile, or `refused` with the refusal's number, text, line and field.
 ghost use mathlib.Core.Path.{_≡_};
 ghost use lib.ListN.{length};

@@ -1,6 +1,12 @@
-// The calls that read texts (document 01): a bundle gathered, checked or lossy, one text read, and one filtered, each printed to the output;
+// The calls that read texts (SPEC 1.6): a bundle gathered, checked or lossy, one text read, and one filtered, each printed to the output;
 // beside them the calls for one line.
 // The scratch is lent; "After a call the scratch is free to hold anything, and no call reads what it held."
+pub use compare::Order;
+pub use compare::compare_bytes;
+pub use compare::compare_paths;
+pub use line_num_pairs::half_open;
+pub use line_num_pairs::insert;
+pub use line_num_pairs::query;
 use merge::Joined;
 use model::Fault;
 use model::Mode;

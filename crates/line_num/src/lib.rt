@@ -1,4 +1,4 @@
-// Ranges of lines (document 01, "After the gather"): "a lent slice of start and end pairs (u32) and a number of pairs used", a pair as
+// Ranges of lines (SPEC 8.1): "a lent slice of start and end pairs (u32) and a number of pairs used", a pair as
 // the struct `model::Range`. The borrow checker covers no function over a slice of structs: those that take one are thin and proved by
 // hand, and what they decide is decided by functions on numbers.
 use model::Fault;

@@ -1,4 +1,4 @@
-// Ranges of lines (document 01, "After the gather"): "a lent slice of start and end pairs (u32) and a number of pairs used". A pair is
+// Ranges of lines (SPEC 8.1): "a lent slice of start and end pairs (u32) and a number of pairs used". A pair is
 // an array of two, start and end.
 use model::Fault;
 use model::InsertAnswer;

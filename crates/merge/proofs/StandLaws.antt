@@ -1,4 +1,4 @@
--- Entries merged one after the other into a table that may be full: "11 to 13 in walk order .., then 10" (document 01). The new ones are kept
+-- Entries merged one after the other into a table that may be full: "11 to 13 in walk order .., then 10" (SPEC 5.3). The new ones are kept
 -- apart, so what is joined here is not all that the model has joined; but it is the same at the keys that are still to come, and so refuses
 -- the same. Assumes nothing.
 use Prim.Native.Nat.{ℕ, _+_, _≤_, _<_, Ordering, Ordering·lt, Ordering·eq, Ordering·gt}

@@ -1,4 +1,4 @@
-// Merges a text's report into the joined one (document 01, "Checked merge"): "key by key in order .. new entries are
+// Merges a text's report into the joined one (SPEC 5.1): "key by key in order .. new entries are
 // taken over", those of a known key are combined. "Then E is tested on what is joined so far." Both reports are tables
 // in one lent slice of words: the joined one before word `base`, the one that was read from there on.
 //

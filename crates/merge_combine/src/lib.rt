@@ -1,4 +1,4 @@
-// What two entries of one key make (document 01, "Checked merge"): "two given start lines must agree, two given checksums too; what only
+// What two entries of one key make (SPEC 5.1): "two given start lines must agree, two given checksums too; what only
 // one gives is kept, and so is a key's earlier spelling. Function counts add and stop at 2^64 − 1. Taken counts add, none adding nothing.
 // Line counts add." In the lossy mode "the later given start line or checksum wins".
 use model::Fault;

@@ -26,7 +26,7 @@ houseTag-lawful = record { different = refl; plain = refl }
 pub demand3-house : Demand3 houseTag
 demand3-house = demand3 houseTag houseTag-lawful
 
--- ---- misreadings of document 01, beside those that cases (b), (h) and (k) rule out
+-- ---- misreadings of SPEC 11.2, beside those that cases (b), (h) and (k) rule out
 
 -- the last of two DA lines of one text stays; they are not added
 pub line-replaced : readAndPrint defaultTag (ascii "DA:1,2\nDA:1,3\nend_of_record\n") 8_192 65_536
@@ -40,7 +40,7 @@ pub paths-ordered : readAndPrint defaultTag (ascii "SF:a-b\nDA:1,1\nend_of_recor
 unfolding open-all
 paths-ordered = refl
 
--- a text is printed in document 01's order, with its own found and hit numbers, and not echoed
+-- a text is printed in SPEC 6.1's order, with its own found and hit numbers, and not echoed
 pub not-echoed : readAndPrint defaultTag (ascii "DA:2,0\nLF:9\nDA:1,1\nend_of_record\n") 8_192 65_536
     ≡ accepted (ascii "TN:\nSF:\nDA:1,1\nDA:2,0\nLF:2\nLH:1\nend_of_record\n")
 unfolding open-all

@@ -1,4 +1,4 @@
--- Cases (a) to (l) of document 01, as one claim about the definitions and one proof, by computation. Assumes nothing.
+-- Cases (a) to (l) of SPEC 11.1, as one claim about the definitions and one proof, by computation. Assumes nothing.
 use Prim.Native.Nat.{ℕ, Ordering·lt, Ordering·eq}
 use mathlib.Core.Path.{_≡_, refl}
 use mathlib.Core.Bool.{true}

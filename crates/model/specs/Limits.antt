@@ -1,4 +1,4 @@
--- The fixed numbers of document 01, each named once. Assumes nothing.
+-- The fixed numbers of SPEC 12, each named once. Assumes nothing.
 use Prim.Native.Nat.{ℕ}
 
 abbrev pub u32-max : ℕ

@@ -1,5 +1,5 @@
 -- A valid report: what each report that was read or joined is, and what makes it one that, printed, is read back. No definition
--- of document 01 needs it; the proofs and the contracts of the code do. Assumes nothing.
+-- of docs/SPEC.md needs it; the proofs and the contracts of the code do. Assumes nothing.
 use Prim.Native.Nat.{_≤_}
 use mathlib.Core.Path.{_≡_}
 use mathlib.Core.Bool.{false}

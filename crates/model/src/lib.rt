@@ -1,7 +1,7 @@
 // The plain values that cross every call: records and their parts, ranges, modes, and answers with their refusals.
 // specs/ defines what they mean.
 
-// Why a call is refused. `numberOf` in specs/Answer.antt gives each its number in document 01's table; the names of the faults that
+// Why a call is refused. `numberOf` in specs/Answer.antt gives each its number in SPEC 9.1's table; the names of the faults that
 // the Rust has too are the Rust's.
 pub enum Fault {
     UnknownRecord,

@@ -1,4 +1,4 @@
--- Points that document 01 leaves open, as docs/DECISIONS.md settles them, and the refusals that the Rust does not know: one claim about
+-- Points that the requirements leave open, as docs/DECISIONS.md decides them, and the refusals that the Rust does not know: one claim about
 -- the definitions, on the smallest inputs, and one proof, by computation. Assumes nothing.
 use Prim.Native.Nat.{ℕ, _+_, _*_}
 use mathlib.Core.Path.{_≡_, refl}

@@ -1,4 +1,4 @@
-// Prints the report of a table: `into_records` (document 01, "Printing"). "Sections in key order: TN, SF, functions,
+// Prints the report of a table: `into_records` (SPEC 6.1). "Sections in key order: TN, SF, functions,
 // branches, lines, end_of_record." Where the output may be too short, a measuring pass with the same code comes first.
 use model::Fault;
 use model::Refusal;

@@ -1,4 +1,4 @@
-// Prints rows as lines (document 01, "Printing"), in one code for two passes: one measures, with an offset that
+// Prints rows as lines (SPEC 6), in one code for two passes: one measures, with an offset that
 // saturates at 2^64 − 1; one writes: "Each line is written into the rest of the output".
 use model::Checksum;
 use model::Part;

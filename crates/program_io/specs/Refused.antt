@@ -7,7 +7,7 @@ use Rattle.model.specs.Answer.{numberOf, refused}
 use Rattle.model.specs.Gather.{printedAnswer}
 use Rattle.format.specs.Put.{pair}
 
--- its line, as document 01's program prints it
+-- its line, as SPEC 7.3's program prints it
 abbrev pub refusedLine : Refusal → Bytes
 refusedLine r = printedAnswer (refused r)
 

@@ -45,7 +45,7 @@ fn put_places(number: u64, text: u64, line: u64, field: u64, out: &mut [u8]) -> 
     at + n
 }
 
-// `refused`, number, text, line and field, parted by blanks (document 01, "Program `gather`"), at the front of out.
+// `refused`, number, text, line and field, parted by blanks (SPEC 7.3), at the front of out.
 pub fn put_refusal(refusal: Refusal, out: &mut [u8]) -> usize
     requires { ⌜ max-refused ≤ length (now out) ⌝ }
     ensures { λ r. ⌜ (r ≡ length (refusedLine «refusal»)) × (now (out .exit) ≡ over (refusedLine «refusal») (now (out .entry))) ⌝ }
@@ -74,9 +74,11 @@ pub fn show_refusal(refusal: Refusal) {
     write_first(&line, n);
 }
 
-// The first n bytes.
+// Writes the first n bytes, or all where there are fewer.
 pub fn write_first(bytes: &[u8], n: usize) {
     if n <= bytes.len() {
         io::write_all(1, &bytes[..n]);
+    } else {
+        io::write_all(1, bytes);
     }
 }

@@ -1,4 +1,4 @@
-// A record printed as a line: `Display for Record`, document 01's "The line printer tries 17, then 14".
+// A record printed as a line: `Display for Record`, SPEC 2.6's "The line printer tries 17, then 14".
 ghost use mathlib.Core.Path.{_≡_};
 ghost use mathlib.Core.List.{[]};
 ghost use lib.ListN.{length};

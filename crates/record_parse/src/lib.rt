@@ -1,4 +1,4 @@
-// A line read: `Record::from_str`, document 01's paragraph "One line".
+// A line read: `Record::from_str`, SPEC 2.
 ghost use mathlib.Core.Path.{_≡_};
 ghost use Prim.Native.Nat.{_≤_};
 ghost use lib.ListN.{length, drop};

@@ -1,4 +1,4 @@
-// Document 01's number of a fault, by the table `numberOf` of the model.
+// SPEC 9.1's number of a fault, by the table `numberOf` of the model.
 ghost use mathlib.Core.Path.{_≡_};
 ghost use Rattle.model.specs.Answer.{numberOf, unplaced};
 use model::Fault;

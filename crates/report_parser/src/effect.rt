@@ -1,4 +1,4 @@
-// The effect of one record on the reading state (document 01, "Sections"): "TN lines, then lines of other tags, then
+// The effect of one record on the reading state (SPEC 3.2): "TN lines, then lines of other tags, then
 // end_of_record". TN names the next section, SF gives the path, FN, FNDA, BRDA and DA add an item, and found and hit
 // lines only open the section.
 use model::Checksum;

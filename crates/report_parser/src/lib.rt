@@ -1,5 +1,5 @@
-// A text read into the lent scratch: `section::parse`, reached by `Report::from_reader` (document 01, "Sections"). "A text is cut at each
-// byte 10; an empty last piece is no line." The words hold the state between two lines; see crates section and store.
+// A text read into the lent scratch: `section::parse`, reached by `Report::from_reader` (SPEC 3.1). "A text is cut at each
+// byte 10; an empty last piece is no line." The words hold the state between two lines; see crates section and table.
 mod effect;
 
 use model::Fault;

@@ -1,5 +1,5 @@
 // Bytes searched, compared and trimmed, and numbers read. These are the words "bytes 10 and 13 are dropped" and "a number may begin with
-// one '+'" of document 01's paragraph "One line".
+// one '+'" of SPEC 2.1.
 ghost use mathlib.Core.Path.{_≡_};
 ghost use Prim.Native.Nat.{_≤_, _<_};
 ghost use lib.ListN.{length, take};

@@ -1,4 +1,4 @@
-// The reading state between two lines, and the effect of each record on it (document 01, "Sections"). Each step answers the model's next
+// The reading state between two lines, and the effect of each record on it (SPEC 3.2). Each step answers the model's next
 // state, read back from the words, or the fault; entries are counted after the record took effect.
 use model::Fault;
 use model::Part;

@@ -1,4 +1,4 @@
-// The open section's append tail (document 01, "Sections"). Rows that arrive out of order are appended behind the
+// The open section's append tail (SPEC 3.3). Rows that arrive out of order are appended behind the
 // items, with no search. The exact items are needed only at end_of_record, on FNDA and when no row is free: then the
 // tail is flushed, that is presorted with main and upserted row by row.
 use model::Fault;

@@ -1,4 +1,4 @@
-// Upsert into the open section (document 01, "Sections"): insert a new key, or combine with the row that has it. The
+// Upsert into the open section (SPEC 3.3): insert a new key, or combine with the row that has it. The
 // items are a sorted main part and a small sorted delta behind it. A key greater than all others, as in most texts, is
 // appended to main. Any other new key goes to the delta, which is merged into main when it is full, so that unsorted
 // lines rarely move main.

@@ -1,4 +1,4 @@
-// The items of the open section (document 01, "Sections"): rows in the order of an index, ascending by key. A row's names are parts of
+// The items of the open section (SPEC 3.3): rows in the order of an index, ascending by key. A row's names are parts of
 // the lent text, so a row means an item only together with the text.
 use compare::Order;
 use model::Checksum;

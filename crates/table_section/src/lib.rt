@@ -1,5 +1,5 @@
 // Sections as ranges of rows: comparison, equal range, splice. "A section whose key (test name, path) a kept section
-// has replaces that section's data, and the key's first spelling stays" (document 01). The index holds the kept entries
+// has replaces that section's data, and the key's first spelling stays" (SPEC 3.4). The index holds the kept entries
 // first: main, then the delta (crate section_commit). The open section's header row and its items follow, then free
 // rows.
 use compare::Order;

@@ -1,4 +1,4 @@
-// Compares pairs of paths and writes a line for each: those of document 01's case (h), and the spellings that its
+// Compares pairs of paths and writes a line for each: those of SPEC 11.1's case (h), and the spellings that its
 // paragraph on paths distinguishes or not.
 use compare::Order;
 

@@ -1,4 +1,4 @@
-// Writes what ranges and the filter answer: document 01's cases (i), (j) and (k), and a call for each refusal that no line, text or bundle
+// Writes what ranges and the filter answer: SPEC 11.1's cases (i), (j) and (k), and a call for each refusal that no line, text or bundle
 // gives: 15, 17 and 18.
 use model::InsertAnswer;
 use model::Part;

@@ -56,7 +56,7 @@ impl Expected {
     }
 }
 
-/// Document 01 reads bytes, and one past 127 is in no tag, no digit and nothing that parts fields. So it may be any such byte:
+/// SPEC 1.1 reads bytes, and one past 127 is in no tag, no digit and nothing that parts fields. So it may be any such byte:
 /// numbers and places stay.
 fn stub(line: &[u8]) -> Vec<u8> {
     line.iter()
@@ -175,7 +175,7 @@ pub fn too_short(needed: usize) -> Answer {
 
 // ---- paths
 
-/// Paths that are not UTF-8 are no keys of the Rust's; document 01 orders them as Unix `Path` all the same.
+/// Paths that are not UTF-8 are no keys of the Rust's; SPEC 4.2 orders them as Unix `Path` all the same.
 pub fn path_order(a: &[u8], b: &[u8]) -> u32 {
     let order = oracle::compare_paths(a, b)
         .unwrap_or_else(|_| Path::new(OsStr::from_bytes(a)).cmp(Path::new(OsStr::from_bytes(b))));

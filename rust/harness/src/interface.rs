@@ -2,7 +2,7 @@
 
 /// The calls of the port on lines and paths, in safe form.
 ///
-/// A number is 0 for an answer and else document 01's refusal. The eight words are written where the slice holds them all; a shorter
+/// A number is 0 for an answer and else SPEC 1.7's refusal. The eight words are written where the slice holds them all; a shorter
 /// slice stays, and so do words past the eighth.
 pub trait Port {
     fn read_line(&self, line: &[u8], answer: &mut [u64]) -> u32;

@@ -5,7 +5,7 @@ use crate::interface::{EQUAL, GREATER, KIND, LESS};
 use crate::lines::LAYOUTS;
 use std::fmt;
 
-/// Document 01's numbers for a lone line.
+/// SPEC 9.1's numbers for a lone line.
 pub const REFUSALS: [&str; 6] = [
     "tag unknown",
     "field missing",

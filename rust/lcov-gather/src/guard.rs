@@ -1,6 +1,6 @@
 //! The guard: finds where the reading of one file would let one thing replace another, so that counts or a test name are lost.
 //!
-//! The library reads as document 01 says: a later section, DA or BRDA with the key of an earlier one replaces it, FN sets a function's
+//! The library reads as SPEC 3.2 says: a later section, DA or BRDA with the key of an earlier one replaces it, FN sets a function's
 //! count to 0, and a test name holds for one section. A section without functions, branches and lines is dropped and replaces nothing.
 
 use crate::path::canonical;

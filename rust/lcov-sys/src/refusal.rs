@@ -38,7 +38,7 @@ impl Refusal {
 
     pub fn meaning(&self) -> &'static str {
         self.fault()
-            .map_or("no refusal of document 01", Fault::meaning)
+            .map_or("an unknown refusal", Fault::meaning)
     }
 }
 
@@ -60,7 +60,7 @@ mod tests {
         assert_eq!(last.meaning(), "the range list is not well formed");
         assert_eq!(
             Refusal { number: 19, ..last }.meaning(),
-            "no refusal of document 01"
+            "an unknown refusal"
         );
     }
 }

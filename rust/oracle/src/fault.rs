@@ -6,7 +6,7 @@ use std::any::Any;
 use std::num::IntErrorKind;
 use std::panic::{self, AssertUnwindSafe};
 
-/// Document 01's number, and the place where the fault was met: a text's index from 0, line and field from 1. What does not apply is 0.
+/// SPEC 9.2's number, and the place where the fault was met: a text's index from 0, line and field from 1. What does not apply is 0.
 #[derive(Debug, Clone, Copy, PartialEq, Eq)]
 pub struct Refusal {
     pub number: u32,
@@ -84,7 +84,7 @@ fn number_fault(kind: &IntErrorKind) -> u32 {
     }
 }
 
-/// The Rust names a field; document 01 counts it. Only `count` stands in two places: `FNDA:count,name` and `DA:line,count`.
+/// The Rust names a field; SPEC 2.4 counts it. Only `count` stands in two places: `FNDA:count,name` and `DA:line,count`.
 fn field_number(line: &str, name: &str) -> u32 {
     match name {
         "start_line" | "line" | "found" | "hit" => 1,

@@ -1,7 +1,7 @@
-//! The oracle: the unchanged Rust asked for what document 01 asks of the port, in document 01's words and numbers.
+//! The oracle: the unchanged Rust asked what the port is asked, its answers in the numbers of SPEC 9.
 //!
-//! Every question is answered by a value or a [`Fault`]. A fault is a refusal with document 01's number and place, or says that the
-//! question lies outside the domain of comparison: bytes that are not UTF-8, and sums and range lists for which document 01 added a
+//! Every question is answered by a value or a [`Fault`]. A fault is a refusal with SPEC 9.2's number and place, or says that the
+//! question lies outside the domain of comparison: bytes that are not UTF-8, and sums and range lists for which SPEC 10.2 added a
 //! number. Limits on entries and on the output (10, 14, 15) are the port's alone and are not known here.
 
 // The Rust's files name each other from the root of their crate, so they stand at the root of this one.

@@ -1,4 +1,4 @@
-//! The Rust answers document 01's cases as document 01 says, and the oracle tells what lies outside the comparison.
+//! The Rust answers the cases of SPEC 11, and the oracle tells what lies outside the comparison.
 
 use oracle::filter::line_num::Range;
 use oracle::{closed, Fault, Mode, Record, Refusal};

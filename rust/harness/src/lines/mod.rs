@@ -30,7 +30,7 @@ pub struct Layout {
     pub fields: &'static [Form],
 }
 
-/// Document 01's table of fields, in the order of `RecordKind`.
+/// SPEC 2.4's table of fields, in the order of `RecordKind`.
 pub const LAYOUTS: [Layout; 13] = {
     use Form::{Checksum, Taken, Text, U32, U64};
     [

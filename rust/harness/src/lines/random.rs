@@ -197,7 +197,7 @@ fn character(rng: &mut Rng) -> char {
 /// Lines that go on with a text.
 const BEFORE_TEXT: [&[u8]; 5] = [b"TN:", b"SF:", b"FN:7,", b"FNDA:7,", b"DA:7,7,"];
 
-/// Document 01's callers may hand in any bytes, and a text takes them.
+/// SPEC 10.1's callers may hand in any bytes, and a text takes them.
 fn not_utf8(rng: &mut Rng) -> Vec<u8> {
     let line = match rng.below(4) {
         0 => return text_of_bytes(rng),

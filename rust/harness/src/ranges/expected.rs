@@ -1,4 +1,4 @@
-//! What a call on ranges must answer: the Rust's answer, and where document 01 added a number, that.
+//! What a call on ranges must answer: the Rust's answer, and where SPEC 9.1 added a number, that.
 
 use super::List;
 use crate::expected::{refused, Answer};

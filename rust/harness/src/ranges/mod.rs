@@ -1,4 +1,4 @@
-//! Ranges of lines: random lists, what document 01 expects of an insert, a query and a half-open range, and the comparison with the port.
+//! Ranges of lines: random lists, what SPEC 8 expects of an insert, a query and a half-open range, and the comparison with the port.
 
 pub mod compare;
 pub mod expected;

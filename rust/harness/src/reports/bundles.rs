@@ -1,4 +1,4 @@
-//! Bundles as bytes: made, and taken apart by document 01's words.
+//! Bundles as bytes: made, and taken apart by SPEC 7.1's words.
 
 pub use lcov_sys::MAX_TEXTS;
 

@@ -1,4 +1,4 @@
-//! What a reading, a filter or a gather must answer: the Rust's answer, and where document 01 added a number, the count's.
+//! What a reading, a filter or a gather must answer: the Rust's answer, and where SPEC 9.1 added a number, the count's.
 
 use super::reference::{self, Entries, SUM_OF_CALLS, SUM_OF_RUNS, TOO_MANY_ENTRIES};
 use super::{bundles, Asked};
@@ -89,7 +89,7 @@ fn rust(asked: Asked, texts: &[&[u8]]) -> Result<Vec<u8>, Fault> {
     }
 }
 
-/// The Rust decides. Where a sum of it passes its type, and only there, the count gives the number that document 01 added.
+/// The Rust decides. Where a sum of it passes its type, and only there, the count gives the number that SPEC 9.1 added.
 fn agreed(counted: Result<Report, Refusal>, rust: Result<Vec<u8>, Fault>) -> Told {
     let counted = counted.map(oracle::print_report);
     match rust {

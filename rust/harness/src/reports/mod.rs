@@ -1,4 +1,4 @@
-//! Questions about readings, filters and gathers: texts and bundles, what document 01 expects of them, and the comparison with the port.
+//! Questions about readings, filters and gathers: texts and bundles, what SPEC 7 expects of them, and the comparison with the port.
 
 pub mod bundles;
 pub mod compare;

@@ -1,6 +1,6 @@
 //! Recorded bundles and what the program `gather` prints for them, for a run without Rust.
 //!
-//! The answers are the Rust's; where document 01 added a number (9, 10, 13, 14 and 16) they are the count's.
+//! The answers are the Rust's; where SPEC 9.1 added a number (9, 10, 13, 14 and 16) they are the count's.
 
 use super::expected::{Expected, NOT_WELL_FORMED};
 use super::systematic::ascending;

@@ -1,6 +1,6 @@
-//! Document 01's readings, filters and gathers once more, with what the Rust does not count: entries, and sums that pass their type.
+//! SPEC 3's readings, filters and gathers once more, with what the Rust does not count: entries, and sums that pass their type.
 //!
-//! The maps are the Rust's, so that keys are its keys; what is done with them is written here from document 01 alone.
+//! The maps are the Rust's, so that keys are its keys; what is done with them is written here from SPEC 3 alone.
 
 use oracle::report::section::{branch, function, line, Key, Sections, Value};
 use oracle::{Fault, Mode, Record, Refusal, Report};

@@ -7,7 +7,7 @@ use std::fmt;
 
 const QUESTIONS: usize = 4;
 
-/// Numbers of document 01, and 0 for an answer.
+/// Numbers of SPEC 9.1, and 0 for an answer.
 const NUMBERS: usize = 19;
 
 /// What each number says; those that no text or bundle can give are empty.

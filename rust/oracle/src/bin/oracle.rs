@@ -14,7 +14,7 @@
 //! | `query s-e,.. s e`                | `yes` or `no`                                              |
 //! | `filter TEXT s-e,..`              | the filtered report printed                                |
 //!
-//! Any request may instead be answered `refused NUMBER TEXT LINE FIELD` (document 01's numbers), or `outside`: outside the domain of
+//! Any request may instead be answered `refused NUMBER TEXT LINE FIELD` (SPEC 9.1's numbers), or `outside`: outside the domain of
 //! comparison. A request that is none of these ends the program with a message.
 
 use oracle::filter::line_num::Range;
