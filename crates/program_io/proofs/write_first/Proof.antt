@@ -10,4 +10,5 @@ write-first-spec =
     (λ c. search (length-take-le, needs))
     (λ c κs. search needs)
     (λ c. search needs)
+    (λ c. search needs)
     (λ c. search needs))
