@@ -5,7 +5,7 @@ use mathlib.Core.Bool.{true, false}
 use mathlib.Core.List.{List}
 use Rattle.ordmap.proofs.Results.{impossible}
 use Rattle.model.specs.declared.Fault.{Fault}
-use Rattle.model.specs.declared.Fault.the-variants.{UnknownRecord, UnexpectedEof}
+use Rattle.model.specs.declared.Fault.the-variants.{UnexpectedEof}
 use Rattle.model.specs.declared.Record.{Record}
 use Rattle.model.specs.declared.Refusal.{Refusal}
 use Rattle.model.specs.declared.LineAnswer.{LineAnswer}
@@ -14,22 +14,30 @@ use Rattle.section.specs.declared.State.{State}
 use Rattle.section.specs.declared.Step.{Step}
 use Rattle.section.specs.declared.Step.the-variants as S
 use Rattle.section.specs.Reading.{AllInMain}
+use Rattle.report_parser.specs.declared.LineStep.{LineStep}
 use Rattle.report_parser.specs.declared.LineStep.the-variants as L
 use Rattle.report_parser.specs.declared.TextAnswer.the-variants as T
-use Rattle.report_parser.specs.Reader.{atLine, faultAt, refusedLine, refusedStep, TextFinished}
+use Rattle.report_parser.specs.Reader.{atLine, faultAt, LineRefuses, StepRefuses, RefusedLine, RefusedStep, TextFinished}
 
-module _ (number : ℕ) (r : Refusal) where
-  pub line-is-refused : (got : LineAnswer) (q : Refusal) → got ≡ A.Refused q → r ≡ atLine number q → L.Refused r ≡ refusedLine number got
-  line-is-refused got q e h = rw (e, h)
+module _ (got : LineAnswer) where
+  pub line-refuses : (q : Refusal) → got ≡ A.Refused q → LineRefuses got
+  line-refuses q e = rw e tt
 
-  pub line-is-read : (got : LineAnswer) (made : Record) → got ≡ A.Read made → r ≡ faultAt number UnknownRecord → L.Refused r ≡ refusedLine number got
-  line-is-read got made e h = rw (e, h)
+  pub line-is-refused : (number : ℕ) (r q : Refusal) → got ≡ A.Refused q → r ≡ atLine number q → RefusedLine number got (L.Refused r)
+  line-is-refused number r q e h = rw (e, h)
 
-  pub step-is-refused : (done : Step) (fault : Fault) → done ≡ S.Refused fault → r ≡ faultAt number fault → L.Refused r ≡ refusedStep number done
-  step-is-refused done fault e h = rw (e, h)
+  pub line-is-read : (made : Record) (number : ℕ) (r : LineStep) → got ≡ A.Read made → LineRefuses got → RefusedLine number got r
+  line-is-read made number r e w = absurd (rw e at w)
 
-  pub step-is-next : (done : Step) (st : State) → done ≡ S.Next st → r ≡ faultAt number UnknownRecord → L.Refused r ≡ refusedStep number done
-  step-is-next done st e h = rw (e, h)
+module _ (done : Step) where
+  pub step-refuses : (fault : Fault) → done ≡ S.Refused fault → StepRefuses done
+  step-refuses fault e = rw e tt
+
+  pub step-is-refused : (number : ℕ) (r : Refusal) (fault : Fault) → done ≡ S.Refused fault → r ≡ faultAt number fault → RefusedStep number done (L.Refused r)
+  step-is-refused number r fault e h = rw (e, h)
+
+  pub step-is-next : (st : State) (number : ℕ) (r : LineStep) → done ≡ S.Next st → StepRefuses done → RefusedStep number done r
+  step-is-next st number r e w = absurd (rw e at w)
 
 -- ---- the text's end
 

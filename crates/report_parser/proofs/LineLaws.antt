@@ -1,7 +1,7 @@
 -- One line of the loop, as the code meets it: the line is a part of the text that the code cut. Assumes nothing.
 use Prim.Native.Nat.{ℕ, _+_, _-_, _^_, _≤_, _<_}
 use native.Mathlib.Omega.{arith}
-use mathlib.Core.Path.{_≡_, refl, sym, ap, _∙_}
+use mathlib.Core.Path.{_≡_, sym, ap, _∙_}
 use mathlib.Core.List.{List}
 use lib.ListN.{length, take, drop, length-drop}
 use lib.Seq.{take-all}
@@ -12,8 +12,7 @@ use Rattle.model.specs.declared.LineAnswer.the-variants as A
 use Rattle.model.specs.declared.Record.{Record as LentRecord}
 use Rattle.model.specs.declared.Refusal.{Refusal}
 use Rattle.model.specs.declared.Fault.{Fault}
-use Rattle.model.specs.Bytes.{Bytes, newline, before}
-use Rattle.model.specs.Answer.{accepted, refused}
+use Rattle.model.specs.Bytes.{newline, before}
 use Rattle.model.specs.Tags.{defaultTag}
 use Rattle.model.specs.Line.{readRecord}
 use Rattle.model.specs.Parts.{recordIn, lentRecord}
@@ -26,7 +25,7 @@ use Rattle.section.specs.declared.Step.the-variants as S
 use Rattle.report_parser.specs.declared.LineStep.{LineStep}
 use Rattle.report_parser.specs.declared.LineStep.the-variants as L
 use Rattle.report_parser.specs.Effect.{RecordAt, Steps}
-use Rattle.report_parser.specs.Reader.{refusedLine, refusedStep, LineDone}
+use Rattle.report_parser.specs.Reader.{atLine, faultAt, RefusedLine, RefusedStep, LineDone}
 use Rattle.report_parser.proofs.LoopLaws.{line-refused, step-refused, step-next}
 
 -- the rest of the text, as the code lends it
@@ -72,21 +71,23 @@ module _ (text : List ℕ) (at len : ℕ) (got : LineAnswer) (is : LineCall (len
 
   module _ (ws : List ℕ) (index limit number : ℕ) (st : State) (more : at < length text)
       (cut : len ≡ length (before newline (restOf text at))) (short : len ≤ length (restOf text at)) where
-    pub done-refused : (q : Refusal) (r : LineStep) → got ≡ A.Refused q → r ≡ refusedLine number got → LineDone text ws ws index limit at number st r
+    pub done-refused : (q : Refusal) (r : LineStep) → got ≡ A.Refused q → RefusedLine number got r → LineDone text ws ws index limit at number st r
     done-refused q r e h =
-        let f = record-refused defaultTag (take len (drop at text)) got read-is q e in
-        let t = line-refused text ws index limit at number st more len (cut-is text at len cut) q f in
-        record { after = rw (h, e) t }
+        let a = record-refused defaultTag (take len (drop at text)) got read-is q e in
+        let t = line-refused text ws index limit at number st more len (cut-is text at len cut) q a in
+        let f : r ≡ L.Refused (atLine number q) = rw e at h in
+        record { after = rw f t }
 
     module _ (lent : LentRecord) (e : got ≡ A.Read lent) (ws′ : List ℕ) (done : Step) (steps : Steps text ws ws′ index limit st lent at len done) where
       lent-is : recordIn (take len (drop at text)) lent ≡ readRecord defaultTag (take len (drop at text))
       lent-is = let (made, h, p) = record-read defaultTag (take len (drop at text)) got read-is lent e in h ∙ sym p
 
-      pub done-step : (fault : Fault) (r : LineStep) → done ≡ S.Refused fault → r ≡ refusedStep number done → LineDone text ws ws′ index limit at number st r
+      pub done-step : (fault : Fault) (r : LineStep) → done ≡ S.Refused fault → RefusedStep number done r → LineDone text ws ws′ index limit at number st r
       done-step fault r d h =
-          let r = record-at text at len got lent e is in
-          let t = step-refused text ws index limit at number st more len (cut-is text at len cut) lent (r .made) (r .is) lent-is ws′ done fault (steps .by (r .made) (r .is)) d in
-          record { after = rw (h, d) t }
+          let ρ = record-at text at len got lent e is in
+          let t = step-refused text ws index limit at number st more len (cut-is text at len cut) lent (ρ .made) (ρ .is) lent-is ws′ done fault (steps .by (ρ .made) (ρ .is)) d in
+          let f : r ≡ L.Refused (faultAt number fault) = rw d at h in
+          record { after = rw f t }
 
       pub done-next : (after : State) → done ≡ S.Next after → LineDone text ws ws′ index limit at number st (L.Next after (at + len + 1))
       done-next after d =

@@ -26,7 +26,7 @@ use Rattle.model.specs.Answer.{Answer, accepted, refuse}
 use Rattle.model.specs.Report.{sectionItem, functionItem, branchItem, lineItem}
 use Rattle.model.specs.Parts.{partOf, takenIn}
 use Rattle.table_item.specs.Items.{part, ifGiven, partIn, PartInside, checksumPart, ChecksumInside, byKind, kindOf, function-kind, itemOf, Makes}
-use Rattle.report_parser.specs.Effect.{kindNumber, no-part, textPart, itemIn, PartWithin, ChecksumWithin, TextsWithin, movedPart, movedChecksum, RowOf}
+use Rattle.report_parser.specs.Effect.{no-part, textPart, PartWithin, ChecksumWithin, TextsWithin, movedPart, movedChecksum, AddsItem, RowOf}
 
 -- ---- parts
 
@@ -144,27 +144,24 @@ module _ {at len : ℕ} {r : Row} where
 abbrev itemless : List ℕ
 itemless = 0 ∷ 1 ∷ 4 ∷ 5 ∷ 7 ∷ 8 ∷ 10 ∷ 11 ∷ 12 ∷ []
 
--- a record of another kind
-any-row : (lent : LentRecord) → OneOf itemless (tagOf the-type lent)
-    → ((bytes : Bytes) → lineItem 0 0 none ≡ itemIn bytes lent) × (kindNumber lent ≡ 3 → ⊥)
-any-row (Lent.TestName p) h = (λ bytes. refl, λ k. omega arith)
-any-row (Lent.SourceFile p) h = (λ bytes. refl, λ k. omega arith)
-any-row (Lent.FunctionName start p) h = absurd (miss itemless 2 tt h)
-any-row (Lent.FunctionData count p) h = absurd (miss itemless 3 tt h)
-any-row (Lent.FunctionsFound found) h = (λ bytes. refl, λ k. omega arith)
-any-row (Lent.FunctionsHit hit) h = (λ bytes. refl, λ k. omega arith)
-any-row (Lent.BranchData line block branch taken) h = absurd (miss itemless 6 tt h)
-any-row (Lent.BranchesFound found) h = (λ bytes. refl, λ k. omega arith)
-any-row (Lent.BranchesHit hit) h = (λ bytes. refl, λ k. omega arith)
-any-row (Lent.LineData line count checksum) h = absurd (miss itemless 9 tt h)
-any-row (Lent.LinesFound found) h = (λ bytes. refl, λ k. omega arith)
-any-row (Lent.LinesHit hit) h = (λ bytes. refl, λ k. omega arith)
-any-row Lent.EndOfRecord h = (λ bytes. refl, λ k. omega arith)
+never : false ≡ true → ⊥
+never e = impossible cc
 
-pub other-of : {at len : ℕ} {r : Row} (lent : LentRecord) → OneOf itemless (tagOf the-type lent)
-    → Makes r (λ text. lineItem 0 0 (checksumPart text Ck.Absent)) (λ text. ChecksumInside text Ck.Absent) → RowOf at len lent r
-other-of {at} lent h μ = record {
-  is = λ text. μ .is text ∙ any-row lent h .0 (drop at text);
-  inner = λ text q. μ .inner text tt;
-  adds = λ k. absurd (any-row lent h .1 k);
-}
+-- a record of another kind adds none
+no-item : (lent : LentRecord) → OneOf itemless (tagOf the-type lent) → AddsItem lent → ⊥
+no-item (Lent.TestName p) h a = absurd (never a)
+no-item (Lent.SourceFile p) h a = absurd (never a)
+no-item (Lent.FunctionName start p) h a = absurd (miss itemless 2 tt h)
+no-item (Lent.FunctionData count p) h a = absurd (miss itemless 3 tt h)
+no-item (Lent.FunctionsFound found) h a = absurd (never a)
+no-item (Lent.FunctionsHit hit) h a = absurd (never a)
+no-item (Lent.BranchData line block branch taken) h a = absurd (miss itemless 6 tt h)
+no-item (Lent.BranchesFound found) h a = absurd (never a)
+no-item (Lent.BranchesHit hit) h a = absurd (never a)
+no-item (Lent.LineData line count checksum) h a = absurd (miss itemless 9 tt h)
+no-item (Lent.LinesFound found) h a = absurd (never a)
+no-item (Lent.LinesHit hit) h a = absurd (never a)
+no-item Lent.EndOfRecord h a = absurd (never a)
+
+pub other-of : {at len : ℕ} {r : Row} (lent : LentRecord) → OneOf itemless (tagOf the-type lent) → AddsItem lent → RowOf at len lent r
+other-of lent h a = absurd (no-item lent h a)

@@ -28,7 +28,7 @@ use Rattle.section.specs.declared.State.{State}
 use Rattle.section.specs.declared.Step.{Step}
 use Rattle.section.specs.Reading.{stateOf, counted, StepOf, StepBy}
 use Rattle.section.proofs.StateLaws.{step-as}
-use Rattle.report_parser.specs.Effect.{kindNumber, textPart, itemIn, PartWithin, ChecksumWithin, TextsWithin, movedPart, RowOf, RecordAt, Steps}
+use Rattle.report_parser.specs.Effect.{kindNumber, textPart, itemIn, PartWithin, ChecksumWithin, TextsWithin, movedPart, addsItem, AddsItem, RowOf, RecordAt, Steps}
 use Rattle.report_parser.proofs.RowLaws.{part-read, moved-is}
 
 -- ---- by number
@@ -78,6 +78,11 @@ module _ (text : Bytes) (item : Item) (s : ModelState) where
   is-added k (functionEntered h g) = by-two 2 k (λ n. meaning n text item s ≡ enterItem (combineOf (eqb n 3)) item s) h g refl refl
   is-added k (branchEntered e) = rw e refl
   is-added k (lineEntered e) = rw e refl
+
+adds-item : (k : ℕ) → Added k → addsItem k ≡ true
+adds-item k (functionEntered h g) = by-two 2 k (λ n. addsItem n ≡ true) h g refl refl
+adds-item k (branchEntered e) = rw e refl
+adds-item k (lineEntered e) = rw e refl
 
 -- ---- a record of a line
 
@@ -135,6 +140,11 @@ within-line {text} {at} {len} {lent} ρ = read len (drop at text) lent (ρ .is) 
 
 pub text-within : {text : Bytes} {at len : ℕ} {p : Part} {lent : LentRecord} → RecordAt text at len lent → p ≡ textPart lent → PartWithin len p
 text-within ρ e = rw e (within-line ρ .text)
+
+pub added-item : {text : Bytes} {at len k : ℕ} {lent : LentRecord} → k ≡ kindNumber lent → (k ≤ 12 → Added k) → RecordAt text at len lent → AddsItem lent
+added-item {text} {at} {len} {k} {lent} κ β ρ =
+    let most = read len (drop at text) lent (ρ .is) .most in
+    rw (sym κ) (adds-item k (β (rw κ most)))
 
 pub adds-of : {at len k : ℕ} {lent : LentRecord} {r : Row} → k ≡ kindNumber lent → RowOf at len lent r → Adds (eqb k 3) r
 adds-of {at} {len} {k} {lent} {r} e ω = go (eqb k 3) refl

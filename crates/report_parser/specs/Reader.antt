@@ -5,7 +5,7 @@ use mathlib.Core.Bool.{false, cond}
 use mathlib.Core.List.{List}
 use lib.ListN.{length, drop}
 use Rattle.model.specs.declared.Fault.{Fault}
-use Rattle.model.specs.declared.Fault.the-variants.{UnknownRecord, UnexpectedEof}
+use Rattle.model.specs.declared.Fault.the-variants.{UnexpectedEof}
 use Rattle.model.specs.declared.Refusal.{Refusal}
 use Rattle.model.specs.declared.LineAnswer.{LineAnswer}
 use Rattle.model.specs.declared.LineAnswer.the-variants as A
@@ -41,14 +41,23 @@ atLine line r = record { fault = r .fault; text = r .text; line = line; field = 
 abbrev pub faultAt : ℕ → Fault → Refusal
 faultAt line fault = record { fault = fault; text = 0; line = line; field = 0; needed = 0 }
 
--- the refusal at its line; an answer that is no refusal becomes an unknown record
-abbrev pub refusedLine : ℕ → LineAnswer → LineStep
-refusedLine number (A.Refused r) = L.Refused (atLine number r)
-refusedLine number (A.Read made) = L.Refused (faultAt number UnknownRecord)
+-- the answer is a refusal
+abbrev pub LineRefuses : LineAnswer → Type 0
+LineRefuses (A.Refused q) = Unit {0}
+LineRefuses (A.Read made) = ⊥
 
-abbrev pub refusedStep : ℕ → Step → LineStep
-refusedStep number (S.Refused fault) = L.Refused (faultAt number fault)
-refusedStep number (S.Next st) = L.Refused (faultAt number UnknownRecord)
+abbrev pub StepRefuses : Step → Type 0
+StepRefuses (S.Refused fault) = Unit {0}
+StepRefuses (S.Next st) = ⊥
+
+-- r is the answer's refusal, at the line; an answer that is no refusal has none
+abbrev pub RefusedLine : ℕ → LineAnswer → LineStep → Type 0
+RefusedLine number (A.Refused q) r = r ≡ L.Refused (atLine number q)
+RefusedLine number (A.Read made) r = ⊥
+
+abbrev pub RefusedStep : ℕ → Step → LineStep → Type 0
+RefusedStep number (S.Refused fault) r = r ≡ L.Refused (faultAt number fault)
+RefusedStep number (S.Next st) r = ⊥
 
 -- at the text's end no section may be open
 abbrev pub endedText : State → ℕ → ℕ → TextAnswer

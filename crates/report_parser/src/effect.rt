@@ -20,7 +20,7 @@ ghost use Prim.Native.Nat.{_+_, _≤_};
 ghost use lib.ListN.{length};
 ghost use Rattle.model.specs.Limits.{u64-max};
 ghost use Rattle.section.specs.Reading.{HoldsState};
-ghost use Rattle.report_parser.specs.Effect.{kindNumber, textPart, movedPart, movedChecksum, PartWithin, ChecksumWithin, TextsWithin, RowOf, RecordAt, Steps};
+ghost use Rattle.report_parser.specs.Effect.{kindNumber, textPart, movedPart, movedChecksum, PartWithin, ChecksumWithin, TextsWithin, RowOf, RecordAt, Steps, AddsItem};
 
 // The only kind whose counts are added.
 const FUNCTION_DATA: u8 = 3;
@@ -89,9 +89,9 @@ fn move_checksum(checksum: Checksum, at: usize, len: usize) -> Checksum
     }
 }
 
-// The row that an FN, FNDA, BRDA or DA line adds; it is called for no other record.
+// The row that an FN, FNDA, BRDA or DA line adds. No caller hands over another record.
 fn item_row(record: Record, at: usize, len: usize) -> Row
-    requires { ⌜ (at + len ≤ u64-max) × TextsWithin len «record» ⌝ }
+    requires { ⌜ (at + len ≤ u64-max) × TextsWithin len «record» × AddsItem «record» ⌝ }
     ensures { λ r. ⌜ RowOf at len «record» r ⌝ }
 {
     match record {

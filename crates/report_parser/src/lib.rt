@@ -11,7 +11,7 @@ ghost use mathlib.Core.Path.{_≡_};
 ghost use Prim.Native.Nat.{_≤_, _<_};
 ghost use lib.ListN.{length};
 ghost use Rattle.section.specs.Reading.{SectionRoom, HoldsState};
-ghost use Rattle.report_parser.specs.Reader.{atLine, faultAt, refusedLine, refusedStep, LineDone, TextFinished, TextRead};
+ghost use Rattle.report_parser.specs.Reader.{atLine, faultAt, LineRefuses, StepRefuses, RefusedLine, RefusedStep, LineDone, TextFinished, TextRead};
 
 // The state after a line and where the next line starts, or why the text is refused.
 enum LineStep {
@@ -51,9 +51,10 @@ fn at_line(line: u64, refusal: Refusal) -> Refusal
     }
 }
 
-// A line that is refused ends the reading there. (Handed a record that was read, which no caller does, it refuses too.)
+// A line that is refused ends the reading there. No caller hands over a record that was read.
 fn refused_line(got: LineAnswer, number: u64) -> LineStep
-    ensures { λ r. ⌜ r ≡ refusedLine number got ⌝ }
+    requires { ⌜ LineRefuses got ⌝ }
+    ensures { λ r. ⌜ RefusedLine number got r ⌝ }
 {
     match got {
         LineAnswer::Refused(refusal) => LineStep::Refused(at_line(number, refusal)),
@@ -61,9 +62,10 @@ fn refused_line(got: LineAnswer, number: u64) -> LineStep
     }
 }
 
-// So does a record that can't take effect.
+// So does a record that can't take effect. No caller hands over a state.
 fn refused_step(done: Step, number: u64) -> LineStep
-    ensures { λ r. ⌜ r ≡ refusedStep number done ⌝ }
+    requires { ⌜ StepRefuses done ⌝ }
+    ensures { λ r. ⌜ RefusedStep number done r ⌝ }
 {
     match done {
         Step::Refused(fault) => LineStep::Refused(fault_at(number, fault)),

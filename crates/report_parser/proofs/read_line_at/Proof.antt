@@ -4,6 +4,7 @@ use native.Mathlib.Omega.{arith}
 use lib.ListN.{length}
 use denote.Ref.{now}
 use borrow.Author.Needs.{needs}
+use Rattle.report_parser.proofs.AnswerLaws.{line-refuses, step-refuses}
 use Rattle.report_parser.proofs.LineLaws.{line-end, line-end-fits, record-at, done-refused, done-step, done-next}
 use Rattle.report_parser.proofs.read_line_at.Statement.{statement}
 use Rattle.report_parser.proofs.read_line_at.Tie as tie
@@ -43,12 +44,12 @@ read-line-at-spec =
     (λ c κs. search needs)
     (λ c. search needs)
     (λ c. search needs)
-    (λ c κs. search needs)
+    (λ c κs. search (line-refuses, needs))
     (λ c. search (done-refused, needs))
     (λ c κs. search (line-end, record-at, needs))
     (λ c. search needs)
     (λ c. search needs)
-    (λ c κs. search needs)
+    (λ c κs. search (step-refuses, needs))
     (λ c. search needs)
     (λ c. search (done-step, needs))
     (λ c. let p = places (cut c) in omega arith)

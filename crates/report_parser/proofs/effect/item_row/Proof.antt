@@ -30,4 +30,4 @@ item-row-spec =
     let e = t .record4 .given .1 in
     row-as e (line-of (c .before .move-checksum .ensures) (within-as e (t .before .before .pre .1)) (c .line-row .ensures)))
     (λ c κs. search needs)
-    (λ c. other-of _ (c .before .match .keys5) (c .line-row2 .ensures)))
+    (λ c. other-of _ (c .before .match .keys5) (c .before .before .pre .2)))

@@ -1,13 +1,18 @@
 -- `effect::step` meets its contract. Assumes nothing.
 use mathlib.Core.Logic.{⊎-elim}
+use Prim.Native.Nat.{_≤_}
 use native.Mathlib.Omega.{arith}
-use Rattle.report_parser.proofs.StepLaws.{foundFunctions, foundBranches, foundLines, functionEntered, branchEntered, lineEntered, within-line, text-within, adds-of, names, opens, ends, ignores, adds}
+use Rattle.report_parser.proofs.StepLaws.{foundFunctions, foundBranches, foundLines, Added, functionEntered, branchEntered, lineEntered, within-line, text-within, added-item, adds-of, names, opens, ends, ignores, adds}
 use borrow.Author.Needs.{needs}
 use Rattle.report_parser.proofs.effect.step.Statement.{statement}
 use Rattle.report_parser.proofs.effect.step.Tie as tie
 
 abbrev start : tie.After-kind-number → tie.Start
 start y = y .before .before .before
+
+-- the kinds that are left
+entered : (j : tie.Joined1) → j .before .before .kind-number .result ≤ 12 → Added (j .before .before .kind-number .result)
+entered j most = ⊎-elim (λ w. functionEntered (omega arith) (omega arith)) (λ v. ⊎-elim (λ w. branchEntered (omega arith)) (λ u. ⊎-elim (λ w. lineEntered (omega arith)) (λ w. absurd (omega arith)) u) v) (j .if1 .came)
 
 pub step-spec : {M : Type 1} → statement M
 step-spec =
@@ -45,7 +50,9 @@ step-spec =
     ignores (y .kind-number .ensures)
     (⊎-elim (λ w. foundFunctions (omega arith) (omega arith)) (λ v. ⊎-elim (λ w. foundBranches (omega arith) (omega arith)) (λ w. foundLines (omega arith) (omega arith)) v) (j .if2 .came))
     (o .on-source-file2 .ensures _ ζ (ζ .path)))
-    (λ c κs. let s = start (c .before .before) in (omega arith, within-line (s .pre .2)))
+    (λ c κs. let y = c .before .before in
+    let s = start y in
+    (omega arith, within-line (s .pre .2), added-item (y .kind-number .ensures) (λ most. entered c most) (s .pre .2)))
     (λ c κs. let i = c .before in
     let y = i .before .before .before in
     let s = start y in
@@ -56,5 +63,5 @@ step-spec =
     let j = i .before in
     let y = j .before .before in
     adds (y .kind-number .ensures) _
-    (λ most. ⊎-elim (λ w. functionEntered (omega arith) (omega arith)) (λ v. ⊎-elim (λ w. branchEntered (omega arith)) (λ u. ⊎-elim (λ w. lineEntered (omega arith)) (λ w. absurd (omega arith)) u) v) (j .if1 .came))
+    (λ most. entered j most)
     (i .item-row .ensures) (e .on-item .ensures)))
