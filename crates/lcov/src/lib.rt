@@ -1,5 +1,5 @@
 // The calls that read texts (SPEC 1.6): a bundle gathered, checked or lossy, one text read, and one filtered, each printed to the output;
-// beside them the calls for one line.
+// beside them the calls for one line, for range lists, and for paths and bytes. This is the public surface.
 // The scratch is lent; "After a call the scratch is free to hold anything, and no call reads what it held."
 pub use compare::Order;
 pub use compare::compare_bytes;

@@ -16,14 +16,14 @@ ghost use Rattle.line_num_pairs.specs.Pairs.{pair};
 ghost use Rattle.line_num.specs.Scans.{scanStart, passesBy, staysBy, scannedBy, scanOf, scanAnswer};
 ghost use Rattle.line_num.specs.Steps.{planBy, planOf, answerOf, PlanFits, readAt, putAt, rewritten};
 
-pub fn range_at(list: &[Range], i: usize) -> Range
+fn range_at(list: &[Range], i: usize) -> Range
     requires { ⌜ i < length (now list) ⌝ }
     ensures { λ r. ⌜ r ≡ getD (now (list .entry)) i (pair 0 0) ⌝ }
 {
     list[i]
 }
 
-pub fn put_range(list: &mut [Range], i: usize, range: Range)
+fn put_range(list: &mut [Range], i: usize, range: Range)
     requires { ⌜ i < length (now list) ⌝ }
     ensures { λ _. ⌜ now (list .exit) ≡ set (now (list .entry)) i range ⌝ }
 {
