@@ -1,11 +1,11 @@
-//! Links the port, an archive that `rt staticlib lcov_c` writes, into the two programs that call it.
+//! Links the port, an archive that `rt staticlib lcov_c` writes, into the programs that call it.
 //!
 //! It is found where LCOV_PORT says (as seen from the repository's root), by default `target/staticlib/liblcov_c.a`.
 
 use std::env;
 use std::path::PathBuf;
 
-const CALLERS: [&str; 2] = ["harness", "bench"];
+const CALLERS: [&str; 3] = ["harness", "bench", "port"];
 
 fn main() {
     let root = PathBuf::from(env::var_os("CARGO_MANIFEST_DIR").unwrap()).join("../..");

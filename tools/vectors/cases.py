@@ -1,6 +1,6 @@
 """The questions, made from a fixed seed: small inputs that lie in SPEC 10.2's domain of comparison.
 
-Each function gives the questions of one kind. What a reader would ask first is written out; a random generator fills up the rest.
+EXAMPLES are worked out as theorems, by crate `model_vectors`. Each function gives the questions of one kind. What a reader would ask first is written out; a random generator fills up the rest.
 """
 
 import random
@@ -362,3 +362,20 @@ def filters():
         text = damaged(rng, text, bad) if text and rng.random() < 0.08 else text
         asked.append((joined(rng, text), pairs(rng)))
     return distinct(asked)
+
+
+# ---- examples
+
+ROOM_A = "TN:a\nSF:m.c\nFN:3,f\nFNDA:2,f\nDA:3,2\nend_of_record\n"
+ROOM_B = "TN:a\nSF:m.c\nFN:3,f\nFNDA:5,f\nDA:3,5\nDA:4,0\nend_of_record\n"
+OTHER_START = "TN:a\nSF:m.c\nFN:4,f\nend_of_record\n"
+
+EXAMPLES = {
+    "lines": ["DA:3,2,c", "BRDA:3,0,1,-", "FN:4294967296,f"],
+    "paths": [("a//b", "a/./b"), ("a/b", "a-b")],
+    "texts": ["SF:a\nDA:1,1\nDA:1,2\nend_of_record\n", "TN:a\nSF:b\n"],
+    "gathers": [("checked", [ROOM_A, ROOM_B]), ("checked", [ROOM_A, OTHER_START]), ("lossy", [ROOM_A, OTHER_START])],
+    "inserts": ["1-2,4-5,3-3", "5..7,9..9"],
+    "queries": [(((1, 3),), 3, 2), (((1, 2), (5, 6)), 3, 4)],
+    "filters": [("SF:a\nFN:3,f\nFN:5,g\nDA:4,1\nDA:6,1\nend_of_record\n", ((4, 4),))],
+}

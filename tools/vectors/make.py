@@ -1,12 +1,12 @@
 #!/usr/bin/env python3
-"""Makes the seeded set: asks the oracle the questions of cases.py and writes the answers as the crate `model_vectors`.
+"""Asks the Rust and the port the questions of cases.py, and writes a few of them, with the Rust's answers, for the crate `model_vectors`.
 
-    make.py             writes crates/model_vectors/specs
-    make.py --check     writes nothing, and fails if a file there is not what would be written
-    make.py --to DIR    writes to another folder
+    make.py             writes crates/model_vectors/specs/Examples.antt
+    make.py --check     writes nothing, and fails if that file is not what would be written
 
-Each written file holds questions with the Rust's answers, and a law for each part of them: the definitions of crate `model` give the
-same answers, by computation. Asked.antt, written by hand, says what is asked. It needs cargo and the Rust (see rust/oracle).
+Both ways it fails if the port answers a question otherwise than the Rust. The written file holds the examples of cases.py and a law for
+each kind of them: the definitions of crate `model` give the same answers, by computation. Asked.antt, written by hand, says what is asked.
+It needs cargo, the Rust (see rust/oracle) and the static library (`rt staticlib lcov_c`).
 """
 
 import argparse
@@ -19,12 +19,13 @@ import antt
 import cases
 
 ROOT = pathlib.Path(__file__).resolve().parent.parent.parent
-SPECS = ROOT / "crates/model_vectors/specs"
+EXAMPLES = ROOT / "crates/model_vectors/specs/Examples.antt"
 ORACLE = ROOT / "rust/target/release/oracle"
+PORT = ROOT / "rust/target/release/port"
 WIDTH = 140
 
 
-# ---- requests: see the head of rust/oracle/src/bin/oracle.rs
+# ---- requests: see the head of rust/oracle/src/requests.rs
 
 
 def hexed(text):
@@ -35,9 +36,9 @@ def shown_pairs(pairs):
     return ",".join(f"{start}-{end}" for start, end in pairs) or "-"
 
 
-def ask(requests):
+def ask(requests, program=ORACLE):
     whole = "".join(request + "\n" for request in requests)
-    answered = subprocess.run([ORACLE], input=whole, capture_output=True, text=True, check=True).stdout.splitlines()
+    answered = subprocess.run([program], input=whole, capture_output=True, text=True, check=True).stdout.splitlines()
     assert len(answered) == len(requests)
     return answered
 
@@ -46,31 +47,14 @@ def ask(requests):
 
 
 class Kind:
-    """A kind of question: its file, the names of Asked.antt that it uses, and how many questions a law computes."""
-
-    extra_uses = ()
-    model_uses = ()
-    asked_uses = ("gives", "refuses")
+    """A kind of question: the names of Asked.antt that its examples use, how it is asked, and how it is written."""
 
     def questions(self):
-        return getattr(cases, self.name)()
-
-    def uses(self, body):
-        asked = {self.type, "Agrees", self.ask, "open-asked"} | {name for name in self.asked_uses if f"{name} " in body}
-        listed = "[], _∷_" + (", _++_" if " ++ " in body else "")
-        return [
-            "use mathlib.Core.Path.{refl}",
-            f"use mathlib.Core.List.{{List, {listed}}}",
-            *self.extra_uses,
-            *(["use Rattle.model.specs.Bytes.{ascii}"] if "ascii " in body else []),
-            *self.model_uses,
-            f"use Rattle.model_vectors.specs.Asked.{{{', '.join(sorted(asked))}}}",
-        ]
+        return cases.EXAMPLES[self.name] + getattr(cases, self.name)()
 
 
 class Lines(Kind):
-    name, title, type, ask, part = "lines", "one line: its record and the record printed", "Line", "askLine", 50
-    extra_uses = ("use mathlib.Core.Option.{none, some}",)
+    name, type, ask = "lines", "Line", "askLine"
 
     def requests(self, line):
         return [f"line {hexed(line)}", f"print {hexed(line)}"]
@@ -80,15 +64,9 @@ class Lines(Kind):
         answer = antt.told(shown, lambda record: f"{antt.record(record)}, {antt.printed(printed.removeprefix('ok '))}")
         return antt.byte_string(line.encode()), answer
 
-    def uses(self, body):
-        made = [name for name in antt.RECORDS.values() if f"({name}" in body or f" {name}," in body]
-        self.model_uses = (f"use Rattle.model.specs.Record.{{{', '.join(made)}}}",)
-        return super().uses(body)
-
 
 class Paths(Kind):
-    name, title, type, ask, part = "paths", "two paths compared", "Paths", "askPaths", 40
-    asked_uses = ("less", "equal", "greater")
+    name, type, ask = "paths", "Paths", "askPaths"
 
     def requests(self, pair):
         return [f"paths {hexed(pair[0])} {hexed(pair[1])}"]
@@ -99,7 +77,7 @@ class Paths(Kind):
 
 
 class Texts(Kind):
-    name, title, type, ask, part = "texts", "one text: its report printed", "Text", "askText", 20
+    name, type, ask = "texts", "Text", "askText"
 
     def requests(self, text):
         return [f"text {hexed(text)}"]
@@ -109,9 +87,7 @@ class Texts(Kind):
 
 
 class Gathers(Kind):
-    name, title, type, ask, part = "gathers", "texts gathered", "Gather", "askGather", 20
-    asked_uses = ("gives", "refuses", "refusesIn")
-    model_uses = ("use Rattle.model.specs.declared.Mode.the-variants.{Checked, Lossy}",)
+    name, type, ask = "gathers", "Gather", "askGather"
 
     def requests(self, gather):
         mode, texts = gather
@@ -124,9 +100,7 @@ class Gathers(Kind):
 
 
 class Inserts(Kind):
-    name, title, type, ask, part = "inserts", "ranges inserted one after another", "Inserts", "askInserts", 60
-    asked_uses = ("gives", "refuses", "range")
-    model_uses = ("use Rattle.model.specs.Ranges.{halfOpen}",)
+    name, type, ask = "inserts", "Inserts", "askInserts"
 
     def requests(self, inserts):
         return [f"insert {inserts or '-'}"]
@@ -141,9 +115,7 @@ class Inserts(Kind):
 
 
 class Queries(Kind):
-    name, title, type, ask, part = "queries", "pairs of lines queried", "Query", "askQuery", 60
-    extra_uses = ("use mathlib.Core.Bool.{true, false}",)
-    asked_uses = ("gives", "refuses", "range")
+    name, type, ask = "queries", "Query", "askQuery"
 
     def requests(self, query):
         pairs, start, end = query
@@ -156,8 +128,7 @@ class Queries(Kind):
 
 
 class Filters(Kind):
-    name, title, type, ask, part = "filters", "one text filtered by pairs of lines", "Filtered", "askFilter", 20
-    asked_uses = ("gives", "refuses", "range")
+    name, type, ask = "filters", "Filtered", "askFilter"
 
     def requests(self, question):
         text, pairs = question
@@ -175,18 +146,56 @@ def pairs_of(shown):
     return [pair.split("-") for pair in shown.split(",")] if shown != "-" else []
 
 
-# ---- files
+# ---- answers
 
 
 def answered(kind):
-    """Questions with their answers. A question outside the domain of comparison would be a mistake of cases.py."""
+    """Questions with the Rust's answers. A question outside the domain of comparison would be a mistake of cases.py."""
     asked = kind.questions()
     requests = [kind.requests(question) for question in asked]
-    answers = iter(ask([request for each in requests for request in each]))
-    pairs = [(question, [next(answers) for _ in each]) for question, each in zip(asked, requests)]
+    each = [request for of_one in requests for request in of_one]
+    answers = ask(each)
+    differ = [f"{request}: {rust}; the port: {port}" for request, rust, port in zip(each, answers, ask(each, PORT)) if rust != port]
+    assert not differ, "\n".join(["the port answers otherwise:", *differ])
+    rest = iter(answers)
+    pairs = [(question, [next(rest) for _ in of_one]) for question, of_one in zip(asked, requests)]
     outside = [question for question, told in pairs if told[0] == "outside"]
     assert not outside, f"outside the domain of comparison: {outside}"
     return pairs
+
+
+def summary(name, pairs):
+    numbers = collections.Counter(int(told[0].split(" ")[1]) for _, told in pairs if told[0].startswith("refused"))
+    refused = ", ".join(f"{number}: {many}" for number, many in sorted(numbers.items()))
+    return f"{name}: {len(pairs)} questions" + (f", refused by number: {refused}" if refused else "")
+
+
+# ---- the file
+
+# what the examples may use, by module
+USED = {
+    "mathlib.Core.Path": ["refl"],
+    "mathlib.Core.Bool": ["true", "false"],
+    "mathlib.Core.List": ["List", "[]", "_∷_", "_++_"],
+    "mathlib.Core.Option": ["none", "some"],
+    "Rattle.model.specs.declared.Mode.the-variants": ["Checked", "Lossy"],
+    "Rattle.model.specs.Bytes": ["ascii"],
+    "Rattle.model.specs.Record": list(antt.RECORDS.values()),
+    "Rattle.model.specs.Ranges": ["halfOpen"],
+    "Rattle.model_vectors.specs.Asked": [
+        "Agrees", *(name for kind in KINDS for name in (kind.type, kind.ask)), "gives", "refuses", "refusesIn", "range", "less", "equal",
+        "greater", "open-asked",
+    ],
+}
+
+
+def uses(body):
+    """The imports that the laws need."""
+    words = set(body.replace("(", " ").replace(")", " ").replace(",", " ").split())
+    for module, names in USED.items():
+        needed = [name for name in names if name.strip("_") in words]
+        if needed:
+            yield f"use {module}.{{{', '.join(needed)}}}"
 
 
 def laid_out(name, vectors):
@@ -203,46 +212,35 @@ def laid_out(name, vectors):
     return made + "\n    ∷ []\n"
 
 
-def law(kind, number, vectors):
-    name = f"{kind.name}-{number}"
+def law(kind, pairs):
+    vectors = [kind.vector(*pair) for pair in pairs[: len(cases.EXAMPLES[kind.name])]]
     return (
-        f"\nabbrev pub {name} : List {kind.type}\n{laid_out(name, vectors)}"
-        f"\npub {name}-agree : Agrees {kind.ask} {name}\nunfolding open-asked\n{name}-agree = refl\n"
+        f"\nabbrev pub {kind.name} : List {kind.type}\n{laid_out(kind.name, vectors)}"
+        f"\npub {kind.name}-agree : Agrees {kind.ask} {kind.name}\nunfolding open-asked\n{kind.name}-agree = refl\n"
     )
 
 
-def written(kind, vectors):
-    parts = [vectors[at : at + kind.part] for at in range(0, len(vectors), kind.part)]
-    body = "".join(law(kind, number, part) for number, part in enumerate(parts, 1))
-    head = f"-- {kind.title[0].upper()}{kind.title[1:]}. Made by tools/vectors/make.py, with the answers of the Rust. Assumes nothing.\n"
-    return head + "".join(line + "\n" for line in kind.uses(body)) + body
-
-
-def summary(name, pairs):
-    numbers = collections.Counter(int(told[0].split(" ")[1]) for _, told in pairs if told[0].startswith("refused"))
-    refused = ", ".join(f"{number}: {many}" for number, many in sorted(numbers.items()))
-    return f"{name}: {len(pairs)} questions" + (f", refused by number: {refused}" if refused else "")
+def written(body):
+    head = "-- Worked examples, with the answers of the Rust. Made by tools/vectors/make.py. Assumes nothing.\n"
+    return head + "".join(line + "\n" for line in uses(body)) + body
 
 
 def main():
     arguments = argparse.ArgumentParser()
-    arguments.add_argument("--to", type=pathlib.Path, default=SPECS)
     arguments.add_argument("--check", action="store_true")
     arguments = arguments.parse_args()
 
-    subprocess.run(["cargo", "build", "--release", "--offline", "--quiet", "-p", "oracle"], cwd=ROOT / "rust", check=True)
-    stale = []
+    subprocess.run(["cargo", "build", "--release", "--offline", "--quiet", "-p", "oracle", "-p", "harness"], cwd=ROOT / "rust", check=True)
+    body = ""
     for kind in KINDS:
         pairs = answered(kind)
-        made = written(kind, [kind.vector(*pair) for pair in pairs])
-        file = arguments.to / f"{kind.name.title()}.antt"
         print(summary(kind.name, pairs))
-        if not arguments.check:
-            file.write_text(made)
-        elif not file.exists() or file.read_text() != made:
-            stale.append(file)
-    if stale:
-        sys.exit("not what the Rust answers: " + " ".join(map(str, stale)))
+        body += law(kind, pairs)
+    made = written(body)
+    if not arguments.check:
+        EXAMPLES.write_text(made)
+    elif EXAMPLES.read_text() != made:
+        sys.exit(f"not what the Rust answers: {EXAMPLES.relative_to(ROOT)}")
 
 
 if __name__ == "__main__":

@@ -1,5 +1,5 @@
--- What is asked of the definitions in each kind of question, and how an answer of the Rust is written. The other files are made by
--- tools/vectors/make.py: questions from a fixed seed, each with the answer of the unchanged Rust. Assumes nothing.
+-- What is asked of the definitions in each kind of question, and how an answer of the Rust is written. Examples.antt is made by
+-- tools/vectors/make.py, which asks the unchanged Rust. Assumes nothing.
 use Prim.Native.Nat.{ℕ, Ordering, Ordering·lt, Ordering·eq, Ordering·gt, _+_, _/_, _%_}
 use mathlib.Core.Path.{_≡_}
 use mathlib.Core.Bool.{Bool}

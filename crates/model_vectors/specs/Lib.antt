@@ -1,9 +1,3 @@
 pub mod Asked
-pub mod Lines
-pub mod Paths
-pub mod Texts
-pub mod Gathers
-pub mod Inserts
-pub mod Queries
-pub mod Filters
+pub mod Examples
 pub mod Decisions

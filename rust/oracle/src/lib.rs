@@ -10,6 +10,7 @@ include!(concat!(env!("OUT_DIR"), "/lcov/lib.rs"));
 mod fault;
 mod line;
 mod ranges;
+pub mod requests;
 mod text;
 
 pub use fault::{hush_overflow, Fault, Refusal};
