@@ -10,8 +10,8 @@ ghost use mathlib.Core.Bool.{_&&_, _||_};
 ghost use Prim.Native.Nat.{_+_, _-_, _<_, _^_, min};
 ghost use lib.Dec.{leb};
 ghost use lib.ListN.{length, getD, set};
-ghost use Rattle.model.specs.Ranges.{queryCall, insertCall, sliceAfter};
-ghost use Rattle.model.specs.Calls.{queryAnswer, insertAnswer};
+ghost use Rattle.model.specs.Ranges.{queryCall, insertCall};
+ghost use Rattle.model.specs.Calls.{queryAnswer, insertAnswer, InsertCall, QueryCall};
 ghost use Rattle.line_num_pairs.specs.Pairs.{pair};
 ghost use Rattle.line_num.specs.Scans.{scanStart, passesBy, staysBy, scannedBy, scanOf, scanAnswer};
 ghost use Rattle.line_num.specs.Steps.{planBy, planOf, answerOf, PlanFits, readAt, putAt, rewritten};
@@ -183,7 +183,7 @@ fn query_answer(found: Scan, used: usize, len: usize) -> QueryAnswer
 
 // "A query (s, e) says yes if some pair has start ≤ e and end ≥ s."
 pub fn query(list: &[Range], used: usize, s: u32, e: u32) -> QueryAnswer
-    ensures { λ r. ⌜ r ≡ queryAnswer (queryCall (now (list .entry)) used s e) ⌝ }
+    ensures { λ r. ⌜ QueryCall (queryCall (now (list .entry)) used s e) r ⌝ }
 {
     let found = scan_all(list, used, s, e);
     query_answer(found, used, list.len())
@@ -332,7 +332,7 @@ fn rewrite(list: &mut [Range], plan: Plan)
 // "Insert drops start > end, joins overlaps and neighbours, answers the new number of pairs, zeroes those past it, and gives 15 exactly
 // if the slice can't hold the result."
 pub fn insert(list: &mut [Range], used: usize, start: u32, end: u32) -> InsertAnswer
-    ensures { λ r. ⌜ (r ≡ insertAnswer (insertCall (now (list .entry)) used (pair start end))) × (now (list .exit) ≡ sliceAfter (insertCall (now (list .entry)) used (pair start end)) (now (list .entry))) ⌝ }
+    ensures { λ r. ⌜ InsertCall (insertCall (now (list .entry)) used (pair start end)) (now (list .entry)) (now (list .exit)) r ⌝ }
 {
     let len = list.len();
     let found = scan_all(list, used, start, end);

@@ -49,8 +49,9 @@ use denote.Triple.Walked.{says, Stays, gave-slice, stay-none, walkOf, goes-gave-
 use denote.Exit.{yes}
 use Rattle.model.specs.declared.Range.{Range}
 use Rattle.model.specs.declared.InsertAnswer.{InsertAnswer}
-use Rattle.model.specs.Ranges.{insertCall, sliceAfter}
-use Rattle.model.specs.Calls.{insertAnswer}
+use Rattle.model.specs.Ranges.{insertCall}
+use Rattle.model.specs.Calls.{InsertCall}
+use Rattle.model.proofs.CallLaws.{insert-called}
 use Rattle.model.proofs.InsertAnswer as I
 use Rattle.model.proofs.InsertAnswer.Laws as I′
 use Rattle.line_num_pairs.specs.Pairs.{pair}
@@ -149,7 +150,7 @@ module _ {M : Type 1} (𝓤 : URA M) (H : Heap 𝓤) (A : Atoms 𝓤) (W : Given
   Post = walkOf 𝓤 H A insert.ended stayed (insert.clauses 𝓤 H A mem run) .post (((κ, tt), (q, tt), tt, a, at), tt)
 
   abbrev Told : InsertAnswer → List Range → Type 0
-  Told y zs = (y ≡ insertAnswer (insertCall ys used (pair s e))) × (zs ≡ sliceAfter (insertCall ys used (pair s e)) ys)
+  Told y zs = InsertCall (insertCall ys used (pair s e)) ys zs y
 
   exits : (y : InsertAnswer) (w : Val) (zs : List Range) → Told y zs → length zs ≡ length ys → ent 𝓤 (⋆ 𝓤 H A (‵ (flft κ q) ∷ ‵ (finally RangeT γ zs) ∷ ‵ (AnswerT .own y (w ∷ [])) ∷ [])) (Post w)
   exits y w zs told long =
@@ -188,10 +189,10 @@ module _ {M : Type 1} (𝓤 : URA M) (H : Heap 𝓤) (A : Atoms 𝓤) (W : Given
 
   -- the answer and the last list, from what the callees say
   called : (f : Scan) (p : Plan) (y : InsertAnswer) (zs : List Range) → f ≡ scanOf ys used s e → p ≡ planOf f used (length ys) → y ≡ answerOf f used (length ys) → zs ≡ rewritten p ys → Told y zs
-  called f p y zs scanned planned answers rewrites = (
-    answers ∙ ap (λ (g : Scan). answerOf g used (length ys)) scanned ∙ insert-told ys used s e .0,
-    rewrites ∙ ap (λ (t : Plan). rewritten t ys) planned ∙ ap (λ (g : Scan). rewritten (planOf g used (length ys)) ys) scanned ∙ insert-told ys used s e .1,
-  )
+  called f p y zs scanned planned answers rewrites =
+      insert-called _ ys zs y
+      (answers ∙ ap (λ (g : Scan). answerOf g used (length ys)) scanned ∙ insert-told ys used s e .0)
+      (rewrites ∙ ap (λ (t : Plan). rewritten t ys) planned ∙ ap (λ (g : Scan). rewritten (planOf g used (length ys)) ys) scanned ∙ insert-told ys used s e .1)
 
   module _ (C : Calls 𝓤 H) (Λ : Loops 𝓤 H) (fm : FmC 𝓤 H (W .laws) C) (l₀ l₁ l₂ l₃ l₄ l₅ l₆ l₇ l₈ l₉ l₁₀ l₁₁ l₁₂ : ℕ) where
     abbrev E : Env 𝓤 H

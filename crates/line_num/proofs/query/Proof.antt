@@ -41,7 +41,8 @@ use denote.Exit.{yes}
 use Rattle.model.specs.declared.Range.{Range}
 use Rattle.model.specs.declared.QueryAnswer.{QueryAnswer}
 use Rattle.model.specs.Ranges.{queryCall}
-use Rattle.model.specs.Calls.{queryAnswer}
+use Rattle.model.specs.Calls.{queryAnswer, QueryCall}
+use Rattle.model.proofs.CallLaws.{query-called}
 use Rattle.model.proofs.QueryAnswer as Q
 use Rattle.model.proofs.QueryAnswer.Laws as Q′
 use Rattle.line_num.specs.declared.Scan.{Scan}
@@ -92,7 +93,7 @@ module _ {M : Type 1} (𝓤 : URA M) (H : Heap 𝓤) (A : Atoms 𝓤) (W : Given
   abbrev Post : Val → SProp 𝓤
   Post = walkOf 𝓤 H A query.ended stayed (query.clauses 𝓤 H A mem run) .post (((κ, tt), (q, tt), tt, a, at), tt)
 
-  exits : (y : QueryAnswer) (w : Val) → y ≡ queryAnswer (queryCall ys used s e) → ent 𝓤 (⋆ 𝓤 H A (‵ (flft κ q) ∷ ‵ (ShrSlice (named 0) κ RangeT .own (a .0) (at .0)) ∷ ‵ (AnswerT .own y (w ∷ [])) ∷ [])) (Post w)
+  exits : (y : QueryAnswer) (w : Val) → QueryCall (queryCall ys used s e) y → ent 𝓤 (⋆ 𝓤 H A (‵ (flft κ q) ∷ ‵ (ShrSlice (named 0) κ RangeT .own (a .0) (at .0)) ∷ ‵ (AnswerT .own y (w ∷ [])) ∷ [])) (Post w)
   exits y w told =
       qed W (‵ (flft κ q) ∷ ‵ (ShrSlice (named 0) κ RangeT .own (a .0) (at .0)) ∷ ‵ (AnswerT .own y (w ∷ [])) ∷ []) ∵
       suffices ! _ (ends-at 𝓤 H A query.ended stayed (query.clauses 𝓤 H A mem run) W (((κ, tt), (q, tt), tt, a, at), tt) w y (tt, (tt, (tt, (tt, tt)))) (tt, (tt, (tt, (tt, tt))))) $ says ! told $
@@ -107,8 +108,9 @@ module _ {M : Type 1} (𝓤 : URA M) (H : Heap 𝓤) (A : Atoms 𝓤) (W : Given
       qed W [] ∵ nothing ! $ owned ! usize (Is usize) (uint-makes 𝓤 H A W w64) (length ys) _ (refl, room .0) $ join ! $ owned ! usize (Is usize) (uint-makes 𝓤 H A W w64) used _ (refl, used-fits) $ join ! $
       owned ! ScanT (Is ScanT) (LL.makes S.the-type S′.the-plain 𝓤 H A) f _ is $ join ! $ nothing ! $ join ! $ frame ! $ done !
 
-  answer-told : (f : Scan) (y : QueryAnswer) → f ≡ scanOf ys used s e → y ≡ queryAnswer (scanAnswer f used (length ys)) → y ≡ queryAnswer (queryCall ys used s e)
-  answer-told f y scanned told = told ∙ ap (λ (g : Scan). queryAnswer (scanAnswer g used (length ys))) scanned ∙ ap queryAnswer (query-told ys used s e)
+  answer-told : (f : Scan) (y : QueryAnswer) → f ≡ scanOf ys used s e → y ≡ queryAnswer (scanAnswer f used (length ys)) → QueryCall (queryCall ys used s e) y
+  answer-told f y scanned told =
+      query-called _ y (told ∙ ap (λ (g : Scan). queryAnswer (scanAnswer g used (length ys))) scanned ∙ ap queryAnswer (query-told ys used s e))
 
   module _ (C : Calls 𝓤 H) (Λ : Loops 𝓤 H) (fm : FmC 𝓤 H (W .laws) C) (known-scan : Triple 𝓤 (C #line-num·scan-all) (ScanAll 𝓤 H A mem run)) (known-answer : Triple 𝓤 (C #line-num·query-answer) (Answered 𝓤 H A mem run)) where
     walk : ent 𝓤 (onEntry 𝓤 H A query.signature (κ, tt) (q, tt) a at) (WpFn 𝓤 H C Λ code.function (sliceVal (b, o) (length ys) ∷ vint w64 used ∷ vint w32 s ∷ vint w32 e ∷ []) Post)
