@@ -11,7 +11,7 @@ ghost use Prim.Native.Nat.{_+_, _-_, _<_, _^_, min};
 ghost use lib.Dec.{leb};
 ghost use lib.ListN.{length, getD, set};
 ghost use Rattle.model.specs.Ranges.{queryCall, insertCall};
-ghost use Rattle.model.specs.Calls.{queryAnswer, insertAnswer, InsertCall, QueryCall};
+ghost use Rattle.model.specs.Calls.{queryAnswer, InsertCall, QueryCall};
 ghost use Rattle.line_num_pairs.specs.Pairs.{pair};
 ghost use Rattle.line_num.specs.Scans.{scanStart, passesBy, staysBy, scannedBy, scanOf, scanAnswer};
 ghost use Rattle.line_num.specs.Steps.{planBy, planOf, answerOf, PlanFits, readAt, putAt, rewritten};
