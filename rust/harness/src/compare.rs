@@ -88,8 +88,7 @@ impl<P: Port> Comparison<P> {
         self.calls += 1;
         let mut lent = LentWords::new(words);
         let number = self.port.read_line(line, lent.lend());
-        let free_start = expected.leaves_start_free().then_some(line.len());
-        if !lent.holds(number, &expected.read, free_start) {
+        if !lent.holds(number, &expected.read) {
             self.differ(
                 || format!("read {}, answer of {words} words", shown(line)),
                 || format!("{:?}", expected.read),
@@ -105,7 +104,7 @@ impl<P: Port> Comparison<P> {
         let number = self.port.print_line(line, out.lend(), lent.lend());
         let (answer, bytes) = printing_of(expected, room);
         self.tally.too_short += u64::from(answer.number == OUTPUT_TOO_SHORT);
-        if !lent.holds(number, &answer, None) || !out.holds(bytes) {
+        if !lent.holds(number, &answer) || !out.holds(bytes) {
             let lengths = format!("output of {room} bytes, answer of {words} words");
             self.differ(
                 || format!("print {}, {lengths}", shown(line)),
@@ -159,7 +158,7 @@ pub fn shown(bytes: &[u8]) -> String {
 #[cfg(test)]
 mod tests {
     use super::*;
-    use crate::interface::{NEEDED, START};
+    use crate::interface::{LEN, NEEDED, START};
 
     /// What a port could do wrong.
     #[derive(Debug, Clone, Copy, PartialEq)]
@@ -167,7 +166,7 @@ mod tests {
         Nothing,
         Number,
         Word(usize),
-        EmptyTextOutside,
+        EmptyTextElsewhere,
         NinthWord,
         ShortAnswerBegun,
         WrittenOnRefusal,
@@ -199,8 +198,8 @@ mod tests {
             match self.0 {
                 Wrong::Number => read.number += 1,
                 Wrong::Word(place) => read.words[place] += 1,
-                Wrong::EmptyTextOutside if expected.leaves_start_free() => {
-                    read.words[START] = line.len() as u64 + 1
+                Wrong::EmptyTextElsewhere if read.words[START] != 0 && read.words[LEN] == 0 => {
+                    read.words[START] -= 1
                 }
                 _ => {}
             }
@@ -271,7 +270,7 @@ mod tests {
         let words = (0..WORDS).map(Wrong::Word);
         let others = [
             Wrong::Number,
-            Wrong::EmptyTextOutside,
+            Wrong::EmptyTextElsewhere,
             Wrong::NinthWord,
             Wrong::ShortAnswerBegun,
             Wrong::WrittenOnRefusal,

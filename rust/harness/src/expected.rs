@@ -49,11 +49,6 @@ impl Expected {
             Err(Fault::Outside) => unreachable!("a line that is UTF-8 can be asked"),
         }
     }
-
-    /// An empty text has no bytes to point at: any place in the line will do.
-    pub fn leaves_start_free(&self) -> bool {
-        self.read.number == 0 && self.read.words[START] != 0 && self.read.words[LEN] == 0
-    }
 }
 
 /// SPEC 1.1 reads bytes, and one past 127 is in no tag, no digit and nothing that parts fields. So it may be any such byte:
@@ -233,10 +228,17 @@ mod tests {
     }
 
     #[test]
-    fn only_an_empty_text_may_start_anywhere() {
-        let free = |line: &[u8]| Expected::of(line).leaves_start_free();
-        assert!(free(b"TN") && free(b"SF:\n") && free(b"FN:1,") && free(b"DA:1,2,"));
-        assert!(!free(b"TN:a") && !free(b"DA:1,2") && !free(b"LF:1") && !free(b"LF:"));
+    fn an_empty_text_starts_where_the_line_ends() {
+        let start = |line: &[u8]| Expected::of(line).read.words[START];
+        assert_eq!(
+            [
+                start(b"TN"),
+                start(b"SF:\n"),
+                start(b"FN:1,"),
+                start(b"DA:1,2,")
+            ],
+            [2, 3, 5, 7]
+        );
     }
 
     #[test]

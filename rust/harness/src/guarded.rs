@@ -1,7 +1,7 @@
 //! Words and bytes lent to the port. They are marked before the call, so that it is seen what was written and what was left alone.
 
 use crate::expected::Answer;
-use crate::interface::{START, WORDS};
+use crate::interface::WORDS;
 use crate::Rng;
 
 const MARK: u64 = 0xa5a5_a5a5_a5a5_a5a5;
@@ -22,15 +22,13 @@ impl LentWords {
         &mut self.0[..lent]
     }
 
-    /// Whether this is the answer, all other words untouched. A free start need only lie within the length given with it.
-    pub fn holds(&self, number: u32, answer: &Answer, free_start: Option<usize>) -> bool {
+    /// Whether this is the answer, all other words untouched.
+    pub fn holds(&self, number: u32, answer: &Answer) -> bool {
         let lent = self.0.len() - GUARD;
         let told = if lent < WORDS { 0 } else { WORDS };
         let (words, untouched) = self.0.split_at(told);
-        let is_free =
-            |place| place == START && free_start.is_some_and(|most| words[place] <= most as u64);
         number == answer.number
-            && (0..told).all(|place| words[place] == answer.words[place] || is_free(place))
+            && *words == answer.words[..told]
             && untouched.iter().all(|&word| word == MARK)
     }
 

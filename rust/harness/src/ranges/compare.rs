@@ -101,7 +101,7 @@ impl<P: Ranges> Comparison<P> {
         let number = self
             .port
             .insert_range(&mut lent, list.used, start, end, words.lend());
-        if !words.holds(number, &answer, None) || lent != pairs {
+        if !words.holds(number, &answer) || lent != pairs {
             self.differ(
                 format!("insert {start} to {end} into {list:?}"),
                 format!("{answer:?}, pairs {pairs:?}"),
@@ -125,7 +125,7 @@ impl<P: Ranges> Comparison<P> {
         let number = self
             .port
             .query_range(&list.pairs, list.used, start, end, words.lend());
-        if !words.holds(number, &answer, None) {
+        if !words.holds(number, &answer) {
             self.differ(
                 format!("query {start} to {end} in {list:?}"),
                 format!("{answer:?}"),
@@ -150,7 +150,7 @@ impl<P: Ranges> Comparison<P> {
         };
         (answer.words[0], answer.words[1]) = (start, end);
         let wanted = expected::half_open(a, b);
-        if kept != wanted || !words.holds(0, &answer, None) {
+        if kept != wanted || !words.holds(0, &answer) {
             self.differ(
                 format!("half-open {a} to {b}"),
                 format!("pairs {wanted:?}"),

@@ -185,7 +185,7 @@ impl<P: Gatherer> Comparison<P> {
         let (answer, bytes) = answer_of(told, lent.room);
         self.tally.count_call(asked, answer.number);
         let left = self.asked_with(asked, lent);
-        let same = left.answer.holds(left.number, &answer, None) && left.out.holds(bytes);
+        let same = left.answer.holds(left.number, &answer) && left.out.holds(bytes);
         if !(same && left.scratch_kept) {
             let wanted = format!("{answer:?}, output {}, then untouched", shown(bytes));
             self.differ(asked, lent, wanted, &left);
