@@ -1,5 +1,5 @@
-//! docs/DIFFERENCES.md row by row: the smallest input of each, and what the port makes of it. That the Rust makes the same of it is
-//! compared by the harness, on these and many others.
+//! Inputs of docs/DIFFERENCES.md: what the command prints for them, and what it says on standard error. lcov_column.rs compares with lcov.
+//! That the Rust makes the same of them is compared by the harness, on these and many others.
 
 mod common;
 
