@@ -8,67 +8,14 @@
  * CALL is the name of a function without lcov_; none means all. --filled fills the scratch before each call. The questions are the same in
  * each run. The status is 1 if an answer is wrong by itself: see `ask`.
  */
-#include <stdarg.h>
-#include <stdbool.h>
-#include <stdio.h>
-#include <stdlib.h>
-#include <string.h>
+#include "questions.h"
 
-#include "lcov.h"
-
-#define COUNT(array) (sizeof(array) / sizeof *(array))
-#define PICK(array) ((array)[below(COUNT(array))])
-
-enum { PATTERN = 0xa5, TEXTS = 600, BUNDLES = 600, LINES = 400, LISTS = 300, PATHS = 300 };
+enum { PATTERN = 0xa5, TEXTS = 600, BUNDLES = 600, RECORDS = 600, LISTS = 300, PATHS = 300 };
 
 static bool scratch_filled;
 static unsigned long calls;
 
-static void expect(bool holds, const char *call, const char *what)
-{
-    if (!holds) {
-        fprintf(stderr, "%s: %s\n", call, what);
-        exit(1);
-    }
-}
-
-/* ---- numbers and bytes */
-
-/* A number below the bound, from a fixed seed (xorshift). */
-static size_t below(size_t bound)
-{
-    static uint64_t state = 0x9e3779b97f4a7c15;
-    state ^= state << 13;
-    state ^= state >> 7;
-    state ^= state << 17;
-    return (size_t)(state >> 11) % bound;
-}
-
-static bool one_in(size_t many)
-{
-    return below(many) == 0;
-}
-
-/* A block that nothing was written to. */
-static void *block(size_t len)
-{
-    void *made = malloc(len);
-    expect(made != NULL, "malloc", "no memory");
-    return made;
-}
-
-static void copy(void *to, const void *from, size_t len)
-{
-    if (len > 0)
-        memcpy(to, from, len);
-}
-
-static void *copy_of(const void *bytes, size_t len)
-{
-    void *made = block(len);
-    copy(made, bytes, len);
-    return made;
-}
+/* ---- bytes and pairs */
 
 static bool is_pattern(const void *bytes, size_t len)
 {
@@ -88,255 +35,9 @@ static uint64_t add_to_sum(uint64_t sum, const void *bytes, size_t len)
     return sum;
 }
 
-/* ---- texts, of few names and lines, so that keys meet */
-
-struct text {
-    uint8_t *bytes;
-    size_t len;
-};
-
-static void put_bytes(struct text *text, const void *bytes, size_t len)
+static bool is_same(const struct text *a, const struct text *b)
 {
-    text->bytes = realloc(text->bytes, text->len + len + 1);
-    expect(text->bytes != NULL, "realloc", "no memory");
-    copy(text->bytes + text->len, bytes, len);
-    text->len += len;
-}
-
-static void put(struct text *text, const char *format, ...)
-{
-    char line[256];
-    va_list values;
-    va_start(values, format);
-    int len = vsnprintf(line, sizeof line, format, values);
-    va_end(values);
-    put_bytes(text, line, (size_t)len);
-}
-
-static const char *const TESTS[] = { "", "a", "b", "a,b" };
-static const char *const SOURCES[] = { "a/b", "a//b", "a/./b", "c", "/c", "./c", "" };
-static const char *const NAMES[] = { "f", "g", "f,1", "gh", "" };
-static const char *const COUNTS[] = { "0", "1", "2", "+7", "0012", "18446744073709551615" };
-
-/* How many of the test names and paths a question uses: the fewer, the more sections meet. */
-static size_t names_used = 1;
-
-static const char *count(void)
-{
-    return COUNTS[below(one_in(60) ? COUNT(COUNTS) : COUNT(COUNTS) - 1)];
-}
-
-/* Start lines and checksums of a key mostly agree. */
-static void put_item(struct text *text, size_t lines)
-{
-    static const char *const OTHERS[] = { "FNF", "FNH", "BRF", "BRH", "LF", "LH" };
-    const char *name = PICK(NAMES);
-    size_t line = below(lines), number = lines > 10 ? line : 0;
-    switch (below(8)) {
-    case 0:
-        put(text, "FN:%zu,%s%zu\n", one_in(20) ? line : strlen(name), name, number);
-        break;
-    case 1:
-        put(text, "FNDA:%s,%s%zu\n", count(), name, number);
-        break;
-    case 2:
-    case 3:
-        put(text, "BRDA:%zu,%zu,%zu,%s\n", line, below(2), below(2), one_in(3) ? "-" : count());
-        break;
-    case 4:
-        put(text, "DA:%zu,%s,%s\n", line, count(), one_in(8) ? "c2" : one_in(20) ? "-" : line % 2 == 0 ? "" : "c1");
-        break;
-    case 5:
-        put(text, "%s:%zu\n", PICK(OTHERS), line);
-        break;
-    default:
-        put(text, "DA:%zu,%s\n", line, count());
-    }
-}
-
-/* A section, and perhaps the same once more with more items, fewer or none. */
-static void put_section(struct text *text, size_t lines, size_t items)
-{
-    const char *test = TESTS[below(COUNT(TESTS)) % names_used], *source = SOURCES[below(COUNT(SOURCES)) % names_used];
-    do {
-        if (!one_in(5))
-            put(text, "TN:%s\n", test);
-        if (!one_in(8))
-            put(text, "SF:%s\n", source);
-        for (size_t k = one_in(6) ? 0 : below(items); k > 0; k--)
-            put_item(text, lines);
-        put(text, "end_of_record%s\n", one_in(20) ? ":z" : "");
-    } while (one_in(3));
-}
-
-static void flip_byte(struct text *text)
-{
-    static const char BYTES[] = ":,-+019 \n\rTNSFDABRHx\377";
-    text->bytes[below(text->len)] = (uint8_t)PICK(BYTES);
-}
-
-/* The place after a line. */
-static size_t line_end(const struct text *text, size_t from)
-{
-    while (from < text->len && text->bytes[from++] != '\n')
-        ;
-    return from;
-}
-
-static void insert(struct text *text, size_t place, const void *bytes, size_t len)
-{
-    size_t rest_len = text->len - place;
-    uint8_t *rest = copy_of(text->bytes + place, rest_len);
-    text->len = place;
-    put_bytes(text, bytes, len);
-    put_bytes(text, rest, rest_len);
-    free(rest);
-}
-
-/* From a place in a line to the line's end, once more. */
-static void double_line(struct text *text)
-{
-    size_t from = below(text->len), to = line_end(text, from);
-    uint8_t *line = copy_of(text->bytes + from, to - from);
-    insert(text, to, line, to - from);
-    free(line);
-}
-
-/* Lines that are refused with 1 to 9; `SF:a` is only at a text's end. */
-static const char *const FAULTS[] = {
-    "VER:1\n", "FN:5\n", "LF:1,2\n", "DA:,1\n", "DA:1,-3\n", "DA:4294967296,1\n", "SF:a\nTN:b\n", "SF:a\n",
-    "FNDA:18446744073709551615,f\nFNDA:1,f\n",
-};
-
-static void put_fault(struct text *text)
-{
-    const char *fault = PICK(FAULTS);
-    insert(text, one_in(2) ? text->len : line_end(text, below(text->len)), fault, strlen(fault));
-}
-
-static void damage(struct text *text)
-{
-    if (text->len == 0)
-        put(text, "\n");
-    switch (below(5)) {
-    case 0:
-        flip_byte(text);
-        break;
-    case 1:
-        text->len = below(text->len);
-        break;
-    case 2:
-        double_line(text);
-        break;
-    default:
-        put_fault(text);
-    }
-}
-
-/* A text, damaged once in so many. */
-static struct text some_text(size_t sound)
-{
-    struct text text = { NULL, 0 };
-    bool many = one_in(12);
-    for (size_t k = below(4); k > 0; k--)
-        put_section(&text, many ? 120 : 5, many ? 150 : 12);
-    if (one_in(6))
-        put(&text, "TN:%s\n", PICK(TESTS));
-    if (one_in(sound))
-        damage(&text);
-    if (text.len > 0 && one_in(8))
-        text.len--;
-    return text;
-}
-
-/* ---- bundles */
-
-static void put_number(struct text *text, size_t number)
-{
-    uint8_t bytes[4];
-    for (size_t k = 0; k < 4; k++)
-        bytes[k] = (uint8_t)(number >> 8 * k);
-    put_bytes(text, bytes, 4);
-}
-
-/* Both ends, and the ends of lines, so that most parts are whole lines. */
-static size_t place_in(const struct text *bytes)
-{
-    if (bytes->len == 0 || one_in(3))
-        return 0;
-    return one_in(3) ? bytes->len : line_end(bytes, below(bytes->len));
-}
-
-/* Texts that are one after another, or any parts of the same bytes; one of them may be named many times. */
-static struct text some_bundle(void)
-{
-    size_t starts[LCOV_MAX_TEXTS + 1], lens[LCOV_MAX_TEXTS + 1];
-    size_t many = one_in(30) ? LCOV_MAX_TEXTS - 1 + below(3) : below(5);
-    bool overlapping = many > 5 || one_in(4);
-    struct text bytes = some_text(12), bundle = { NULL, 0 };
-    for (size_t k = 0; k < many; k++) {
-        if (overlapping) {
-            size_t a = place_in(&bytes), b = place_in(&bytes);
-            starts[k] = a < b ? a : b;
-            lens[k] = a < b ? b - a : a - b;
-        } else if (k > 0 && one_in(4)) {
-            starts[k] = starts[k - 1];
-            lens[k] = lens[k - 1];
-        } else {
-            struct text next = some_text(12);
-            starts[k] = bytes.len;
-            lens[k] = next.len;
-            put_bytes(&bytes, next.bytes, next.len);
-            free(next.bytes);
-        }
-    }
-    put_number(&bundle, many);
-    put_number(&bundle, bytes.len);
-    for (size_t k = 0; k < many; k++)
-        put_number(&bundle, starts[k]);
-    for (size_t k = 0; k < many; k++)
-        put_number(&bundle, lens[k]);
-    put_bytes(&bundle, bytes.bytes, bytes.len);
-    free(bytes.bytes);
-    if (one_in(8))
-        bundle.bytes[below(8 + 8 * many)] += (uint8_t)(1 + below(255));
-    if (one_in(12))
-        bundle.len = below(bundle.len);
-    if (one_in(20))
-        put(&bundle, "x");
-    return bundle;
-}
-
-/* ---- range lists */
-
-struct list {
-    uint32_t (*pairs)[2];
-    size_t len, used;
-};
-
-static uint32_t some_line(void)
-{
-    static const uint32_t ENDS[] = { 0, 1, UINT32_MAX, UINT32_MAX - 1 };
-    return one_in(8) ? PICK(ENDS) : (uint32_t)below(40);
-}
-
-/* Mostly well formed. The pairs past `used` are unwritten. */
-static struct list some_list(void)
-{
-    struct list list = { NULL, below(9), 0 };
-    list.pairs = block(list.len * sizeof *list.pairs);
-    list.used = below(list.len + 1);
-    uint32_t next = (uint32_t)below(3);
-    for (size_t k = 0; k < list.used; k++) {
-        list.pairs[k][0] = next;
-        list.pairs[k][1] = next + (uint32_t)below(3);
-        next = list.pairs[k][1] + 2 + (uint32_t)below(3);
-    }
-    if (list.used > 0 && one_in(8))
-        list.pairs[below(list.used)][below(2)] = some_line();
-    if (list.used == list.len && one_in(8))
-        list.used += one_in(2) ? 1 : SIZE_MAX - list.used;
-    return list;
+    return a->len == 0 || memcmp(a->bytes, b->bytes, a->len) == 0;
 }
 
 static size_t written_pairs(const struct list *list)
@@ -367,7 +68,7 @@ struct input {
     struct text bytes, other;
     struct list list;
     uint32_t start, end;
-    size_t large; /* a scratch that is more than enough */
+    bool has_largest; /* asked with more scratch than a call can use */
 };
 
 struct room {
@@ -542,6 +243,7 @@ static struct told run(const struct call *call, const struct input *in, struct r
         written = (size_t)told.words[0];
     expect(written <= room.out, call->name, "more is written than the output holds");
 
+    expect(is_same(&lent.in.bytes, &in->bytes) && is_same(&lent.in.other, &in->other), call->name, "an input is written");
     told.sum = add_to_sum(told.number, told.words, sizeof told.words);
     told.sum = add_to_sum(told.sum, lent.out, written);
     if (call->writes_list && told.number == 0)
@@ -626,9 +328,19 @@ static size_t entries_needed(const struct call *call, const struct input *in, si
     return enough;
 }
 
+/* Words for more entries than the input can have: a line makes two at most, and a text may end inside a line. */
+static size_t enough_words(const struct input *in)
+{
+    size_t lines = 1 + LCOV_MAX_TEXTS;
+    for (size_t k = 0; k < in->bytes.len; k++)
+        lines += in->bytes.bytes[k] == '\n';
+    return 2 * lines * LCOV_WORDS_PER_ENTRY;
+}
+
 static void ask_scratches(const struct call *call, const struct input *in, size_t out)
 {
-    struct told large = ask(call, in, in->large, out);
+    size_t most = in->has_largest ? (size_t)(LCOV_MAX_ENTRIES + 1) * LCOV_WORDS_PER_ENTRY : enough_words(in);
+    struct told large = ask(call, in, most, out);
     size_t limit = entries_needed(call, in, out) * LCOV_WORDS_PER_ENTRY;
     size_t lens[] = { 1, 31, 32, 33, limit + 1, limit + 31 };
     for (size_t k = 0; k < COUNT(lens); k++) {
@@ -642,15 +354,12 @@ static void ask_scratches(const struct call *call, const struct input *in, size_
     }
 }
 
-/* Words for 4,096 entries: no question has more. */
-enum { ENOUGH = 4096 * LCOV_WORDS_PER_ENTRY };
-
 static void ask_report(size_t place, const struct input *in)
 {
     const struct call *call = &CALLS[place];
     if (!chosen[place])
         return;
-    size_t out = ask_outputs(call, in, call->has_scratch ? ENOUGH : 0);
+    size_t out = ask_outputs(call, in, call->has_scratch ? enough_words(in) : 0);
     if (call->has_scratch)
         ask_scratches(call, in, out);
 }
@@ -674,20 +383,66 @@ static void free_input(struct input *in)
     free(in->list.pairs);
 }
 
-/* Now and then more than a call can use. */
-static size_t large_scratch(void)
+static void ask_text(struct text text)
 {
-    return one_in(40) ? (size_t)(LCOV_MAX_ENTRIES + 1) * LCOV_WORDS_PER_ENTRY : ENOUGH;
+    struct input in = { .bytes = text, .list = some_list(), .has_largest = one_in(40) };
+    ask_report(READ_TEXT, &in);
+    ask_report(FILTER, &in);
+    free_input(&in);
+}
+
+static void ask_bundle(struct text bundle)
+{
+    struct input in = { .bytes = bundle, .has_largest = one_in(40) };
+    ask_report(GATHER, &in);
+    ask_report(GATHER_WITH, &in);
+    ask_report(GATHER_LOSSY, &in);
+    free_input(&in);
+}
+
+static void ask_line(struct text line)
+{
+    struct input in = { .bytes = line };
+    ask_words(READ_LINE, &in);
+    ask_report(PRINT_LINE, &in);
+    free_input(&in);
+}
+
+/* One question at least for each refusal that random texts seldom meet. */
+static void ask_faults(void)
+{
+    static const char *const CONFLICTS[][2] = {
+        { "SF:m\nFN:1,f\nend_of_record\n", "SF:m\nFN:2,f\nend_of_record\n" },
+        { "SF:m\nDA:1,1,a\nend_of_record\n", "SF:m\nDA:1,1,b\nend_of_record\n" },
+        { "SF:m\nDA:1,18446744073709551615\nend_of_record\n", "SF:m\nDA:1,1\nend_of_record\n" },
+        { "SF:m\nBRDA:1,0,0,18446744073709551615\nend_of_record\n", "SF:m\nBRDA:1,0,0,1\nend_of_record\n" },
+    };
+    for (size_t k = 0; k < COUNT(FAULTS); k++) {
+        struct text line = { NULL, 0 }, text = { NULL, 0 };
+        put(&line, "%s", FAULTS[k]);
+        put(&text, "%s", FAULTS[k]);
+        ask_line(line);
+        ask_text(text);
+        ask_bundle(bundle_of_two("SF:m\nDA:1,1\nend_of_record\n", FAULTS[k]));
+    }
+    for (size_t k = 0; k < COUNT(CONFLICTS); k++)
+        ask_bundle(bundle_of_two(CONFLICTS[k][0], CONFLICTS[k][1]));
+
+    /* more entries than lcov_gather has words for */
+    struct text many = { NULL, 0 };
+    for (size_t line = 0; line < 300; line++)
+        put(&many, "DA:%zu,1\n", line);
+    put(&many, "end_of_record\n");
+    size_t start = 0;
+    ask_bundle(bundle_of(&many, &start, &many.len, 1));
+    free(many.bytes);
 }
 
 static void ask_texts(void)
 {
     for (size_t k = 0; k < TEXTS; k++) {
         names_used = 1 + below(COUNT(TESTS));
-        struct input in = { .bytes = some_text(3), .list = some_list(), .large = large_scratch() };
-        ask_report(READ_TEXT, &in);
-        ask_report(FILTER, &in);
-        free_input(&in);
+        ask_text(some_text(3));
     }
 }
 
@@ -695,35 +450,38 @@ static void ask_bundles(void)
 {
     for (size_t k = 0; k < BUNDLES; k++) {
         names_used = 1 + below(COUNT(TESTS));
-        struct input in = { .bytes = some_bundle(), .large = large_scratch() };
-        ask_report(GATHER, &in);
-        ask_report(GATHER_WITH, &in);
-        ask_report(GATHER_LOSSY, &in);
-        free_input(&in);
+        ask_bundle(some_bundle());
     }
+}
+
+/* A number of 1 to 21 digits, or what is none. */
+static void put_field(struct text *line)
+{
+    static const char *const OTHERS[] = { "", "-", "+", "f", "+1", "1x" };
+    if (one_in(8)) {
+        put(line, "%s", PICK(OTHERS));
+        return;
+    }
+    for (size_t digits = one_in(3) ? 1 + below(21) : 1 + below(9); digits > 0; digits--)
+        put(line, "%zu", below(10));
 }
 
 static void ask_lines(void)
 {
-    for (size_t k = 0; k < LINES; k++) {
-        struct input in = { 0 };
-        switch (below(6)) {
-        case 0:
-            put(&in.bytes, "%s:%s\n", one_in(2) ? "TN" : "SF", PICK(SOURCES));
-            break;
-        case 1:
-            put(&in.bytes, "%s", one_in(2) ? "end_of_record" : PICK(FAULTS));
-            break;
-        default:
-            put_item(&in.bytes, 5);
+    static const char *const TAGS[] = { "TN", "SF", "FN", "FNDA", "FNF", "FNH", "BRDA", "BRF", "BRH", "DA", "LF", "LH", "end_of_record" };
+    static const size_t FIELDS[] = { 1, 1, 2, 2, 1, 1, 4, 1, 1, 2, 1, 1, 1 };
+    for (size_t k = 0; k < RECORDS; k++) {
+        size_t kind = below(COUNT(TAGS)), fields = FIELDS[kind] + one_in(5) - one_in(10);
+        struct text line = { NULL, 0 };
+        put(&line, "%s%s", TAGS[kind], one_in(10) ? "" : ":");
+        for (size_t field = 0; field < fields; field++) {
+            put(&line, "%s", field == 0 ? "" : ",");
+            put_field(&line);
         }
-        if (one_in(3))
-            damage(&in.bytes);
-        if (in.bytes.len > 0 && one_in(2))
-            in.bytes.len--;
-        ask_words(READ_LINE, &in);
-        ask_report(PRINT_LINE, &in);
-        free_input(&in);
+        put(&line, "%s", one_in(3) ? "\r\n" : one_in(2) ? "\n" : "");
+        if (one_in(6))
+            damage(&line);
+        ask_line(line);
     }
 }
 
@@ -732,7 +490,7 @@ static void ask_lists(void)
     for (size_t k = 0; k < LISTS; k++) {
         struct input in = { .list = some_list(), .start = some_line(), .end = some_line() };
         if (!one_in(4))
-            in.end = in.start + (uint32_t)below(4);
+            in.end = in.start + (uint32_t)below(one_in(4) ? 100 : 4);
         ask_words(INSERT_RANGE, &in);
         ask_words(QUERY_RANGE, &in);
         ask_words(HALF_OPEN, &in);
@@ -797,6 +555,7 @@ int main(int argc, char **argv)
         choose(NULL);
 
     ask_nothing();
+    ask_faults();
     ask_lines();
     ask_lists();
     ask_paths();

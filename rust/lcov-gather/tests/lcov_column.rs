@@ -571,14 +571,17 @@ fn rows_of_the_table() -> Vec<Row> {
     .collect()
 }
 
-/// What stands between backquotes, and the refusals.
+/// What stands between backquotes, and the refusals with their fields.
 fn quoted(cell: &str) -> Vec<String> {
     let codes = cell.split('`').skip(1).step_by(2).map(str::to_owned);
-    let refusals = cell.split("refusal ").skip(1).map(|rest| {
-        let number: String = rest.chars().take_while(char::is_ascii_digit).collect();
-        format!("(refusal {number})")
-    });
-    codes.chain(refusals).collect()
+    let refusals = numbers_after(cell, "refusal ").map(|number| format!("(refusal {number})"));
+    let fields = numbers_after(cell, ", field ").map(|number| format!(": field {number}: "));
+    codes.chain(refusals).chain(fields).collect()
+}
+
+fn numbers_after<'a>(cell: &'a str, word: &'a str) -> impl Iterator<Item = &'a str> {
+    let rests = cell.split(word).skip(1);
+    rests.map(|rest| rest.split(|c: char| !c.is_ascii_digit()).next().unwrap())
 }
 
 /// A line of the written text, or a part of the options or of what is said.
