@@ -8,7 +8,7 @@ use native.Mathlib.Omega.{arith}
 use borrow.Author.Tests.{eqb-true}
 use lib.Dec.{eqb}
 use lib.ListN.{length, take, drop}
-use Rattle.ordmap.proofs.Results.{accepted-inj, bind-accepted}
+use Rattle.ordmap.proofs.Results.{accepted-inj, bind-accepted, impossible}
 use Rattle.table.specs.declared.Row.{Row}
 use Rattle.model.specs.declared.Part.{Part}
 use Rattle.model.specs.declared.Checksum.{Checksum}
@@ -28,7 +28,7 @@ use Rattle.section.specs.declared.State.{State}
 use Rattle.section.specs.declared.Step.{Step}
 use Rattle.section.specs.Reading.{stateOf, counted, StepOf, StepBy}
 use Rattle.section.proofs.StateLaws.{step-as}
-use Rattle.report_parser.specs.Effect.{kindNumber, textPart, itemIn, PartWithin, ChecksumWithin, TextsWithin, movedPart, addsItem, AddsItem, RowOf, RecordAt, Steps}
+use Rattle.report_parser.specs.Effect.{kindNumber, textPart, itemIn, PartWithin, ChecksumWithin, TextsWithin, movedPart, AddsItem, RowOf, RecordAt, Steps}
 use Rattle.report_parser.proofs.RowLaws.{part-read, moved-is}
 
 -- ---- by number
@@ -79,10 +79,32 @@ module _ (text : Bytes) (item : Item) (s : ModelState) where
   is-added k (branchEntered e) = rw e refl
   is-added k (lineEntered e) = rw e refl
 
-adds-item : (k : ℕ) → Added k → addsItem k ≡ true
-adds-item k (functionEntered h g) = by-two 2 k (λ n. addsItem n ≡ true) h g refl refl
-adds-item k (branchEntered e) = rw e refl
-adds-item k (lineEntered e) = rw e refl
+-- the kinds of lines that add an item
+abbrev addingKind : ℕ → Bool
+addingKind k = if eqb k 2 then true else (if eqb k 3 then true else (if eqb k 6 then true else eqb k 9))
+
+is-adding : (k : ℕ) → Added k → addingKind k ≡ true
+is-adding k (functionEntered h g) = by-two 2 k (λ n. addingKind n ≡ true) h g refl refl
+is-adding k (branchEntered e) = rw e refl
+is-adding k (lineEntered e) = rw e refl
+
+never : false ≡ true → ⊥
+never e = impossible cc
+
+adding-adds : (lent : LentRecord) → addingKind (kindNumber lent) ≡ true → AddsItem lent
+adding-adds (Lent.TestName p) e = never e
+adding-adds (Lent.SourceFile p) e = never e
+adding-adds (Lent.FunctionName start p) e = tt
+adding-adds (Lent.FunctionData count p) e = tt
+adding-adds (Lent.FunctionsFound found) e = never e
+adding-adds (Lent.FunctionsHit hit) e = never e
+adding-adds (Lent.BranchData line block branch taken) e = tt
+adding-adds (Lent.BranchesFound found) e = never e
+adding-adds (Lent.BranchesHit hit) e = never e
+adding-adds (Lent.LineData line count checksum) e = tt
+adding-adds (Lent.LinesFound found) e = never e
+adding-adds (Lent.LinesHit hit) e = never e
+adding-adds Lent.EndOfRecord e = never e
 
 -- ---- a record of a line
 
@@ -144,7 +166,7 @@ text-within ρ e = rw e (within-line ρ .text)
 pub added-item : {text : Bytes} {at len k : ℕ} {lent : LentRecord} → k ≡ kindNumber lent → (k ≤ 12 → Added k) → RecordAt text at len lent → AddsItem lent
 added-item {text} {at} {len} {k} {lent} κ β ρ =
     let most = read len (drop at text) lent (ρ .is) .most in
-    rw (sym κ) (adds-item k (β (rw κ most)))
+    adding-adds lent (rw (sym κ) (is-adding k (β (rw κ most))))
 
 pub adds-of : {at len k : ℕ} {lent : LentRecord} {r : Row} → k ≡ kindNumber lent → RowOf at len lent r → Adds (eqb k 3) r
 adds-of {at} {len} {k} {lent} {r} e ω = go (eqb k 3) refl

@@ -1,10 +1,8 @@
 -- What a record of a line does to the reading state. The line is the part of the text from `at` with `len` bytes. Assumes nothing.
 use Prim.Native.Nat.{ℕ, _+_, _≤_}
 use mathlib.Core.Path.{_≡_}
-use mathlib.Core.Bool.{Bool, true}
 use mathlib.Core.List.{List}
 use mathlib.Core.Option.{none, some}
-use lib.Dec.{eqb}
 use lib.ListN.{length, drop}
 use Rattle.table.specs.declared.Row.{Row}
 use Rattle.model.specs.declared.Part.{Part}
@@ -13,7 +11,6 @@ use Rattle.model.specs.declared.Checksum.the-variants as Ck
 use Rattle.model.specs.declared.Record.{Record as LentRecord}
 use Rattle.model.specs.declared.Record.the-variants as Lent
 use Rattle.model.specs.Bytes.{Bytes}
-use Rattle.model.specs.Order.{if_then_else_}
 use Rattle.model.specs.Answer.{accepted}
 use Rattle.model.specs.Record.{Record}
 use Rattle.model.specs.Report.{Item, functionItem, branchItem, lineItem}
@@ -77,11 +74,20 @@ checksumOf (Lent.LinesHit hit) = Ck.Absent
 checksumOf Lent.EndOfRecord = Ck.Absent
 
 -- FN, FNDA, BRDA and DA add an item
-abbrev pub addsItem : ℕ → Bool
-addsItem kind = if eqb kind 2 then true else (if eqb kind 3 then true else (if eqb kind 6 then true else eqb kind 9))
-
 abbrev pub AddsItem : LentRecord → Type 0
-AddsItem lent = addsItem (kindNumber lent) ≡ true
+AddsItem (Lent.TestName p) = ⊥
+AddsItem (Lent.SourceFile p) = ⊥
+AddsItem (Lent.FunctionName start p) = Unit {0}
+AddsItem (Lent.FunctionData count p) = Unit {0}
+AddsItem (Lent.FunctionsFound found) = ⊥
+AddsItem (Lent.FunctionsHit hit) = ⊥
+AddsItem (Lent.BranchData line block branch taken) = Unit {0}
+AddsItem (Lent.BranchesFound found) = ⊥
+AddsItem (Lent.BranchesHit hit) = ⊥
+AddsItem (Lent.LineData line count checksum) = Unit {0}
+AddsItem (Lent.LinesFound found) = ⊥
+AddsItem (Lent.LinesHit hit) = ⊥
+AddsItem Lent.EndOfRecord = ⊥
 
 -- the item that FN, FNDA, BRDA and DA add, their texts being parts of these bytes; the others add none, and their item
 -- is never used

@@ -4,6 +4,7 @@ use harness::interface::{
     Words, FIELD, FIRST_NUMBER, GIVEN, KIND, LEN, LINE, START, TEXT, WORDS, WORDS_PER_ENTRY,
     WRITTEN,
 };
+use harness::lines::{Form, LAYOUTS};
 use harness::reports::bundles;
 use oracle::requests::{
     answer_all, given, hex, shown_order, shown_pairs, shown_truth, Lines, Pairs, Request,
@@ -11,26 +12,10 @@ use oracle::requests::{
 use oracle::{Fault, Mode, Refusal};
 use std::cmp::Ordering;
 use std::io;
+use std::iter;
 
 /// Scratch for a thousand entries; the requests are small.
 const SCRATCH: usize = 1000 * WORDS_PER_ENTRY;
-
-/// The tags in the order of their kinds, which count from 1.
-const TAGS: [&str; 13] = [
-    "TN",
-    "SF",
-    "FN",
-    "FNDA",
-    "FNF",
-    "FNH",
-    "BRDA",
-    "BRF",
-    "BRH",
-    "DA",
-    "LF",
-    "LH",
-    "end_of_record",
-];
 
 fn main() -> io::Result<()> {
     answer_all(answer)
@@ -136,26 +121,23 @@ fn ends(lines: Lines) -> (u32, u32) {
 
 // ---- answers
 
+/// The tag, then the values in the order of their fields.
 fn shown_record(line: &[u8], words: Words) -> String {
-    let tag = TAGS[words[KIND] as usize - 1];
-    let number = |place: usize| words[FIRST_NUMBER + place].to_string();
+    let layout = LAYOUTS[words[KIND] as usize - 1];
     let start = words[START] as usize;
     let text = || hex(&line[start..start + words[LEN] as usize]);
     let is_given = words[GIVEN] == 1;
-    let values = match tag {
-        "TN" | "SF" => vec![text()],
-        "FN" | "FNDA" => vec![number(0), text()],
-        "BRDA" => vec![
-            number(0),
-            number(1),
-            number(2),
-            given(is_given.then(|| number(3))),
-        ],
-        "DA" => vec![number(0), number(1), given(is_given.then(text))],
-        "end_of_record" => vec![],
-        _ => vec![number(0)],
-    };
-    [vec![tag.to_owned()], values].concat().join(" ")
+    let values = layout.fields.iter().enumerate().map(|(place, form)| {
+        let number = || words[FIRST_NUMBER + place].to_string();
+        match form {
+            Form::U32 | Form::U64 => number(),
+            Form::Taken => given(is_given.then(number)),
+            Form::Text => text(),
+            Form::Checksum => given(is_given.then(text)),
+        }
+    });
+    let shown: Vec<String> = iter::once(layout.tag.to_owned()).chain(values).collect();
+    shown.join(" ")
 }
 
 fn compared(number: u32) -> Ordering {
