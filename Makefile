@@ -22,7 +22,7 @@ files := \
 	$(library)=lib/liblcov.a \
 	target/lcov.pc=lib/pkgconfig/lcov.pc
 
-.PHONY: all demo test check bench install uninstall clean help
+.PHONY: all demo test check bench bench-peers install uninstall clean help
 .DELETE_ON_ERROR:
 
 all: $(library) $(program) ## build the static library and the command lcov-gather
@@ -53,6 +53,11 @@ bench: ## measure the speed against the Rust
 	$(MAKE) $(library)
 	cd rust && cargo run --offline --profile fast --bin bench
 
+bench-peers: ## compare lcov-gather with grcov and lcov on real tracefiles
+	tools/setup peers
+	$(MAKE) $(program)
+	tools/bench-peers
+
 install: all $(completions) ## install the command, its page and completions, the header and the library below PREFIX
 	sed -e 's|@PREFIX@|$(PREFIX)|' -e "s|@VERSION@|$$(cat VERSION)|" packaging/lcov.pc.in >target/lcov.pc
 	set -e; for file in $(files); do \
@@ -71,4 +76,4 @@ clean: ## remove all that was built, proofs included
 	rm -rf target rust/target rust/lcov-gather/target
 
 help: ## print this list
-	@awk -F':.*## ' '/^[a-z]+:.*## / { printf "make %-10s %s\n", $$1, $$2 }' Makefile
+	@awk -F':.*## ' '/^[a-z-]+:.*## / { printf "make %-11s %s\n", $$1, $$2 }' Makefile

@@ -10,7 +10,7 @@
  */
 #include "questions.h"
 
-enum { PATTERN = 0xa5, TEXTS = 600, BUNDLES = 600, RECORDS = 600, LISTS = 300, PATHS = 300 };
+enum { PATTERN = 0xa5, TEXTS = 600, BUNDLES = 600, RECORDS = 600, NUMBERS = 600, LISTS = 300, PATHS = 300 };
 
 static bool scratch_filled;
 static unsigned long calls;
@@ -68,6 +68,7 @@ struct input {
     struct text bytes, other;
     struct list list;
     uint32_t start, end;
+    uint64_t max;
     bool has_largest; /* asked with more scratch than a call can use */
 };
 
@@ -106,6 +107,11 @@ static uint32_t read_line(struct lent *lent)
 static uint32_t print_line(struct lent *lent)
 {
     return lcov_print_line(TEXT, OUT, ANSWER);
+}
+
+static uint32_t read_number(struct lent *lent)
+{
+    return lcov_read_number(TEXT, lent->in.max, ANSWER);
 }
 
 static uint32_t read_text(struct lent *lent)
@@ -154,19 +160,35 @@ static uint32_t compare_paths(struct lent *lent)
     return lcov_compare_paths(TEXT, OTHER_TEXT);
 }
 
-enum { READ_LINE, PRINT_LINE, READ_TEXT, GATHER, GATHER_WITH, GATHER_LOSSY, FILTER, INSERT_RANGE, QUERY_RANGE, HALF_OPEN, COMPARE_PATHS };
+enum {
+    READ_LINE,
+    PRINT_LINE,
+    READ_NUMBER,
+    READ_TEXT,
+    GATHER,
+    GATHER_WITH,
+    GATHER_LOSSY,
+    FILTER,
+    INSERT_RANGE,
+    QUERY_RANGE,
+    HALF_OPEN,
+    COMPARE_PATHS,
+};
 
 #define BIT(number) (1u << (number))
 #define UP_TO(number) (2 * BIT(number) - 1)
+#define OF_LINE (UP_TO(6) | BIT(19))
+#define OF_TEXT (OF_LINE | UP_TO(10) | BIT(25))
 
 static const struct call CALLS[] = {
-    [READ_LINE] = { "read_line", read_line, false, false, true, false, UP_TO(6) },
-    [PRINT_LINE] = { "print_line", print_line, false, true, true, false, UP_TO(6) | BIT(14) },
-    [READ_TEXT] = { "read_text", read_text, true, true, true, false, UP_TO(10) | BIT(14) },
-    [GATHER] = { "gather", gather, false, true, true, false, UP_TO(14) | BIT(16) },
-    [GATHER_WITH] = { "gather_with", gather_with, true, true, true, false, UP_TO(14) | BIT(16) },
-    [GATHER_LOSSY] = { "gather_lossy", gather_lossy, true, true, true, false, UP_TO(10) | BIT(13) | BIT(14) | BIT(16) },
-    [FILTER] = { "filter", filter, true, true, true, false, UP_TO(10) | BIT(14) | BIT(18) },
+    [READ_LINE] = { "read_line", read_line, false, false, true, false, OF_LINE },
+    [PRINT_LINE] = { "print_line", print_line, false, true, true, false, OF_LINE | BIT(14) },
+    [READ_NUMBER] = { "read_number", read_number, false, false, true, false, BIT(0) | BIT(4) | BIT(5) | BIT(6) | BIT(19) },
+    [READ_TEXT] = { "read_text", read_text, true, true, true, false, OF_TEXT | BIT(14) },
+    [GATHER] = { "gather", gather, false, true, true, false, OF_TEXT | UP_TO(14) | BIT(16) },
+    [GATHER_WITH] = { "gather_with", gather_with, true, true, true, false, OF_TEXT | UP_TO(14) | BIT(16) },
+    [GATHER_LOSSY] = { "gather_lossy", gather_lossy, true, true, true, false, OF_TEXT | BIT(13) | BIT(14) | BIT(16) },
+    [FILTER] = { "filter", filter, true, true, true, false, OF_TEXT | BIT(14) | BIT(18) },
     [INSERT_RANGE] = { "insert_range", insert_range, false, false, true, true, BIT(0) | BIT(15) | BIT(18) },
     [QUERY_RANGE] = { "query_range", query_range, false, false, true, false, BIT(0) | BIT(18) },
     [HALF_OPEN] = { "half_open", half_open, false, false, true, false, BIT(0) },
@@ -485,6 +507,26 @@ static void ask_lines(void)
     }
 }
 
+static uint64_t some_max(void)
+{
+    static const uint64_t ENDS[] = { 0, 9, 10, 99999999, UINT32_MAX, UINT64_MAX };
+    return one_in(2) ? PICK(ENDS) : (uint64_t)below(SIZE_MAX) >> below(64);
+}
+
+static void ask_numbers(void)
+{
+    for (size_t k = 0; k < NUMBERS; k++) {
+        struct input in = { .max = some_max() };
+        for (size_t zeros = one_in(4) ? below(300) : 0; zeros > 0; zeros--)
+            put(&in.bytes, "0");
+        put_field(&in.bytes);
+        if (one_in(8))
+            put(&in.bytes, "%s", one_in(2) ? "," : "x");
+        ask_words(READ_NUMBER, &in);
+        free_input(&in);
+    }
+}
+
 static void ask_lists(void)
 {
     for (size_t k = 0; k < LISTS; k++) {
@@ -557,6 +599,7 @@ int main(int argc, char **argv)
     ask_nothing();
     ask_faults();
     ask_lines();
+    ask_numbers();
     ask_lists();
     ask_paths();
     ask_texts();

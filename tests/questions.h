@@ -88,7 +88,7 @@ static const char *const TESTS[] = { "", "a", "b", "a,b" };
 static const char *const SOURCES[] = { "a/b", "a//b", "a/./b", "c", "/c", "./c", "" };
 static const char *const NAMES[] = { "f", "g", "f,1", "gh", "" };
 static const char *const COUNTS[] = {
-    "0", "1", "2", "+7", "0012", "99", "12345", "1234567", "123456789", "12345678901234", "18446744073709551615",
+    "0", "1", "2", "7", "0012", "99", "12345", "1234567", "123456789", "12345678901234", "18446744073709551615",
 };
 
 /* How many of the test names and paths a question uses: the fewer, the more sections meet. */
@@ -175,10 +175,10 @@ static void double_line(struct text *text)
     free(line);
 }
 
-/* Lines that are refused with 1 to 9 in a text, with 1 to 6 alone; `SF:a` only at the text's end. */
+/* Lines that are refused with 1 to 9, 19 and 25 in a text, with 1 to 6 and 19 alone; `SF:a` only at the text's end. */
 static const char *const FAULTS[] = {
     "VER:1\n", "FN:5\n", "LF:1,2\n", "DA:,1\n", "DA:1,-3\n", "DA:4294967296,1\n", "SF:a\nTN:b\n", "SF:a\n",
-    "FNDA:18446744073709551615,f\nFNDA:1,f\n",
+    "FNDA:18446744073709551615,f\nFNDA:1,f\n", "SF:a\nSF:b\n", "DA:1,+1\n",
 };
 
 static void put_fault(struct text *text)

@@ -17,7 +17,7 @@ ROOT = pathlib.Path(__file__).resolve().parent.parent
 Row = collections.namedtuple("Row", "name meaning told")
 
 # The command lends long outputs and makes its bundles and range lists itself, so it meets none of 14 to 18.
-COMMAND_MEETS = range(1, 14)
+COMMAND_MEETS = [*range(1, 14), 19, 25]
 
 
 def text_of(path):
@@ -164,8 +164,9 @@ def all_differences(defined):
 
 def main():
     defined = definitions()
-    if sorted(defined) != list(range(1, len(defined) + 1)) or not all(row.meaning for row in defined.values()):
-        sys.exit(f"the definitions are not numbered from 1 on, each with a meaning: {sorted(defined)}")
+    unsaid = [number for number, row in defined.items() if not row.meaning]
+    if not defined or unsaid:
+        sys.exit(f"the definitions have no meaning for these numbers: {unsaid}")
     wrong = list(all_differences(defined))
     print(*wrong, f"{len(defined)} refusals, {len(TABLES)} tables, {len(wrong)} differences", sep="\n")
     sys.exit(1 if wrong else 0)

@@ -35,6 +35,9 @@ SOUND = [
     ("end_of_record", []),
 ]
 
+# how many of a line's fields are numbers; they come first
+NUMBER_FIELDS = {"FN": 1, "FNDA": 1, "FNF": 1, "FNH": 1, "BRDA": 4, "BRF": 1, "BRH": 1, "DA": 2, "LF": 1, "LH": 1}
+
 # the number fields, by tag and place from 0; all numbers are tried in the first of each form
 TRIED = [("FN", 0), ("BRDA", 3)]
 SAMPLED = [("FNDA", 0, 16), ("DA", 1, 16), ("DA", 0, 6), ("BRDA", 0, 4), ("BRDA", 1, 4), ("BRDA", 2, 4)] + [
@@ -93,7 +96,13 @@ def lines():
     asked += ["FNDA:2," + text for text in rng.sample(TEXTS, 6)]
     asked += ["DA:1,2," + checksum for checksum in CHECKSUMS]
     asked += OTHER_TAGS
-    return distinct(asked)
+    return [text for text in distinct(asked) if not has_sign(text)]
+
+
+def has_sign(text):
+    """Whether a number field of a line begins with '+'. The Rust takes the sign, and the port refuses it; so it is not asked."""
+    tag, _, body = text.partition(":")
+    return any(field.startswith("+") for field in body.split(",")[: NUMBER_FIELDS.get(tag, 0)])
 
 
 # ---- paths
@@ -132,13 +141,13 @@ CHOSEN_TEXTS = [
     "", "\n", "\r\n", "TN:a\n", "TN:a", "TN:a\nTN:b\n", "TN:a\nSF:b\n", "end_of_record\n", "end_of_record", "SF:a\nend_of_record\n",
     "TN:x\nend_of_record\nDA:1,1\nend_of_record\n", "FNDA:2,f\nFN:3,f\nend_of_record\n", "FN:3,f\nFNDA:2,f\nFNDA:5,f\nend_of_record\n",
     "FN:3,f\nFN:4,f\nend_of_record\n", "FNDA:2,f\nend_of_record\n", "DA:1,2\nDA:1,5\nend_of_record\n", "DA:1,2,c\nDA:1,5\nend_of_record\n",
-    "BRDA:1,0,0,2\nBRDA:1,0,0,-\nend_of_record\n", "SF:a\nSF:b\nDA:1,1\nend_of_record\n", "DA:1,1\nSF:a\nend_of_record\n",
+    "BRDA:1,0,0,2\nBRDA:1,0,0,-\nend_of_record\n", "SF:a\nend_of_record\nSF:b\nDA:1,1\nend_of_record\n", "DA:1,1\nSF:a\nend_of_record\n",
     "SF:a//b\nDA:1,1\nend_of_record\nSF:a/b\nDA:2,2\nend_of_record\n", "SF:a/b\nFN:1,f\nend_of_record\nSF:a/./b/\nDA:2,0\nend_of_record\n",
     "SF:a-b\nDA:1,1\nend_of_record\nSF:a/b\nDA:1,1\nend_of_record\n", "TN:b\nDA:1,1\nend_of_record\nTN:a\nDA:1,1\nend_of_record\n",
     "TN:a\nDA:1,1\nend_of_record\nDA:2,1\nend_of_record\n", "TN:a\nTN:b\nSF:m.c\nDA:1,1\nend_of_record\nTN:c\n",
     "DA:1,1\n", "DA:1,1\nend_of_record\nLF:0", "TN:a\nFN:1,f\nFNDA:1,f", "LF:1\nTN:a\n", "SF:a\nTN:b\nend_of_record\n", "TN:a\nSF:b\nTN:c\n", "SF:a\n\nend_of_record\n", "SF:a\r\nDA:1,1,-\r\nend_of_record\r\n",
     "LF:1\nLH:1\nFNF:9\nend_of_record\n", "LF:1\n", "SF:a\nDA:1,1\nend_of_record:z", "SF:a\nXX:1\nend_of_record\n", "SF:a\nFN:5\nend_of_record\n",
-    "SF:a\nLF:1,2\nend_of_record\n", "FNF:1,\n", "SF:a\nBRDA:1,0,0,1,\n", "SF:a\nFN:,f\n", "SF:a\nBRDA:1,0,0,\n", "LH\n", "FNDA:7\n", "DA:4294967296x,0\n", "DA:4294967295x,0\n", "DA:1,+\n", "SF:a\nDA:,1\nend_of_record\n", "SF:a\nDA:1,-\nend_of_record\n", "SF:a\nBRDA:1,2,4294967296,-\n",
+    "SF:a\nLF:1,2\nend_of_record\n", "FNF:1,\n", "SF:a\nBRDA:1,0,0,1,\n", "SF:a\nFN:,f\n", "SF:a\nBRDA:1,0,0,\n", "LH\n", "FNDA:7\n", "DA:4294967296x,0\n", "DA:4294967295x,0\n", "SF:a\nDA:,1\nend_of_record\n", "SF:a\nDA:1,-\nend_of_record\n", "SF:a\nBRDA:1,2,4294967296,-\n",
     "TN:é\nSF:größe.c\nFN:1,名\nFNDA:1,名\nend_of_record\n", "DA:3,0\nDA:1,0\nDA:2,1\nend_of_record\n",
     "FN:7,a\nFN:2,b\nFNDA:1,c\nFNDA:0,a\nend_of_record\n", "BRDA:2,0,1,1\nBRDA:2,0,0,-\nBRDA:1,9,9,0\nend_of_record\n",
     "DA:4294967295,18446744073709551615\nend_of_record\n", "FN:0,\nFNDA:0,\nend_of_record\n",
@@ -235,6 +244,26 @@ def joined(rng, text):
     return whole + rng.choice([end, end, ""]) if text else whole
 
 
+def has_second_path(text):
+    """Whether a section has two SF lines. The Rust takes the last one, and the port refuses it; so it is not asked."""
+    paths = 0
+    for line in text.split("\n"):
+        tag = line.rstrip("\r").partition(":")[0]
+        paths = 0 if tag == "end_of_record" else paths + (tag == "SF")
+        if paths > 1:
+            return True
+    return False
+
+
+def compared(asked, texts_of):
+    """The questions that the Rust answers as the port must."""
+    return distinct(question for question in asked if all(map(is_compared, texts_of(question))))
+
+
+def is_compared(text):
+    return not has_second_path(text) and not any(map(has_sign, text.split("\n")))
+
+
 def bad_lines():
     """Lines of which a text has no more than one, and that hold no line end."""
     return [text for text in lines() if "\n" not in text and len(text.encode()) < 30]
@@ -244,10 +273,10 @@ def texts():
     rng = generator("texts")
     bad = bad_lines()
     asked = list(CHOSEN_TEXTS)
-    while len(distinct(asked)) < 96:
+    while len(compared(asked, lambda text: [text])) < 96:
         text = Sections(rng, steady=False).text()
         asked.append(joined(rng, damaged(rng, text, bad) if text and rng.random() < 0.4 else text))
-    return distinct(asked)
+    return compared(asked, lambda text: [text])
 
 
 # ---- gathers
@@ -277,14 +306,14 @@ def gathers():
     rng = generator("gathers")
     bad = bad_lines()
     asked = [(mode, tuple(texts)) for texts in CHOSEN_BUNDLES for mode in ("checked", "lossy")]
-    while len(distinct(asked)) < 120:
+    while len(compared(asked, lambda gather: gather[1])) < 120:
         sections = Sections.meeting(rng, steady=rng.random() < 0.5)
         texts = [sections.text() for _ in range(rng.choice([1, 2, 3, 3, 4, 4]))]
         if rng.random() < 0.15:
             at = rng.randrange(len(texts))
             texts[at] = damaged(rng, texts[at], bad) if texts[at] else texts[at]
         asked.append((rng.choice(["checked", "lossy"]), tuple(joined(rng, text) for text in texts)))
-    return distinct(asked)
+    return compared(asked, lambda gather: gather[1])
 
 
 # ---- ranges
@@ -357,11 +386,11 @@ def filters():
     rng = generator("filters")
     bad = bad_lines()
     asked = list(CHOSEN_FILTERS)
-    while len(distinct(asked)) < 50:
+    while len(compared(asked, lambda question: question[:1])) < 50:
         text = Sections(rng, steady=rng.random() < 0.5).text()
         text = damaged(rng, text, bad) if text and rng.random() < 0.08 else text
         asked.append((joined(rng, text), pairs(rng)))
-    return distinct(asked)
+    return compared(asked, lambda question: question[:1])
 
 
 # ---- examples

@@ -4,8 +4,8 @@
     recorded.py             writes crates/test_texts/stdin and stdout
     recorded.py --check     writes nothing, and fails if a file is not what would be written
 
-The texts are those of cases.py and chosen ones for the entry limit, whose refusals no Rust gives: there line k brings the k-th entry,
-so a limit of E is passed at line E + 1.
+The texts are those of cases.py and chosen ones whose refusals no Rust gives: at the entry limit, where line k brings the k-th entry, so
+that a limit of E is passed at line E + 1; with a second SF in a section; and with a plus sign before a number.
 """
 
 import argparse
@@ -46,6 +46,35 @@ def limited():
     yield whole * 2, len(lines), b"refused 10 0 6 0\n"
 
 
+def second_paths():
+    """Texts with a second SF in a section, and the line of it."""
+    for text, line in [
+        ("SF:a\nSF:b\nend_of_record\n", 2),
+        ("SF:a\nDA:1,1\nSF:a\nend_of_record\n", 3),
+        ("SF:\nSF:a\nDA:1,1\nend_of_record\n", 2),
+        ("SF\nSF\n", 2),
+        ("SF:a\nDA:1,1\nend_of_record\nTN:b\nDA:1,1\nSF:b\nSF:\n", 7),
+    ]:
+        assert cases.has_second_path(text)
+        yield text, 256, f"refused 25 0 {line} 0\n".encode()
+
+
+def signed_numbers():
+    """Texts with a plus sign before a number, and the line and the field of it."""
+    for text, line, field in [
+        ("DA:1,+\n", 1, 2),
+        ("SF:a\nLF:+7\nend_of_record\n", 2, 1),
+        ("SF:a\nBRDA:1,0,0,+5\nend_of_record\n", 2, 4),
+        ("SF:a\nBRDA:1,++0,x,\n", 2, 2),
+        ("FN:+1\n", 1, 1),
+        ("FNH:+1,2\n", 1, 1),
+        ("SF:a\nDA:+4294967296,1\n", 2, 1),
+        ("TN:+5\nSF:+a\nFN:1,+2,f\nDA:1,2,+5\nend_of_record:+1\nFNDA:+0,f\n", 6, 1),
+    ]:
+        assert any(map(cases.has_sign, text.split("\n")))
+        yield text, 256, f"refused 19 0 {line} {field}\n".encode()
+
+
 def make_report(text):
     return told(make.ask([f"text {make.hexed(text)}"])[0])
 
@@ -59,6 +88,9 @@ CHOSEN_TEXTS = [
     # a repeated DA and BRDA replace; FNDA adds; FN after FNDA sets the count to 0
     "SF:a\nDA:1,1\nDA:1,2\nBRDA:1,0,0,3\nBRDA:1,0,0,-\nend_of_record\n",
     "SF:a\nFNDA:2,f\nFN:3,f\nFNDA:1,g\nFNDA:4,g\nend_of_record\n",
+    # names, checksums and ignored bodies may begin with a plus sign; an earlier field is refused before a number with one
+    "TN:+5\nSF:+a\nFN:1,+2,f\nFNDA:2,+2,f\nDA:1,2,+5\nend_of_record:+1\n",
+    "SF:a\nDA:x,+1\nend_of_record\n",
 ]
 
 
@@ -66,7 +98,7 @@ def recorded_texts():
     asked = list(dict.fromkeys(CHOSEN_TEXTS + [text for text in cases.texts()]))
     answers = make.ask([f"text {make.hexed(text)}" for text in asked])
     recorded = [(text, 256, told(answer)) for text, answer in zip(asked, answers) if answer != "outside"]
-    recorded += list(limited())
+    recorded += [*limited(), *second_paths(), *signed_numbers()]
     stdin = b"".join(struct.pack("<HH", entries, len(text.encode())) + text.encode() for text, entries, _ in recorded)
     return stdin, b"".join(out for _, _, out in recorded)
 

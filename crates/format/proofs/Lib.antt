@@ -1,4 +1,5 @@
 pub mod PutLaws
-pub mod DecimalLaws
 pub mod OverLaws
+pub mod DecimalLaws
+pub mod PowerLaws
 pub mod PairLaws

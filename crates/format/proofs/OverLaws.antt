@@ -56,17 +56,25 @@ module _ (old ys : Bytes) (b : ℕ) where
   abbrev pub after : Bytes
   after = take (length (set old 0 b) - 1) (drop 1 (set old 0 b))
 
-  after-room : (t : Bytes) → 1 + length t ≤ length old → length t ≤ length after
+  pub after-room : (t : Bytes) → 1 + length t ≤ length old → length t ≤ length after
   after-room t room = simp (length-take, length-drop, length-set) (omega arith)
 
+  -- the bytes after it are written
+  pub first-fits : (t : Bytes) (n : ℕ) → 1 + length t ≤ length old → length old < 2 ^ 64 → n ≡ length t → Fits w64 (1 + n)
+  first-fits t n room h e = record { fits = omega arith }
+
+  pub first-over : (t : Bytes) → 1 + length t ≤ length old → ys ≡ over t after → take 1 (set old 0 b) ++ (ys ++ drop (length (set old 0 b) - 1) (drop 1 (set old 0 b))) ≡ over (b ∷ t) old
+  first-over t room y = over-more old (set old 0 b) (b ∷ []) ys t 1 (over-first old b (omega arith)) refl y
+
+  -- or were, as far as they fit
   pub next-len : (t : Bytes) (n : ℕ) → 1 + length t ≤ length old → n ≡ putLen (written (length after) t) → 1 + n ≡ 1 + length t
   next-len t n room e = ap (λ (k : ℕ). 1 + k) (put-len t after (after-room t room) n e)
 
   pub next-fits : (t : Bytes) (n : ℕ) → 1 + length t ≤ length old → length old < 2 ^ 64 → n ≡ putLen (written (length after) t) → Fits w64 (1 + n)
-  next-fits t n room h e = record { fits = omega (arith, next-len t n room e) }
+  next-fits t n room h e = first-fits t n room h (put-len t after (after-room t room) n e)
 
   pub over-next : (t : Bytes) → 1 + length t ≤ length old → ys ≡ outputAfter (written (length after) t) after → take 1 (set old 0 b) ++ (ys ++ drop (length (set old 0 b) - 1) (drop 1 (set old 0 b))) ≡ over (b ∷ t) old
-  over-next t room y = over-more old (set old 0 b) (b ∷ []) ys t 1 (over-first old b (omega arith)) refl (put-over t after (after-room t room) ys y)
+  over-next t room y = first-over t room (put-over t after (after-room t room) ys y)
 
   pub next-size : (n : ℕ) → 1 + n ≤ length old → length ys ≡ length (take (length (set old 0 b) - 1) (drop 1 (set old 0 b))) → length (take 1 (set old 0 b) ++ (ys ++ drop (length (set old 0 b) - 1) (drop 1 (set old 0 b)))) ≡ length old
   next-size n room e = lent-size (set old 0 b) ys 1 e (simp length-set (omega arith)) ∙ length-set old 0 b

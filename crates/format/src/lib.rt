@@ -1,11 +1,12 @@
 // Bytes and decimal numbers written at the front of an output: what prints a count, of SPEC 2.6.
 ghost use mathlib.Core.Path.{_≡_};
 ghost use mathlib.Core.List.{_∷_};
-ghost use Prim.Native.Nat.{_+_, _≤_, _<_};
-ghost use lib.ListN.{length};
+ghost use Prim.Native.Nat.{_+_, _*_, _≤_, _<_};
+ghost use lib.ListN.{length, set};
 ghost use Rattle.model.specs.Number.{decimal};
 ghost use Rattle.model.specs.Output.{written, outputAfter};
 ghost use Rattle.format.specs.Put.{putLen, over, pair};
+ghost use Rattle.format.specs.Digits.{Subtracted, Begun};
 
 // Writes s at the front of out, where out holds it, and answers how many bytes it wrote.
 pub fn put_bytes(s: &[u8], out: &mut [u8]) -> usize
@@ -23,102 +24,118 @@ pub fn put_bytes(s: &[u8], out: &mut [u8]) -> usize
     i
 }
 
+// The powers of ten that a u64 holds: entry k is 10^k (`power-at` in proofs/PowerLaws.antt).
+const POWERS: [u64; 20] = [
+    1,
+    10,
+    100,
+    1000,
+    10000,
+    100000,
+    1000000,
+    10000000,
+    100000000,
+    1000000000,
+    10000000000,
+    100000000000,
+    1000000000000,
+    10000000000000,
+    100000000000000,
+    1000000000000000,
+    10000000000000000,
+    100000000000000000,
+    1000000000000000000,
+    10000000000000000000,
+];
+
+// How often a power of ten was subtracted from a number, and what is left.
+struct Digit {
+    digit: u64,
+    rest: u64,
+}
+
+// How far a number is written: so many bytes, and what is left of it.
+struct Written {
+    at: usize,
+    rest: u64,
+}
+
 // The number of decimal digits of v.
 pub fn decimal_len(v: u64) -> usize
     ensures { λ r. ⌜ (r ≡ length (decimal v)) × (r ≤ 20) ⌝ }
 {
-    let mut rest = v;
+    if POWERS[19] <= v {
+        return 20;
+    }
+    let mut power = POWERS[1];
     let mut n = 1;
-    while 10 <= rest {
-        rest = rest / 10;
+    while power <= v {
+        power = power * 10;
         n += 1;
     }
     n
 }
 
-// Writes the decimal digits of v from behind, where out holds them, and answers how many it wrote.
-fn put_long(v: u64, out: &mut [u8]) -> usize
-    ensures { λ r. ⌜ r ≡ putLen (written (length (now (out .entry))) (decimal v)) ⌝ }
-    ensures { λ _. ⌜ now (out .exit) ≡ outputAfter (written (length (now (out .entry))) (decimal v)) (now (out .entry)) ⌝ }
+// Subtracts a power of ten as often as it fits: at most nine times, since v is below ten times the power.
+fn digit_of(v: u64, power: u64) -> Digit
+    requires { ⌜ v < 10 * power ⌝ }
+    ensures { λ r. ⌜ Subtracted v power r ⌝ }
 {
-    let n = decimal_len(v);
-    if out.len() < n {
-        return 0;
-    }
     let mut rest = v;
-    let mut i = n;
-    while 0 < i {
-        i -= 1;
-        out[i] = (48 + rest % 10) as u8;
-        rest = rest / 10;
+    let mut digit = 0;
+    while power <= rest {
+        rest = rest - power;
+        digit += 1;
     }
-    n
+    Digit { digit, rest }
 }
 
-// Writes a number of at most two digits at the front of out.
-fn put_two(v: u64, out: &mut [u8]) -> usize
-    requires { ⌜ v < 100 ⌝ }
-    requires { ⌜ 2 ≤ length (now out) ⌝ }
-    ensures { λ r. ⌜ (r ≡ length (decimal v)) × (r ≤ 2) ⌝ }
-    ensures { λ _. ⌜ now (out .exit) ≡ over (decimal v) (now (out .entry)) ⌝ }
+// Writes the digits of v at the powers below number `from`, down to number `to`, and leaves out what stands before its first digit.
+fn put_run(v: u64, before: Written, from: usize, to: usize, out: &mut [u8]) -> Written
+    requires { ⌜ Begun v from (now out) (now out) before × (from ≤ 20) × (1 ≤ to) × (to ≤ from) × (length (decimal v) ≤ length (now out)) ⌝ }
+    ensures { λ r. ⌜ Begun v to (now (out .entry)) (now (out .exit)) r × (before .at ≤ r .at) ⌝ }
 {
-    if v < 10 {
-        out[0] = (48 + v) as u8;
-        return 1;
-    }
-    out[0] = (48 + v / 10) as u8;
-    out[1] = (48 + v % 10) as u8;
-    2
-}
-
-// Writes a number of at most four digits at the front of out.
-fn put_four(v: u64, out: &mut [u8]) -> usize
-    requires { ⌜ v < 10000 ⌝ }
-    requires { ⌜ 4 ≤ length (now out) ⌝ }
-    ensures { λ r. ⌜ (r ≡ length (decimal v)) × (r ≤ 4) ⌝ }
-    ensures { λ _. ⌜ now (out .exit) ≡ over (decimal v) (now (out .entry)) ⌝ }
-{
-    if v < 100 {
-        return put_two(v, out);
-    }
-    let n = put_two(v / 100, out);
-    let rest = v % 100;
-    out[n] = (48 + rest / 10) as u8;
-    out[n + 1] = (48 + rest % 10) as u8;
-    n + 2
-}
-
-// Writes a number of at most eight digits at the front of out. Its last four are written with no test of their own.
-fn put_eight(v: u64, out: &mut [u8]) -> usize
-    requires { ⌜ v < 100000000 ⌝ }
-    requires { ⌜ 8 ≤ length (now out) ⌝ }
-    ensures { λ r. ⌜ (r ≡ length (decimal v)) × (r ≤ 8) ⌝ }
-    ensures { λ _. ⌜ now (out .exit) ≡ over (decimal v) (now (out .entry)) ⌝ }
-{
-    if v < 10000 {
-        return put_four(v, out);
-    }
-    let n = put_four(v / 10000, out);
-    let upper = v % 10000 / 100;
-    let lower = v % 10000 % 100;
-    out[n] = (48 + upper / 10) as u8;
-    out[n + 1] = (48 + upper % 10) as u8;
-    out[n + 2] = (48 + lower / 10) as u8;
-    out[n + 3] = (48 + lower % 10) as u8;
-    n + 4
-}
-
-// Writes the decimal digits of v at the front of out, where out holds them, and answers how many it wrote.
-pub fn put_decimal(v: u64, out: &mut [u8]) -> usize
-    ensures { λ r. ⌜ r ≡ putLen (written (length (now (out .entry))) (decimal v)) ⌝ }
-    ensures { λ _. ⌜ now (out .exit) ≡ outputAfter (written (length (now (out .entry))) (decimal v)) (now (out .entry)) ⌝ }
-{
-    if 8 <= out.len() {
-        if v < 100000000 {
-            return put_eight(v, out);
+    let powers = POWERS;
+    let mut rest = before.rest;
+    let mut at = before.at;
+    let mut k = from;
+    while to < k {
+        k -= 1;
+        let power = powers[k];
+        if power <= v {
+            let next = digit_of(rest, power);
+            out[at] = (48 + next.digit) as u8;
+            rest = next.rest;
+            at += 1;
         }
     }
-    put_long(v, out)
+    Written { at, rest }
+}
+
+// Writes the last digit, which is what is left.
+fn put_last(before: Written, out: &mut [u8]) -> usize
+    requires { ⌜ (before .at < length (now out)) × (before .rest < 10) ⌝ }
+    ensures { λ r. ⌜ (r ≡ before .at + 1) × (now (out .exit) ≡ set (now (out .entry)) (before .at) (48 + before .rest)) ⌝ }
+{
+    let at = before.at;
+    out[at] = (48 + before.rest) as u8;
+    at + 1
+}
+
+// Writes the digits of v at the front of out, which holds them. The compiler unrolls a run of at most twelve turns whose ends it knows, and
+// then the table is no longer there: each power is in the code.
+fn put_digits(v: u64, out: &mut [u8]) -> usize
+    requires { ⌜ length (decimal v) ≤ length (now out) ⌝ }
+    ensures { λ r. ⌜ (r ≡ length (decimal v)) × (now (out .exit) ≡ over (decimal v) (now (out .entry))) ⌝ }
+{
+    let none = Written { at: 0, rest: v };
+    if v < POWERS[8] {
+        let all = put_run(v, none, 8, 1, out);
+        return put_last(all, out);
+    }
+    let high = put_run(v, none, 20, 8, out);
+    let all = put_run(v, high, 8, 1, out);
+    put_last(all, out)
 }
 
 // Writes a field at the front of out: the byte sep, then the digits of v.
@@ -127,7 +144,7 @@ pub fn put_number(sep: u8, v: u64, out: &mut [u8]) -> usize
     ensures { λ r. ⌜ (r ≡ 1 + length (decimal v)) × (now (out .exit) ≡ over (sep ∷ decimal v) (now (out .entry))) ⌝ }
 {
     out[0] = sep;
-    let n = put_decimal(v, &mut out[1..]);
+    let n = put_digits(v, &mut out[1..]);
     1 + n
 }
 

@@ -14,6 +14,7 @@ use model::Refusal;
 use model::WriteAnswer;
 pub use record_display::print_line;
 pub use record_parse::read_line;
+pub use record_parse::read_number;
 use report_parser::TextAnswer;
 ghost use mathlib.Core.Path.{_≡_};
 ghost use mathlib.Core.List.{[]};

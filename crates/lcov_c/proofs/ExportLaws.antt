@@ -7,10 +7,12 @@ use Rattle.model.specs.declared.LineAnswer.{LineAnswer}
 use Rattle.model.specs.declared.LineAnswer.the-variants as Line
 use Rattle.model.specs.declared.Record.{Record as LentRecord}
 use Rattle.model.specs.declared.Refusal.{Refusal}
+use Rattle.model.specs.declared.NumberAnswer.{NumberAnswer}
 use Rattle.model.specs.declared.WriteAnswer.{WriteAnswer}
 use Rattle.model.specs.Bytes.{Bytes, newline}
 use Rattle.model.specs.Answer.{Answer, refused, _>>=_}
 use Rattle.model.specs.Record.{Record}
+use Rattle.model.specs.Number.{Counted}
 use Rattle.model.specs.Tags.{defaultTag}
 use Rattle.model.specs.Line.{printRecord}
 use Rattle.model.specs.Output.{written, outputAfter}
@@ -20,18 +22,24 @@ use Rattle.model.proofs.LentLaws as LentLaws
 use Rattle.model.specs.declared.Range.{Range}
 use Rattle.model.specs.declared.InsertAnswer.{InsertAnswer}
 use Rattle.model.specs.declared.QueryAnswer.{QueryAnswer}
-use Rattle.model.specs.Calls.{LineCall, WriteCall, InsertCall, QueryCall, lineAnswer, writeAnswer}
-use Rattle.model.proofs.CallLaws.{line-exact, write-exact, insert-exact, query-exact}
+use Rattle.model.specs.Calls.{LineCall, NumberCall, WriteCall, InsertCall, QueryCall, lineAnswer, writeAnswer}
+use Rattle.model.proofs.CallLaws.{line-exact, number-exact, write-exact, insert-exact, query-exact}
 use Rattle.compare.specs.declared.Order.{Order}
 use Rattle.compare.specs.Orders.{orderOf}
-use Rattle.lcov_c_words.specs.Words.{lineWords, lineNumber, writeWords, writeNumber, insertWords, insertNumber, queryWords, queryNumber, withPrefix}
-use Rattle.lcov_c.specs.Exports.{ReadLine, printedLine, AnswerStored, RangeInserted, Queried, rangeWords, orderNumber}
+use Rattle.lcov_c_words.specs.Words.{lineWords, lineNumber, countedWords, countedNumber, writeWords, writeNumber, insertWords, insertNumber, queryWords, queryNumber, withPrefix}
+use Rattle.lcov_c.specs.Exports.{ReadLine, ReadNumber, printedLine, AnswerStored, RangeInserted, Queried, rangeWords, orderNumber}
 
 pub line-read : (line : Bytes) (slice slice′ : List ℕ) (number : ℕ) (got : LineAnswer) (words : List ℕ) → LineCall (lentLine defaultTag line) got
     → number ≡ lineNumber got → words ≡ lineWords got → slice′ ≡ withPrefix words slice → ReadLine line slice slice′ number
 line-read line slice slice′ number got words call n w e =
     let is = line-exact (lentLine defaultTag line) got call in
     record { numbered = n ∙ ap lineNumber is; words = rw (w, is) at e }
+
+pub number-read : (answer : Answer Counted) (slice slice′ : List ℕ) (number : ℕ) (got : NumberAnswer) (words : List ℕ) → NumberCall answer got
+    → number ≡ countedNumber got → words ≡ countedWords got → slice′ ≡ withPrefix words slice → ReadNumber answer slice slice′ number
+number-read answer slice slice′ number got words call n w e =
+    let is = number-exact answer got call in
+    record { numbered = n ∙ ap countedNumber is; words = rw (w, is) at e }
 
 -- ---- a line read and printed
 

@@ -5,19 +5,24 @@ use mathlib.Core.Bool.{Bool}
 use mathlib.Core.List.{List, [], _∷_, _++_}
 use Rattle.model.specs.Bytes.{Bytes, newline}
 use Rattle.model.specs.Answer.{Answer, _>>=_}
+use Rattle.model.specs.Number.{Counted}
 use Rattle.model.specs.Tags.{defaultTag}
 use Rattle.model.specs.Line.{readLine, printRecord}
 use Rattle.model.specs.Parts.{lentLine}
 use Rattle.model.specs.Output.{written, outputAfter}
 use Rattle.model.specs.declared.Range.{Range}
 use Rattle.model.specs.Ranges.{sliceAfter}
-use Rattle.model.specs.Calls.{lineAnswer, writeAnswer, insertAnswer, queryAnswer}
-use Rattle.lcov_c_words.specs.Words.{eight, lineWords, lineNumber, writeWords, writeNumber, insertWords, insertNumber, queryWords, queryNumber, withPrefix}
+use Rattle.model.specs.Calls.{lineAnswer, numberAnswer, writeAnswer, insertAnswer, queryAnswer}
+use Rattle.lcov_c_words.specs.Words.{eight, lineWords, lineNumber, countedWords, countedNumber, writeWords, writeNumber, insertWords, insertNumber, queryWords, queryNumber, withPrefix}
 
 -- a line read: the number and the words of the model's answer, in which a text is its start and length in the line
 pub record ReadLine (line : Bytes) (slice slice′ : List ℕ) (number : ℕ) : Type 0 where
   pub numbered : number ≡ lineNumber (lineAnswer (lentLine defaultTag line))
   pub words : slice′ ≡ withPrefix (lineWords (lineAnswer (lentLine defaultTag line))) slice
+
+pub record ReadNumber (answer : Answer Counted) (slice slice′ : List ℕ) (number : ℕ) : Type 0 where
+  pub numbered : number ≡ countedNumber (numberAnswer answer)
+  pub words : slice′ ≡ withPrefix (countedWords (numberAnswer answer)) slice
 
 -- a line read, and its record printed with byte 10 after it
 unfoldable pub printedLine : Bytes → ℕ → Answer Bytes

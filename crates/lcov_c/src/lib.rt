@@ -4,6 +4,7 @@ ghost use lib.ListN.{length};
 ghost use Rattle.model.specs.declared.Mode.the-variants.{Checked, Lossy};
 ghost use Rattle.model.specs.Limits.{program-words};
 ghost use Rattle.model.specs.Tags.{defaultTag};
+ghost use Rattle.model.specs.Number.{readField};
 ghost use Rattle.model.specs.Gather.{readAndPrint, gather};
 ghost use Rattle.model.specs.Filter.{filterText};
 ghost use Rattle.model.specs.Path.{components, comparePaths};
@@ -12,7 +13,7 @@ ghost use Rattle.model.specs.Calls.{writeAnswer};
 ghost use Rattle.lcov_c_words.specs.Words.{writeWords, writeNumber, withPrefix};
 ghost use Rattle.model.specs.Ranges.{halfOpen, insertCall, queryCall};
 ghost use Rattle.line_num_pairs.specs.Pairs.{pair, rangesIn};
-ghost use Rattle.lcov_c.specs.Exports.{ReadLine, printedLine, AnswerStored, RangeInserted, Queried, rangeWords, orderNumber};
+ghost use Rattle.lcov_c.specs.Exports.{ReadLine, ReadNumber, printedLine, AnswerStored, RangeInserted, Queried, rangeWords, orderNumber};
 use compare::Order;
 use model::LineAnswer;
 
@@ -44,6 +45,16 @@ pub extern "C" fn lcov_print_line(line: &[u8], out: &mut [u8], answer: &mut [u64
     let printed = record_display::print_line(line, made, out);
     lcov_c_words::put_words(lcov_c_words::write_words(printed), answer);
     lcov_c_words::write_number(printed)
+}
+
+// Reads one number field, a number up to max. Answers 0, its value and how many digits were read, or a refusal's number.
+#[no_mangle]
+pub extern "C" fn lcov_read_number(field: &[u8], max: u64, answer: &mut [u64]) -> u32
+    ensures { λ r. ⌜ ReadNumber (readField max (now (field .entry))) (now (answer .entry)) (now (answer .exit)) r ⌝ }
+{
+    let got = record_parse::read_number(field, max);
+    lcov_c_words::put_words(lcov_c_words::counted_words(got), answer);
+    lcov_c_words::counted_number(got)
 }
 
 // Gathers a bundle, checked, in lent scratch.

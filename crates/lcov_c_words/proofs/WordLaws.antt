@@ -8,11 +8,12 @@ use Rattle.model.specs.declared.Taken.{Taken}
 use Rattle.model.specs.declared.Checksum.{Checksum}
 use Rattle.model.specs.declared.Record.{Record}
 use Rattle.model.specs.declared.LineAnswer.{LineAnswer}
+use Rattle.model.specs.declared.NumberAnswer.{NumberAnswer}
 use Rattle.model.specs.declared.WriteAnswer.{WriteAnswer}
 use Rattle.model.specs.declared.InsertAnswer.{InsertAnswer}
 use Rattle.model.specs.declared.QueryAnswer.{QueryAnswer}
 use Rattle.format.proofs.PutLaws.{Putting, put-next, put-out}
-use Rattle.lcov_c_words.specs.Words.{branchWords, lineDataWords, recordWords, lineWords, writeWords, insertWords, queryWords, withPrefix}
+use Rattle.lcov_c_words.specs.Words.{branchWords, lineDataWords, recordWords, lineWords, countedWords, writeWords, insertWords, queryWords, withPrefix}
 
 module _ (words : List ℕ) where
   pub branch-is : (line block branch : ℕ) (a b : Taken) → a ≡ b → words ≡ branchWords line block branch b → words ≡ branchWords line block branch a
@@ -26,6 +27,9 @@ module _ (words : List ℕ) where
 
   pub line-is : (a b : LineAnswer) → a ≡ b → words ≡ lineWords b → words ≡ lineWords a
   line-is a b e h = rw e h
+
+  pub counted-is : (a b : NumberAnswer) → a ≡ b → words ≡ countedWords b → words ≡ countedWords a
+  counted-is a b e h = rw e h
 
   pub write-is : (a b : WriteAnswer) → a ≡ b → words ≡ writeWords b → words ≡ writeWords a
   write-is a b e h = rw e h

@@ -26,6 +26,8 @@ use Rattle.model.specs.declared.Record.the-variants.{
 }
 use Rattle.model.specs.declared.LineAnswer.{LineAnswer}
 use Rattle.model.specs.declared.LineAnswer.the-variants as Line
+use Rattle.model.specs.declared.NumberAnswer.{NumberAnswer}
+use Rattle.model.specs.declared.NumberAnswer.the-variants as Number
 use Rattle.model.specs.declared.WriteAnswer.{WriteAnswer}
 use Rattle.model.specs.declared.WriteAnswer.the-variants as Write
 use Rattle.model.specs.declared.InsertAnswer.{InsertAnswer}
@@ -74,6 +76,15 @@ lineWords (Line.Refused r) = refusalWords r
 abbrev pub lineNumber : LineAnswer → ℕ
 lineNumber (Line.Read made) = 0
 lineNumber (Line.Refused r) = numberOf (r .fault)
+
+-- the value, and how many digits were read
+abbrev pub countedWords : NumberAnswer → List ℕ
+countedWords (Number.Read value digits) = eight value digits 0 0 0 0 0 0
+countedWords (Number.Refused r) = refusalWords r
+
+abbrev pub countedNumber : NumberAnswer → ℕ
+countedNumber (Number.Read value digits) = 0
+countedNumber (Number.Refused r) = numberOf (r .fault)
 
 abbrev pub writeWords : WriteAnswer → List ℕ
 writeWords (Write.Written n) = eight n 0 0 0 0 0 0 0

@@ -2,10 +2,11 @@
 ghost use mathlib.Core.Path.{_≡_};
 ghost use lib.ListN.{length};
 ghost use Rattle.model.specs.Answer.{numberOf};
-ghost use Rattle.lcov_c_words.specs.Words.{branchWords, lineDataWords, recordWords, refusalWords, lineWords, lineNumber, writeWords, writeNumber, insertWords, insertNumber, heldWord, queryWords, queryNumber, withPrefix};
+ghost use Rattle.lcov_c_words.specs.Words.{branchWords, lineDataWords, recordWords, refusalWords, lineWords, lineNumber, countedWords, countedNumber, writeWords, writeNumber, insertWords, insertNumber, heldWord, queryWords, queryNumber, withPrefix};
 use model::Checksum;
 use model::InsertAnswer;
 use model::LineAnswer;
+use model::NumberAnswer;
 use model::QueryAnswer;
 use model::Record;
 use model::Refusal;
@@ -123,6 +124,27 @@ pub fn line_number(answer: LineAnswer) -> u32
     match answer {
         LineAnswer::Read(_record) => 0,
         LineAnswer::Refused(refusal) => refusal_number(refusal),
+    }
+}
+
+pub fn counted_words(answer: NumberAnswer) -> [u64; 8]
+    ensures { λ r. ⌜ r ≡ countedWords answer ⌝ }
+{
+    match answer {
+        NumberAnswer::Read { value, digits } => [value, digits as u64, 0, 0, 0, 0, 0, 0],
+        NumberAnswer::Refused(refusal) => refusal_words(refusal),
+    }
+}
+
+pub fn counted_number(answer: NumberAnswer) -> u32
+    ensures { λ r. ⌜ r ≡ countedNumber answer ⌝ }
+{
+    match answer {
+        NumberAnswer::Read {
+            value: _value,
+            digits: _,
+        } => 0,
+        NumberAnswer::Refused(refusal) => refusal_number(refusal),
     }
 }
 

@@ -3,3 +3,4 @@ pub mod Calls
 pub mod ScanLaws
 pub mod StepLaws
 pub mod InsertLaws
+pub mod Locals

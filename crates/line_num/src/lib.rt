@@ -340,3 +340,27 @@ pub fn insert(list: &mut [Range], used: usize, start: u32, end: u32) -> InsertAn
     rewrite(list, plan);
     insert_answer(found, used, len)
 }
+
+// The ranges of a list by value.
+pub const LIST: usize = 8;
+
+// What an insert answers, and the list afterwards.
+pub struct Inserted {
+    pub answer: InsertAnswer,
+    pub list: [Range; LIST],
+}
+
+// An insert into a list by value: who calls it holds no slice of structs, and needs no walk by hand.
+pub fn insert_by_value(mut list: [Range; LIST], used: usize, start: u32, end: u32) -> Inserted
+    ensures { λ r. ⌜ InsertCall (insertCall list used (pair start end)) list (r .list) (r .answer) ⌝ }
+{
+    let answer = insert(&mut list, used, start, end);
+    Inserted { answer, list }
+}
+
+// A query of a list by value.
+pub fn query_by_value(list: [Range; LIST], used: usize, s: u32, e: u32) -> QueryAnswer
+    ensures { λ r. ⌜ QueryCall (queryCall list used s e) r ⌝ }
+{
+    query(&list, used, s, e)
+}

@@ -27,12 +27,16 @@ use Rattle.model.specs.declared.Fault.the-variants.{
   MalformedBundle,
   PartOutside,
   MalformedRanges,
+  SignedNumber,
+  SecondSourceFile,
 }
 use Rattle.model.specs.declared.Refusal.{Refusal}
 use Rattle.model.specs.declared.Range.{Range}
 use Rattle.model.specs.declared.Record.{Record as LentRecord}
 use Rattle.model.specs.declared.LineAnswer.{LineAnswer}
 use Rattle.model.specs.declared.LineAnswer.the-variants as Line
+use Rattle.model.specs.declared.NumberAnswer.{NumberAnswer}
+use Rattle.model.specs.declared.NumberAnswer.the-variants as Number
 use Rattle.model.specs.declared.WriteAnswer.{WriteAnswer}
 use Rattle.model.specs.declared.WriteAnswer.the-variants as Write
 use Rattle.model.specs.declared.InsertAnswer.{InsertAnswer}
@@ -41,18 +45,22 @@ use Rattle.model.specs.declared.QueryAnswer.{QueryAnswer}
 use Rattle.model.specs.declared.QueryAnswer.the-variants as Query
 use Rattle.model.specs.Bytes.{Bytes}
 use Rattle.model.specs.Answer.{Answer, accepted, refused, numberOf, refusalValues, withValues}
+use Rattle.model.specs.Number.{Counted}
 use Rattle.model.specs.Output.{outputAfter}
 use Rattle.model.specs.Ranges.{sliceAfter}
 use Rattle.model.specs.Calls.{
   lineValues,
+  numberValues,
   writeValues,
   insertValues,
   queryValues,
   LineCall,
+  NumberCall,
   WriteCall,
   InsertCall,
   QueryCall,
   lineAnswer,
+  numberAnswer,
   writeAnswer,
   insertAnswer,
   queryAnswer,
@@ -67,7 +75,7 @@ faultOf n =
     (cond (eqb n 5) InvalidDigit (cond (eqb n 6) NumberOverflow (cond (eqb n 7) UnexpectedRecord (cond (eqb n 8) UnexpectedEof
     (cond (eqb n 9) CallOverflow (cond (eqb n 10) TooManyEntries (cond (eqb n 11) UnmatchedFunctionLine (cond (eqb n 12) UnmatchedChecksum
     (cond (eqb n 13) CountOverflow (cond (eqb n 14) OutputTooShort (cond (eqb n 15) RangesFull (cond (eqb n 16) MalformedBundle
-    (cond (eqb n 17) PartOutside MalformedRanges))))))))))))))))
+    (cond (eqb n 17) PartOutside (cond (eqb n 18) MalformedRanges (cond (eqb n 19) SignedNumber SecondSourceFile))))))))))))))))))
 
 fault-of : (fault : Fault) → faultOf (numberOf fault) ≡ fault
 fault-of UnknownRecord = refl
@@ -88,6 +96,8 @@ fault-of RangesFull = refl
 fault-of MalformedBundle = refl
 fault-of PartOutside = refl
 fault-of MalformedRanges = refl
+fault-of SignedNumber = refl
+fault-of SecondSourceFile = refl
 
 number-inj : {f g : Fault} → numberOf f ≡ numberOf g → f ≡ g
 number-inj {f} {g} e = sym (fault-of f) ∙ ap faultOf e ∙ fault-of g
@@ -114,6 +124,13 @@ line-exact (accepted lent) (Line.Read l) e = ap (λ (x : LentRecord). Line.Read 
 line-exact (accepted lent) (Line.Refused q) e = absurd (not-accepted e)
 line-exact (refused s) (Line.Read l) e = absurd (not-refused e)
 line-exact (refused s) (Line.Refused q) e = ap (λ (x : Refusal). Line.Refused x) (refusal-inj (refused-inj e))
+
+pub number-exact : (answer : Answer Counted) (r : NumberAnswer) → NumberCall answer r → r ≡ numberAnswer answer
+unfolding numberValues numberAnswer
+number-exact (accepted c) (Number.Read v d) e = ap (λ (x : Counted). Number.Read (x .value) (x .digits)) (accepted-inj e)
+number-exact (accepted c) (Number.Refused q) e = absurd (not-accepted e)
+number-exact (refused s) (Number.Read v d) e = absurd (not-refused e)
+number-exact (refused s) (Number.Refused q) e = ap (λ (x : Refusal). Number.Refused x) (refusal-inj (refused-inj e))
 
 pub write-exact : (answer : Answer Bytes) (r : WriteAnswer) → writeValues r ≡ withValues (mapAccepted length answer) → r ≡ writeAnswer answer
 unfolding writeValues writeAnswer
@@ -142,6 +159,11 @@ pub line-called : (answer : Answer LentRecord) (r : LineAnswer) → r ≡ lineAn
 unfolding lineValues lineAnswer
 line-called (accepted lent) r e = rw e
 line-called (refused s) r e = rw e
+
+pub number-called : (answer : Answer Counted) (r : NumberAnswer) → r ≡ numberAnswer answer → NumberCall answer r
+unfolding numberValues numberAnswer
+number-called (accepted c) r e = rw e
+number-called (refused s) r e = rw e
 
 pub write-called : (answer : Answer Bytes) (out out′ : Bytes) (r : WriteAnswer) → r ≡ writeAnswer answer → out′ ≡ outputAfter answer out → WriteCall answer out out′ r
 unfolding writeValues writeAnswer

@@ -8,14 +8,14 @@ use mathlib.Core.Option.{Option, none, some}
 use lib.Dec.{eqb, leb}
 use borrow.Author.Tests.{leb-true}
 use Rattle.ordmap.proofs.Results.{impossible, accepted-inj, not-accepted, bind-accepted}
-use Rattle.model.specs.declared.Fault.the-variants.{UnknownRecord, FieldNotFound, TooManyFields, InvalidDigit, NumberOverflow}
+use Rattle.model.specs.declared.Fault.the-variants.{UnknownRecord, FieldNotFound, TooManyFields, InvalidDigit, NumberOverflow, SignedNumber}
 use Rattle.model.specs.declared.Kind.{Kind}
 use Rattle.model.specs.declared.Kind.the-variants as K
 use Rattle.model.specs.Order.{if_then_else_}
 use Rattle.model.specs.Bytes.{Bytes, ascii, newline, return, comma, colon, sameBytes, before, after, onto, split, Free}
 use Rattle.model.specs.Answer.{Answer, accepted, refused, _>>=_, refuse, refuseField}
 use Rattle.model.specs.Limits.{u32-max, u64-max}
-use Rattle.model.specs.Number.{isDigit, readDigits, readSome, readNumber}
+use Rattle.model.specs.Number.{isDigit, readDigits, readNumber}
 use Rattle.model.specs.Record.{
   Record,
   testName,
@@ -157,18 +157,13 @@ readDigits-fits max v (b ∷ bs) {n} h p =
     go true false e q ih = absurd (not-accepted q)
     go false t e q ih = absurd (not-accepted q)
 
-readSome-fits : (max : ℕ) (bs : Bytes) {n : ℕ} → readSome max bs ≡ accepted n → n ≤ max
-unfolding readSome
-readSome-fits max [] p = absurd (not-accepted p)
-readSome-fits max (b ∷ bs) p = readDigits-fits max 0 (b ∷ bs) zero-le p
-
 readNumber-fits : (max : ℕ) (bs : Bytes) {n : ℕ} → readNumber max bs ≡ accepted n → n ≤ max
 unfolding readNumber
 readNumber-fits max [] p = absurd (not-accepted p)
 readNumber-fits max (b ∷ bs) {n} p = go (eqb b 43) p
   where
-    go : (test : Bool) → (if test then readSome max bs else readDigits max 0 (b ∷ bs)) ≡ accepted n → n ≤ max
-    go true q = readSome-fits max bs q
+    go : (test : Bool) → (if test then refuse SignedNumber else readDigits max 0 (b ∷ bs)) ≡ accepted n → n ≤ max
+    go true q = absurd (not-accepted q)
     go false q = readDigits-fits max 0 (b ∷ bs) zero-le q
 
 -- ---- fields

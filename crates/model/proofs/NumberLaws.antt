@@ -1,18 +1,21 @@
--- A number that is printed is read back. Assumes nothing.
+-- A number that is printed is read back; what is read has digits alone. Assumes nothing.
 use Prim.Native.Nat.{ℕ, zero, suc, _+_, _-_, _*_, _/_, _%_, _^_, _≤_, _<_}
 use native.Mathlib.Nat.{pow-suc, add-sub-cancel-left}
 use native.Mathlib.Omega.{arith}
 use native.Mathlib.Decide.{decLt}
-use mathlib.Core.Path.{_≡_, refl, ap, _∙_}
+use mathlib.Core.Path.{_≡_, refl, sym, ap, _∙_}
 use mathlib.Core.Bool.{Bool, true, false}
 use mathlib.Core.List.{[], _∷_, _++_}
-use lib.Dec.{leb}
+use lib.Dec.{leb, eqb}
+use lib.ListN.{length}
 use borrow.Author.Tests.{le-leb, lt-ltb, le-ltb, ne-eqb}
-use Rattle.model.specs.declared.Fault.the-variants.{InvalidDigit, NumberOverflow}
+use Rattle.ordmap.proofs.Results.{accepted-inj, not-accepted, bind-accepted}
+use Rattle.model.specs.declared.Fault.the-variants.{InvalidDigit, NumberOverflow, SignedNumber}
 use Rattle.model.specs.Order.{if_then_else_}
+use Rattle.model.specs.Lists.{filter}
 use Rattle.model.specs.Bytes.{Bytes}
 use Rattle.model.specs.Answer.{Answer, accepted, _>>=_, refuse}
-use Rattle.model.specs.Number.{isDigit, readDigits, readNumber, decimalDigits, decimal}
+use Rattle.model.specs.Number.{isDigit, readDigits, readNumber, Counted, readField, decimalDigits, decimal}
 
 pub readDigits-append : (max a : ℕ) (xs ys : Bytes)
     → readDigits max a (xs ++ ys) ≡ (readDigits max a xs >>= λ v. readDigits max v ys)
@@ -88,3 +91,33 @@ readNumber-digit max {bytes} s =
 pub readNumber-decimal : (max v : ℕ) → v < 10 ^ 20 → v ≤ max → readNumber max (decimal v) ≡ accepted v
 unfolding decimal
 readNumber-decimal max v small fits = readNumber-digit max (decimalDigits-starts 19 v) ∙ readDigits-decimal max 20 v small fits
+
+-- ---- digits read
+
+-- a number that is read has digits alone
+digits-alone : (max v : ℕ) (bs : Bytes) {n : ℕ} → readDigits max v bs ≡ accepted n → filter isDigit bs ≡ bs
+unfolding readDigits filter
+digits-alone max v [] p = refl
+digits-alone max v (b ∷ bs) {n} p = go (isDigit b) (leb (v * 10 + (b - 48)) max) p (λ q. digits-alone max (v * 10 + (b - 48)) bs q)
+  where
+    go : (d t : Bool) → (if d then if t then readDigits max (v * 10 + (b - 48)) bs else refuse NumberOverflow else refuse InvalidDigit) ≡ accepted n
+        → (readDigits max (v * 10 + (b - 48)) bs ≡ accepted n → filter isDigit bs ≡ bs) → (if d then b ∷ filter isDigit bs else filter isDigit bs) ≡ b ∷ bs
+    go true true q ih = ap (λ (l : Bytes). b ∷ l) (ih q)
+    go true false q ih = absurd (not-accepted q)
+    go false t q ih = absurd (not-accepted q)
+
+number-alone : (max : ℕ) (bs : Bytes) {n : ℕ} → readNumber max bs ≡ accepted n → filter isDigit bs ≡ bs
+unfolding readNumber filter
+number-alone max [] p = refl
+number-alone max (b ∷ bs) {n} p = go (eqb b 43) p
+  where
+    go : (s : Bool) → (if s then refuse SignedNumber else readDigits max 0 (b ∷ bs)) ≡ accepted n → filter isDigit (b ∷ bs) ≡ b ∷ bs
+    go true q = absurd (not-accepted q)
+    go false q = digits-alone max 0 (b ∷ bs) q
+
+-- `digits` counts the digits of the field
+pub digits-counted : (max : ℕ) (field : Bytes) {c : Counted} → readField max field ≡ accepted c → c .digits ≡ length (filter isDigit field)
+unfolding readField
+digits-counted max field p =
+    let (value, q, e) = bind-accepted (readNumber max field) _ p in
+    ap (λ (x : Counted). x .digits) (sym (accepted-inj e)) ∙ ap length (sym (number-alone max field q))

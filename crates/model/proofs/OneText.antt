@@ -11,7 +11,7 @@ use Rattle.ordmap.specs.Keyed.{byOrder, add}
 use Rattle.ordmap.proofs.Results.{impossible}
 use Rattle.ordmap.proofs.Adding.{addAll-empty}
 use Rattle.ordmap.proofs.Gathered.{within-fits}
-use Rattle.model.specs.declared.Fault.the-variants.{UnknownRecord, FieldNotFound, TooManyFields, UnexpectedRecord, UnexpectedEof, CallOverflow, TooManyEntries}
+use Rattle.model.specs.declared.Fault.the-variants.{UnknownRecord, FieldNotFound, TooManyFields, UnexpectedRecord, UnexpectedEof, CallOverflow, TooManyEntries, SecondSourceFile}
 use Rattle.model.specs.declared.Kind.{Kind}
 use Rattle.model.specs.declared.Kind.the-variants as K
 use Rattle.model.specs.declared.Mode.{Mode}
@@ -55,7 +55,7 @@ use Rattle.model.specs.Report.{
   merge,
   within,
 }
-use Rattle.model.specs.Reading.{State, outside, entries, replace, addCalls, enterItem, ignored, effect, step, readLines, lines, readText}
+use Rattle.model.specs.Reading.{State, outside, open-section, entries, replace, addCalls, enterItem, ignored, nameSection, effect, step, readLines, lines, readText}
 use Rattle.model.specs.Output.{written}
 use Rattle.model.specs.Printing.{printReport}
 use Rattle.model.specs.Bundle.{Text, contents, textCount, textAt, wellFormed, texts}
@@ -181,9 +181,9 @@ no-calls (branchItem line block branch taken) e = tt
 no-calls (lineItem line count checksum) e = tt
 
 no-effect : (r : Record) (s : State) → NoText (effect r s)
-unfolding effect ignored
+unfolding effect nameSection ignored
 no-effect (testName name) s = no-if (s .inside) (refuse UnexpectedRecord) (accepted (outside (s .kept) name)) refl tt
-no-effect (sourceFile path) s = tt
+no-effect (sourceFile path) s = no-option (s .path) (accepted (open-section s (some path) (s .items))) (λ earlier. refuse SecondSourceFile) tt (λ earlier. refl)
 no-effect (functionName start name) s = no-enter replace (functionItem name (some start) 0) s (λ x. tt)
 no-effect (functionData count name) s = no-enter addCalls (functionItem name none count) s (λ x. no-calls x (functionItem name none count))
 no-effect (functionsFound found) s = tt

@@ -72,7 +72,7 @@ started (lineItem line count checksum) = none
 -- ---- a section with items that is open
 
 abbrev pub inside : Report → Bytes → Bytes → List Item → State
-inside kept test path m = record { kept = kept; test = test; inside = true; path = path; items = m }
+inside kept test path m = record { kept = kept; test = test; inside = true; path = some path; items = m }
 
 -- what is held of the items still to come is what their FN lines left
 abbrev pub Ready : List Item → List Item → Type 0

@@ -6,7 +6,7 @@ use mathlib.Core.Logic.{⊎-elim}
 use mathlib.Core.Bool.{Bool, true, false, true≢false}
 use mathlib.Core.List.{List, [], _∷_, _++_, map, List·Memᴰ as Member, List·Memᴰ·head as here, List·Memᴰ·tail as there, List·Memᴰ·not-nil}
 use mathlib.Core.List.{Memᴰ·map, Memᴰ·of-map, Memᴰ·append-left, Memᴰ·append-right, List·Memᴰ·append-cases}
-use mathlib.Core.Option.{none, some}
+use mathlib.Core.Option.{Option, none, some}
 use lib.Dec.{isEq, leb}
 use lib.ListN.{length}
 use borrow.Author.Tests.{leb-true}
@@ -17,7 +17,7 @@ use Rattle.ordmap.proofs.Orderings.{is-eq}
 use Rattle.ordmap.proofs.Adding.{add-sorted}
 use Rattle.ordmap.proofs.Gathered.{within-accepted, mapRefused-accepted}
 use Rattle.model.specs.declared.Fault.{Fault}
-use Rattle.model.specs.declared.Fault.the-variants.{UnexpectedRecord, UnexpectedEof, CallOverflow, TooManyEntries}
+use Rattle.model.specs.declared.Fault.the-variants.{UnexpectedRecord, UnexpectedEof, CallOverflow, TooManyEntries, SecondSourceFile}
 use Rattle.model.specs.declared.Kind.{Kind}
 use Rattle.model.specs.Order.{if_then_else_, isLess, isGreater}
 use Rattle.model.specs.Lists.{filter}
@@ -49,6 +49,7 @@ use Rattle.model.specs.Reading.{
   outside,
   open-section,
   entries,
+  pathOr,
   spellingOf,
   replaceSection,
   keepSection,
@@ -56,6 +57,7 @@ use Rattle.model.specs.Reading.{
   addCalls,
   enterItem,
   ignored,
+  nameSection,
   effect,
   step,
   readLines,
@@ -73,7 +75,7 @@ use Rattle.model.proofs.Clean.{clean-none, Lines, lines-free, RecordFit
 pub record Reading (s : State) : Type 0 where
   pub kept : Valid (s .kept)
   pub test : LineText (s .test)
-  pub path : LineText (s .path)
+  pub path : LineText (pathOr (s .path))
   pub sorted : Sorted itemKey compareBytes (s .items)
   pub fits : (i : Item) → Member i (s .items) → ItemFits i × (isSection i ≡ false)
 
@@ -266,7 +268,7 @@ addCalls-fits e g (functionItem name start count) y h p =
 addCalls-fits e g (branchItem line block branch taken) y h p = rw (← (accepted-inj p)) g
 addCalls-fits e g (lineItem line count checksum) y h p = rw (← (accepted-inj p)) g
 
-open-reading : (s : State) (path : Bytes) (items : List Item) → Reading s → LineText path → Sorted itemKey compareBytes items
+open-reading : (s : State) (path : Option Bytes) (items : List Item) → Reading s → LineText (pathOr path) → Sorted itemKey compareBytes items
     → ((i : Item) → Member i items → OpenItem i) → Reading (open-section s path items)
 unfolding open-section
 open-reading s path items R cp si fi = record { kept = R .kept; test = R .test; path = cp; sorted = si; fits = fi }
@@ -293,13 +295,17 @@ replaced : (i : Item) → OpenItem i → (x y : Item) → OpenItem x → replace
 replaced i g x y h p = rw (← (accepted-inj p)) g
 
 effect-reading : (r : Record) (s : State) {t : State} → RecordFits r → Reading s → effect r s ≡ accepted t → Reading t
-unfolding effect isSection
+unfolding effect nameSection isSection
 effect-reading (testName name) s {t} f R p = go (s .inside) p
   where
     go : (b : Bool) → _≡_ {A = Answer State} (if b then refuse UnexpectedRecord else accepted (outside (s .kept) name)) (accepted t) → Reading t
     go true q = absurd (not-accepted q)
     go false q = rw (← (accepted-inj q)) (outside-reading (s .kept) name (R .kept) f)
-effect-reading (sourceFile path) s f R p = rw (← (accepted-inj p)) (open-reading s path (s .items) R f (R .sorted) (R .fits))
+effect-reading (sourceFile path) s {t} f R p = go (s .path) p
+  where
+    go : (o : Option Bytes) → _≡_ {A = Answer State} (elim o [ none ↦ accepted (open-section s (some path) (s .items)) | some earlier ↦ refuse SecondSourceFile ]) (accepted t) → Reading t
+    go none q = rw (← (accepted-inj q)) (open-reading s (some path) (s .items) R f (R .sorted) (R .fits))
+    go (some earlier) q = absurd (not-accepted q)
 effect-reading (functionName start name) s f R p =
     let g : OpenItem (functionItem name (some start) 0) = ((f .1, f .0, zero-le), refl) in
     enter-reading replace (functionItem name (some start) 0) s replace-keyed g (replaced (functionItem name (some start) 0) g) R p
@@ -320,8 +326,8 @@ effect-reading (linesFound found) s f R p = ignored-reading s R p
 effect-reading (linesHit hit) s f R p = ignored-reading s R p
 effect-reading endOfRecord s f R p =
     rw (← (accepted-inj p))
-    (outside-reading (keepSection (s .test) (s .path) (s .items) (s .kept)) []
-    (keep-valid (s .test) (s .path) (s .items) (s .kept) (R .kept) (R .test) (R .path) (R .sorted) (R .fits)) clean-none)
+    (outside-reading (keepSection (s .test) (pathOr (s .path)) (s .items) (s .kept)) []
+    (keep-valid (s .test) (pathOr (s .path)) (s .items) (s .kept) (R .kept) (R .test) (R .path) (R .sorted) (R .fits)) clean-none)
 
 -- ---- a text
 

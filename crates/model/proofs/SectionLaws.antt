@@ -27,7 +27,7 @@ use Rattle.model.specs.Record.{
   endOfRecord,
 }
 use Rattle.model.specs.Report.{Item, sectionItem, functionItem, branchItem, lineItem, Entry, Report, itemKey, sectionKey, compareSections, within, inSection}
-use Rattle.model.specs.Reading.{State, outside, open-section, entries, spellingOf, replaceSection, keepSection, effect}
+use Rattle.model.specs.Reading.{State, outside, open-section, entries, spellingOf, replaceSection, keepSection, nameSection, effect}
 use Rattle.model.specs.Printing.{
   isSection,
   isFunction,
@@ -209,7 +209,7 @@ module _ (limit : ℕ) (kept : Report) (test spelling : Bytes) (items : List Ite
   all-ls P h = all-select P isLine items h
 
   opened : (t : Bytes) → run limit (testName test ∷ sourceFile spelling ∷ []) (outside kept t) ≡ accepted (inside kept test spelling [])
-  unfolding run effect outside open-section within entries
+  unfolding run effect nameSection outside open-section within entries
   opened t =
       let a : leb (length kept + 0) limit ≡ true = le-leb (length kept + 0) limit (omega arith) in
       let b : leb (length kept + 1) limit ≡ true = le-leb (length kept + 1) limit (omega arith) in

@@ -24,6 +24,8 @@ use Rattle.model.specs.declared.Fault.the-variants.{
   MalformedBundle,
   PartOutside,
   MalformedRanges,
+  SignedNumber,
+  SecondSourceFile,
 }
 use Rattle.model.specs.declared.Refusal.{Refusal}
 use Rattle.model.specs.Limits.{u64-max}
@@ -65,6 +67,10 @@ numberOf MalformedBundle = 16
 numberOf PartOutside = 17
 -- range list not well formed
 numberOf MalformedRanges = 18
+-- number with a plus sign
+numberOf SignedNumber = 19
+-- second SF in a section
+numberOf SecondSourceFile = 25
 
 -- a refusal's number and values: text, line, field and needed length
 unfoldable pub refusalValues : Refusal → List ℕ

@@ -8,6 +8,8 @@ use lib.ListN.{length}
 use Rattle.model.specs.declared.Range.{Range}
 use Rattle.model.specs.declared.LineAnswer.{LineAnswer}
 use Rattle.model.specs.declared.LineAnswer.the-variants as Line
+use Rattle.model.specs.declared.NumberAnswer.{NumberAnswer}
+use Rattle.model.specs.declared.NumberAnswer.the-variants as Number
 use Rattle.model.specs.declared.WriteAnswer.{WriteAnswer}
 use Rattle.model.specs.declared.WriteAnswer.the-variants as Write
 use Rattle.model.specs.declared.InsertAnswer.{InsertAnswer}
@@ -17,6 +19,7 @@ use Rattle.model.specs.declared.QueryAnswer.the-variants as Query
 use Rattle.model.specs.Bytes.{Bytes}
 use Rattle.ordmap.specs.Result.{Result, mapAccepted}
 use Rattle.model.specs.Answer.{Answer, accepted, refused, refusalValues, withValues}
+use Rattle.model.specs.Number.{Counted}
 use Rattle.model.specs.declared.Record.{Record as LentRecord}
 use Rattle.model.specs.Output.{outputAfter}
 use Rattle.model.specs.Ranges.{sliceAfter}
@@ -27,6 +30,11 @@ use Rattle.model.specs.Ranges.{sliceAfter}
 unfoldable pub lineValues : LineAnswer → Result (List ℕ) LentRecord
 lineValues (Line.Read lent) = accepted lent
 lineValues (Line.Refused r) = refused (refusalValues r)
+
+-- the number that was read, and its digits
+unfoldable pub numberValues : NumberAnswer → Result (List ℕ) Counted
+numberValues (Number.Read value digits) = accepted (record { value = value; digits = digits })
+numberValues (Number.Refused r) = refused (refusalValues r)
 
 -- the number of bytes written
 unfoldable pub writeValues : WriteAnswer → Result (List ℕ) ℕ
@@ -48,6 +56,9 @@ queryValues (Query.Refused r) = refused (refusalValues r)
 abbrev pub LineCall : Answer LentRecord → LineAnswer → Type 0
 LineCall answer r = lineValues r ≡ withValues answer
 
+abbrev pub NumberCall : Answer Counted → NumberAnswer → Type 0
+NumberCall answer r = numberValues r ≡ withValues answer
+
 -- it was lent `out` and leaves out′
 pub record WriteCall (answer : Answer Bytes) (out out′ : Bytes) (r : WriteAnswer) : Type 0 where
   pub returns : writeValues r ≡ withValues (mapAccepted length answer)
@@ -66,6 +77,10 @@ QueryCall answer r = queryValues r ≡ withValues answer
 unfoldable pub lineAnswer : Answer LentRecord → LineAnswer
 lineAnswer (accepted lent) = Line.Read lent
 lineAnswer (refused r) = Line.Refused r
+
+unfoldable pub numberAnswer : Answer Counted → NumberAnswer
+numberAnswer (accepted c) = Number.Read (c .value) (c .digits)
+numberAnswer (refused r) = Number.Refused r
 
 unfoldable pub writeAnswer : Answer Bytes → WriteAnswer
 writeAnswer (accepted bytes) = Write.Written (length bytes)

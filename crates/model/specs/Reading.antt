@@ -2,11 +2,11 @@
 use Prim.Native.Nat.{ℕ, suc, _+_}
 use mathlib.Core.Bool.{Bool, true, false}
 use mathlib.Core.List.{List, [], _∷_, _++_, map}
-use mathlib.Core.Option.{none, some}
+use mathlib.Core.Option.{Option, none, some}
 use lib.Dec.{isEq}
 use lib.ListN.{length}
 use Rattle.ordmap.specs.Keyed.{add as enter}
-use Rattle.model.specs.declared.Fault.the-variants.{UnexpectedRecord, UnexpectedEof, CallOverflow}
+use Rattle.model.specs.declared.Fault.the-variants.{UnexpectedRecord, UnexpectedEof, CallOverflow, SecondSourceFile}
 use Rattle.model.specs.declared.Kind.{Kind}
 use Rattle.model.specs.Order.{if_then_else_, isLess, isGreater}
 use Rattle.model.specs.Lists.{filter}
@@ -69,17 +69,17 @@ pub record State : Type 0 where
   pub test : Bytes
   -- a line other than TN has come since then: a section is open
   pub inside : Bool
-  -- the open section's last SF, or empty
-  pub path : Bytes
+  -- the open section's SF, if it came
+  pub path : Option Bytes
   -- what is in the open section, by key
   pub items : List Item
 
 -- no section is open
 unfoldable pub outside : Report → Bytes → State
-outside kept test = record { kept = kept; test = test; inside = false; path = []; items = [] }
+outside kept test = record { kept = kept; test = test; inside = false; path = none; items = [] }
 
 -- a section is open
-unfoldable pub open-section : State → Bytes → List Item → State
+unfoldable pub open-section : State → Option Bytes → List Item → State
 open-section s path items = record { kept = s .kept; test = s .test; inside = true; path = path; items = items }
 
 -- kept sections and all that is in them, plus the open section and all in it
@@ -87,6 +87,11 @@ unfoldable pub entries : State → ℕ
 entries s = length (s .kept) + (if s .inside then suc (length (s .items)) else 0)
 
 -- ---- the end of a section
+
+-- a section without SF has the empty path
+abbrev pub pathOr : Option Bytes → Bytes
+pathOr none = []
+pathOr (some path) = path
 
 -- the spelling that a section's entries give its path
 unfoldable pub spellingOf : Bytes → Report → Bytes
@@ -136,10 +141,18 @@ enterItem combine item s = do
 unfoldable pub ignored : State → Answer State
 ignored s = accepted (open-section s (s .path) (s .items))
 
+-- SF: a section has one, were it empty or the same again
+unfoldable pub nameSection : Bytes → State → Answer State
+nameSection path s =
+    elim (s .path) [
+      | none ↦ accepted (open-section s (some path) (s .items))
+      | some earlier ↦ refuse SecondSourceFile
+    ]
+
 -- "TN lines, then lines of other tags, then end_of_record": TN inside a section is refused, and found and hit lines are ignored
 unfoldable pub effect : Record → State → Answer State
 effect (testName name) s = if s .inside then refuse UnexpectedRecord else accepted (outside (s .kept) name)
-effect (sourceFile path) s = accepted (open-section s path (s .items))
+effect (sourceFile path) s = nameSection path s
 effect (functionName start name) s = enterItem replace (functionItem name (some start) 0) s
 effect (functionData count name) s = enterItem addCalls (functionItem name none count) s
 effect (functionsFound found) s = ignored s
@@ -150,7 +163,7 @@ effect (branchesHit hit) s = ignored s
 effect (lineData line count checksum) s = enterItem replace (lineItem line count checksum) s
 effect (linesFound found) s = ignored s
 effect (linesHit hit) s = ignored s
-effect endOfRecord s = accepted (outside (keepSection (s .test) (s .path) (s .items) (s .kept)) [])
+effect endOfRecord s = accepted (outside (keepSection (s .test) (pathOr (s .path)) (s .items) (s .kept)) [])
 
 -- ---- a text
 

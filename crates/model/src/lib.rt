@@ -22,6 +22,8 @@ pub enum Fault {
     MalformedBundle,
     PartOutside,
     MalformedRanges,
+    SignedNumber,
+    SecondSourceFile,
 }
 
 // A fault and its place: the text's index from 0, the line and the field from 1, and the length that an output would need. What a
@@ -129,6 +131,12 @@ pub struct Range {
 // The record of a line.
 pub enum LineAnswer {
     Read(Record),
+    Refused(Refusal),
+}
+
+// A number field: its value, and how many digits were read.
+pub enum NumberAnswer {
+    Read { value: u64, digits: usize },
     Refused(Refusal),
 }
 

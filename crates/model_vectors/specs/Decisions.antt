@@ -15,7 +15,8 @@ use Rattle.model.specs.declared.Record.the-variants as Lent
 use Rattle.model.specs.Bytes.{Bytes, ascii}
 use Rattle.model.specs.Path.{root, current, name, components}
 use Rattle.model.specs.Answer.{accepted, refused, withValues}
-use Rattle.model.specs.Record.{Record, testName, lineData}
+use Rattle.model.specs.Number.{Counted, readField}
+use Rattle.model.specs.Record.{Record, testName, functionName, lineData, endOfRecord}
 use Rattle.model.specs.Tags.{defaultTag}
 use Rattle.model.specs.Line.{readLine}
 use Rattle.model.specs.Parts.{printLine}
@@ -29,6 +30,10 @@ use Rattle.model_vectors.specs.Asked.{Told, gives, refuses, refusesIn, r
 
 abbrev pub line : Bytes → Told Record
 line bytes = withValues (readLine defaultTag bytes)
+
+-- a number field
+abbrev pub number : ℕ → Bytes → Told Counted
+number max field = withValues (readField max field)
 
 -- one text, under E entries
 abbrev pub text : ℕ → Bytes → Told Bytes
@@ -70,6 +75,29 @@ pub record Lines : Type 0 where
   pub blank : (line [] ≡ refuses 1 1 0) × (line (ascii "\r") ≡ refuses 1 1 0) × (text 8 (ascii "\n") ≡ refuses 1 1 0)
   -- byte 10 inside a lone line is a byte like others
   pub inner-newline : line (ascii "TN:a\nb\n") ≡ gives (testName (ascii "a\nb"))
+  -- the first byte decides; a number that begins with '+' is signed, be there digits or not
+  pub plus-first :
+      (line (ascii "LF:+") ≡ refuses 19 1 1)
+      × (line (ascii "LF:++1") ≡ refuses 19 1 1)
+      × (line (ascii "BRDA:1,0,0,+-") ≡ refuses 19 1 4)
+      × (line (ascii "LF:-+") ≡ refuses 5 1 1)
+  -- left to right: an earlier field first, then 19, then what is missing or too many
+  pub plus-order :
+      (line (ascii "DA:x,+1") ≡ refuses 5 1 1) × (line (ascii "FN:+5") ≡ refuses 19 1 1) × (line (ascii "LF:+1,2") ≡ refuses 19 1 1)
+  -- only number fields have a sign
+  pub plus-elsewhere :
+      (line (ascii "FN:1,+f") ≡ gives (functionName 1 (ascii "+f")))
+      × (line (ascii "DA:1,2,+5") ≡ gives (lineData 1 2 (some (ascii "+5"))))
+      × (line (ascii "TN:+5") ≡ gives (testName (ascii "+5")))
+      × (line (ascii "end_of_record:+1") ≡ gives endOfRecord)
+  -- a number field by itself: leading zeros are digits read, and a comma is none
+  pub digits-read :
+      (number 9 (ascii "007") ≡ gives (record { value = 7; digits = 3 }))
+      × (number 9 (ascii "1,2") ≡ refuses 5 0 0)
+      × (number 9 (ascii ",") ≡ refuses 5 0 0)
+      × (number 9 (ascii "+") ≡ refuses 19 0 0)
+      × (number 9 [] ≡ refuses 4 0 0)
+      × (number 9 (ascii "10x") ≡ refuses 6 0 0)
   -- only exactly "-" is no checksum
   pub dash-comma : line (ascii "DA:1,2,-,") ≡ gives (lineData 1 2 (some (ascii "-,")))
   -- byte 10 is written, and counted in the needed length; the output stays where it is too short
@@ -104,6 +132,16 @@ pub record Texts : Type 0 where
       ≡ gives (ascii "TN:\nSF:a/b\nDA:1,1\nLF:1\nLH:1\nend_of_record\n")
   -- 8 is met after the last line
   pub ended : (text 8 (ascii "SF:a") ≡ refuses 8 2 0) × (text 8 (ascii "SF:a\n") ≡ refuses 8 2 0)
+  -- SF lines are counted, not paths; 25 comes before the entries are counted
+  pub second-path :
+      (text 8 (ascii "SF:\nSF:a\nend_of_record\n") ≡ refuses 25 2 0)
+      × (text 8 (ascii "SF\nSF\n") ≡ refuses 25 2 0)
+      × (text 8 (ascii "SF:a\nSF:a\n") ≡ refuses 25 2 0)
+      × (text 1 (ascii "SF:a\nSF:b\nDA:1,1\n") ≡ refuses 25 2 0)
+  -- they are counted anew in each section, and one may stand anywhere in it
+  pub one-path-each :
+      (text 8 (ascii "SF:a\nend_of_record\nSF:b\nend_of_record\n") ≡ gives [])
+      × (text 8 (ascii "DA:1,1\nSF:a\nDA:2,1\nend_of_record\n") ≡ gives (ascii "TN:\nSF:a\nDA:1,1\nDA:2,1\nLF:2\nLH:2\nend_of_record\n"))
   -- 9 is met at the FNDA line
   pub calls-past : text 8 (ascii "FNDA:" ++ most ++ ascii ",f\nFNDA:1,f\nend_of_record\n") ≡ refuses 9 2 0
 
@@ -180,6 +218,10 @@ lines =
       empty-body = (refl, refl);
       blank = (refl, refl, refl);
       inner-newline = refl;
+      plus-first = (refl, refl, refl, refl);
+      plus-order = (refl, refl, refl);
+      plus-elsewhere = (refl, refl, refl, refl);
+      digits-read = (refl, refl, refl, refl, refl, refl);
       dash-comma = refl;
       newline-counted = (refl, refl);
       part-outside = (refl, refl, refl, refl);
@@ -195,6 +237,8 @@ texts =
       both-count = (refl, refl, refl, refl);
       dropped = refl;
       ended = (refl, refl);
+      second-path = (refl, refl, refl, refl);
+      one-path-each = (refl, refl);
       calls-past = refl;
     }
 

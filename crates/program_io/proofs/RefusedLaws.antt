@@ -50,7 +50,10 @@ module _ (number text line field : ℕ) (old : Bytes) (room : length (places num
     pub places-out : (ys : Bytes) → ys ≡ over back (take (length out - at) (drop at out)) → take at out ++ (ys ++ drop (length out - at) (drop at out)) ≡ over all old
     places-out ys y = second-out all front back old (places-is number text line field) room out at held upTo ys y
 
-pair-most : (first a then b : ℕ) → length (pair first a then b) ≤ 42
+pub number-most : (v : ℕ) → 1 + length (decimal v) ≤ 21
+number-most v = omega (arith, decimal-most v)
+
+pub pair-most : (first a then b : ℕ) → length (pair first a then b) ≤ 42
 pair-most first a then b = omega (arith, length-append (first ∷ decimal a) (then ∷ decimal b), decimal-most a, decimal-most b)
 
 -- four numbers with a blank before each, and what comes after them

@@ -6,6 +6,7 @@ ghost use lib.ListN.{length};
 ghost use Rattle.format.specs.Put.{over};
 ghost use Rattle.program_io.specs.Cases.{u16At, caseEnd};
 ghost use Rattle.program_io.specs.Refused.{refusedLine, max-refused, places};
+use model::QueryAnswer;
 use model::Refusal;
 
 fn wide(byte: u8) -> usize
@@ -80,5 +81,34 @@ pub fn write_first(bytes: &[u8], n: usize) {
         io::write_all(1, &bytes[..n]);
     } else {
         io::write_all(1, bytes);
+    }
+}
+
+// The most bytes that a number has with a byte before it.
+const MAX_NUMBER: usize = 21;
+
+pub fn show_number(n: u64) {
+    let mut out = [0u8; MAX_NUMBER];
+    let len = format::put_number(b' ', n, &mut out);
+    write_first(&out[1..], len - 1);
+}
+
+// A range, a blank before it.
+pub fn show_range(start: u32, end: u32) {
+    let mut out = [0u8; 2 * MAX_NUMBER];
+    let len = format::put_pair(b' ', start as u64, b'-', end as u64, &mut out);
+    write_first(&out, len);
+}
+
+pub fn show_query(answer: QueryAnswer) {
+    match answer {
+        QueryAnswer::Holds(held) => {
+            if held {
+                io::write_all(1, b"held\n");
+            } else {
+                io::write_all(1, b"not held\n");
+            }
+        }
+        QueryAnswer::Refused(refusal) => show_refusal(refusal),
     }
 }

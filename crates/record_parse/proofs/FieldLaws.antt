@@ -1,41 +1,39 @@
 -- The fields of a body, left to right: each starts at a position of the line. Assumes nothing.
 use Prim.Native.Nat.{ℕ, zero, suc, _+_, _-_, _*_, _^_, _≤_, _<_}
 use mathlib.Core.Path.{_≡_, refl, sym, ap, _∙_}
-use mathlib.Core.List.{[], _∷_, _++_}
+use mathlib.Core.List.{[], _∷_}
 use mathlib.Core.Bool.{Bool, true, false, cond}
 use mathlib.Core.Option.{Option, none, some}
 use mathlib.Core.Logic.{⊎-elim}
 use native.Mathlib.Omega.{arith}
 use native.Mathlib.Numerals.{add-one}
 use lib.Dec.{ltb, eqb, leb·suc-suc}
-use lib.ListN.{length, take, drop, length-take, length-drop, length-append}
-use lib.Seq.{take-all, drop-drop, drop-append-le, take-at}
+use lib.ListN.{length, take, drop, length-take, length-drop}
+use lib.Seq.{take-all, drop-drop}
 use mir.Val.{Fits}
-use mir.Syntax.{w32, w64}
+use mir.Syntax.{w64}
 use types.Run.{OneOf}
 use denote.Enum.Declared.{tagOf}
-use borrow.Author.Tests.{le-leb, lt-ltb}
+use borrow.Author.Tests.{lt-ltb}
 use Rattle.ordmap.proofs.Results.{impossible}
 use Rattle.model.specs.declared.Fault.{Fault}
-use Rattle.model.specs.declared.Fault.the-variants.{FieldNotFound, TooManyFields}
 use Rattle.model.specs.declared.Part.{Part}
 use Rattle.model.specs.declared.Checksum.the-variants as Ck
 use Rattle.model.specs.declared.LineAnswer.{LineAnswer}
 use Rattle.model.specs.Bytes.{Bytes, ascii, comma, sameBytes, before, after}
-use Rattle.model.specs.Answer.{Answer, accepted, refused, _>>=_, refuse, refuseField}
-use Rattle.model.specs.Limits.{u32-max}
+use Rattle.model.specs.Answer.{Answer, accepted, refused, refuseField}
 use Rattle.model.specs.Number.{readNumber}
-use Rattle.model.specs.Record.{Record}
-use Rattle.model.specs.Line.{fromField, inField, numberField, textField, takenField, lastBefore}
+use Rattle.model.specs.Line.{fromField, inField, numberField}
 use Rattle.model.specs.Parts.{endPart}
 use Rattle.scan.specs.declared.Number.{Number}
-use Rattle.scan.specs.declared.Number.the-variants.{Last, More, Fault as Bad}
-use Rattle.scan.specs.Scan.{followed, numberIn, nextOf, valueOf, NumberRead}
-use Rattle.scan.proofs.Number.{the-type}
+use Rattle.scan.specs.declared.Number.the-variants as N
+use Rattle.scan.specs.Scan.{followed, numberIn, NumberRead}
 use Rattle.scan_digits.specs.declared.Short.{Short}
 use Rattle.scan_digits.specs.declared.Short.the-variants as S
-use Rattle.scan_digits.specs.Word.{ShortRead}
-use Rattle.record_parse.specs.Answers.{Answers, refusal}
+use Rattle.scan_digits.specs.Word.{ShortRead, EndOf}
+use Rattle.record_parse.specs.declared.fields.Field.{Field}
+use Rattle.record_parse.specs.declared.fields.Field.the-variants.{Last, More, Fault as Bad}
+use Rattle.record_parse.specs.Answers.{refusal}
 use Rattle.record_parse.specs.Fields.{numberRefusal, inLine, NumberField, partFrom, checksumFrom}
 
 -- the rest of a line from a position, as the code lends it
@@ -77,7 +75,7 @@ module _ (at : ℕ) (a : Answer ℕ) (n : ℕ) (o : Option Bytes) where
     where
       go : (a : Answer ℕ) (o : Option Bytes) → More v k ≡ inLine at (followed a n o) → (a ≡ accepted v) × (k ≡ at + (n + 1)) × ((rest : Bytes) × (o ≡ some rest))
       go (accepted u) none e = impossible cc
-      go (accepted u) (some rest) e = (cc, cc, (rest, refl))
+      go (accepted u) (some rest) e = let z : k ≡ at + n + 1 = cc in (cc, omega (arith, z), (rest, refl))
       go (refused r) o e = impossible cc
 
   told-last : (v : ℕ) → Last v ≡ inLine at (followed a n o) → (a ≡ accepted v) × (o ≡ none)
@@ -108,14 +106,14 @@ unfolding fromField
 first-field line at h = record { is = refl; within = h }
 
 -- the next field starts in the line
-pub next-within : {max v n : ℕ} (line : Bytes) (at : ℕ) (got : Number) → got ≡ More v n → NumberField max at (part line at) got → at ≤ length line → n ≤ length line
+pub next-within : {max v n : ℕ} (line : Bytes) (at : ℕ) (got : Field) → got ≡ More v n → NumberField max at (part line at) got → at ≤ length line → n ≤ length line
 next-within {max} {v} {n} line at got is seen h =
     let m : n ≤ at + length (part line at) = rw is at (seen .long) in
     let k = simp (length-take, length-drop) at m in
     omega (arith, h, k)
 
 -- a number field and what the code read there
-module _ {body line : Bytes} {k at max : ℕ} (here : FieldAt body line k at) {got : Number} (seen : NumberField max at (part line at) got) where
+module _ {body line : Bytes} {k at max : ℕ} (here : FieldAt body line k at) {got : Field} (seen : NumberField max at (part line at) got) where
   -- the model's answer, and what follows it
   value : Answer ℕ
   value = readNumber max (before comma (drop at line))
@@ -179,46 +177,57 @@ module _ (start : ℕ) (rest : Bytes) (d : Bool) (is : d ≡ sameBytes rest (asc
 
 -- ---- a number's refusal, known by its variant
 
-pub refusal-of : (got number : Number) (field : ℕ) (r : LineAnswer) → got ≡ number → r ≡ numberRefusal field number → r ≡ numberRefusal field got
+pub refusal-of : (got number : Field) (field : ℕ) (r : LineAnswer) → got ≡ number → r ≡ numberRefusal field number → r ≡ numberRefusal field got
 refusal-of got number field r e q = rw e q
 
 -- ---- a number, its next field as a position of the line
 
 module _ {max : ℕ} (start : ℕ) {rest : Bytes} {got : Number} (seen : NumberRead max rest got) where
-  pub number-there : (v n : ℕ) → got ≡ More v n → NumberField max start rest (More v (start + n))
-  number-there v n e =
-      let m : n ≤ length rest = rw e at (seen .long) in
-      record { is = ap (inLine start) (sym e ∙ seen .is); long = omega arith; most = rw e at (seen .most) }
+  pub number-last : (v d : ℕ) → got ≡ N.Last v d → NumberField max start rest (Last v)
+  number-last v d e = record { is = ap (inLine start) (sym e ∙ seen .is); long = omega arith; most = rw e at (seen .most) }
 
-  pub number-fits : (v n : ℕ) → got ≡ More v n → start + length rest < 2 ^ 64 → Fits w64 (start + n)
-  number-fits v n e h = let m : n ≤ length rest = rw e at (seen .long) in record { fits = omega arith }
+  pub number-bad : (f : Fault) → got ≡ N.Fault f → NumberField max start rest (Bad f)
+  number-bad f e = record { is = ap (inLine start) (sym e ∙ seen .is); long = omega arith; most = omega arith }
 
-  pub number-other : OneOf (0 ∷ 2 ∷ []) (tagOf the-type got) → NumberField max start rest got
-  number-other other = go got refl other
-    where
-      go : (g : Number) → got ≡ g → OneOf (0 ∷ 2 ∷ []) (tagOf the-type g) → NumberField max start rest g
-      go (Last v) e h = record { is = ap (inLine start) (sym e ∙ seen .is); long = omega arith; most = rw e at (seen .most) }
-      go (Bad f) e h = record { is = ap (inLine start) (sym e ∙ seen .is); long = omega arith; most = omega arith }
-      go (More v n) e h = absurd (⊎-elim (λ z. omega arith) (λ z. omega arith) h)
+  module _ (v d : ℕ) (e : got ≡ N.More v d) where
+    -- the digits and the comma are in the part
+    room : d + 1 ≤ length rest
+    room = rw e at (seen .long)
+
+    pub number-there : NumberField max start rest (More v (start + d + 1))
+    number-there = record { is = ap (inLine start) (sym e ∙ seen .is); long = omega (arith, room); most = rw e at (seen .most) }
+
+    pub comma-fits : start + length rest < 2 ^ 64 → Fits w64 (start + d)
+    comma-fits h = record { fits = omega (arith, room) }
+
+    pub number-fits : start + length rest < 2 ^ 64 → Fits w64 (start + d + 1)
+    number-fits h = record { fits = omega (arith, room) }
 
 -- ---- a short number
 
-pub short-part : (line : Bytes) (at : ℕ) (short : Short) → ShortRead (drop at line) short → ShortRead (part line at) short
-short-part line at short h = rw (to-end line at) h
+-- the part from a position on ends the line
+pub part-end : (line : Bytes) (at : ℕ) → at ≤ length line → EndOf line (part line at)
+part-end line at h =
+    let long : length (part line at) ≡ length line - at = simp (length-take, length-drop) (omega arith) in
+    let start : length line - length (part line at) ≡ at = omega (arith, long, h) in
+    record { within = omega (arith, long); is = to-end line at ∙ ap (λ (k : ℕ). drop k line) (sym start) }
 
 module _ {rest : Bytes} (start : ℕ) (short : Short) (told : ShortRead rest short) where
-  pub short-last : (max v : ℕ) → 99999999 ≤ max → short ≡ S.Last v → NumberField max start rest (Last v)
-  short-last max v k e =
-      let seen : NumberRead max rest (Last v) = rw e at (told .is max k) in
-      record { is = ap (inLine start) (seen .is); long = omega arith; most = seen .most }
+  pub short-last : (max v d : ℕ) → 99999999 ≤ max → short ≡ S.Last v d → NumberField max start rest (Last v)
+  short-last max v d k e = number-last start (rw e at (told .is max k)) v d refl
 
-  pub short-more : (max v n : ℕ) → 99999999 ≤ max → short ≡ S.More v n → NumberField max start rest (More v (start + n))
-  short-more max v n k e = number-there start (rw e at (told .is max k)) v n refl
+  module _ (v d : ℕ) (e : short ≡ S.More v d) where
+    pub short-more : (max : ℕ) → 99999999 ≤ max → NumberField max start rest (More v (start + d + 1))
+    short-more max k = number-there start (rw e at (told .is max k)) v d refl
 
-  pub short-fits : (v n : ℕ) → short ≡ S.More v n → start + length rest < 2 ^ 64 → Fits w64 (start + n)
-  short-fits v n e h =
-      let seen : NumberRead 99999999 rest (More v n) = rw e at (told .is 99999999 (omega arith)) in
-      number-fits start seen v n refl h
+    seen : NumberRead 99999999 rest (N.More v d)
+    seen = rw e at (told .is 99999999 (omega arith))
+
+    pub short-comma : start + length rest < 2 ^ 64 → Fits w64 (start + d)
+    short-comma h = comma-fits start seen v d refl h
+
+    pub short-fits : start + length rest < 2 ^ 64 → Fits w64 (start + d + 1)
+    short-fits h = number-fits start seen v d refl h
 
 -- the part from a position on starts and ends in the line
 pub part-fits : (line : Bytes) (at : ℕ) → at ≤ length line → length line * 1 < 2 ^ 63 → at + length (part line at) < 2 ^ 64

@@ -1,3 +1,4 @@
 pub mod FieldLaws
 pub mod LineLaws
+pub mod NumberLaws
 pub mod TagLaws

@@ -30,18 +30,19 @@ use Rattle.model.specs.Limits.{u32-max, u64-max}
 use Rattle.model.specs.Record.{Record, functionName, functionData, branchData, lineData}
 use Rattle.model.specs.Line.{fromField, inField, numberField, textField, takenField, checksumField, lastBefore, readOne}
 use Rattle.model.specs.Parts.{endPart, lentTaken, lentChecksum, lentFrom}
-use Rattle.scan.specs.declared.Number.{Number}
-use Rattle.scan.specs.declared.Number.the-variants.{Last, More, Fault as Bad}
+use Rattle.scan.specs.declared.Number.the-variants as N
 use Rattle.scan.specs.Scan.{numberIn, NumberRead}
 use Rattle.model.specs.Number.{readNumber, readDigits}
 use Rattle.scan_digits.specs.declared.Short.{Short}
 use Rattle.scan_digits.specs.declared.Short.the-variants as S
 use Rattle.scan_digits.specs.Word.{ShortRead}
 use Rattle.model.proofs.KeyOrder.{bytes-same}
-use Rattle.scan.proofs.Number.{the-type}
 use Rattle.scan.proofs.ByteLaws.{same-cons}
+use Rattle.record_parse.specs.declared.fields.Field.{Field}
+use Rattle.record_parse.specs.declared.fields.Field.the-variants.{Last, More, Fault as Bad}
+use Rattle.record_parse.proofs.fields.Field.{the-type}
 use Rattle.record_parse.specs.Answers.{Answers, read, refusal}
-use Rattle.record_parse.specs.Fields.{refusedAt, numberRefusal, inLine, NumberField, partFrom, checksumFrom}
+use Rattle.record_parse.specs.Fields.{refusedAt, numberRefusal, NumberField, partFrom, checksumFrom}
 use Rattle.record_parse.specs.Lines.{TakenRead, countLent, countMade}
 use Rattle.record_parse.specs.declared.lines.Total.{Total}
 use Rattle.record_parse.specs.declared.lines.Total.the-variants as Ct
@@ -57,13 +58,14 @@ use Rattle.record_parse.proofs.FieldLaws.{
   next-within,
   next-field,
   no-field,
+  short-last,
 }
 
 -- the arms of `let .. else`: another variant than the one asked for
-abbrev NotLast : Number → Type 0
+abbrev NotLast : Field → Type 0
 NotLast got = OneOf (1 ∷ 2 ∷ []) (tagOf the-type got)
 
-abbrev NotMore : Number → Type 0
+abbrev NotMore : Field → Type 0
 NotMore got = OneOf (0 ∷ 2 ∷ []) (tagOf the-type got)
 
 refused-up : {line : Bytes} {r : LineAnswer} {x : Answer Record} (f : Fault) (k : ℕ) → r ≡ refusedAt f k → x ≡ refuseField f k → Answers line r x
@@ -98,7 +100,7 @@ module _ (body : Bytes) (k : ℕ) where
 
 -- ---- a number
 
-module _ {body line : Bytes} {k at max : ℕ} (here : FieldAt body line k at) {got : Number} (seen : NumberField max at (part line at) got) where
+module _ {body line : Bytes} {k at max : ℕ} (here : FieldAt body line k at) {got : Field} (seen : NumberField max at (part line at) got) where
   pub more-then : (f : ℕ → Answer Record) (v n : ℕ) (r : LineAnswer) → got ≡ More v n → Answers line r (f v) → Answers line r (numberField max k body >>= f)
   more-then f v n r e a = rw (more-value here seen v n e) a
 
@@ -109,7 +111,7 @@ module _ {body line : Bytes} {k at max : ℕ} (here : FieldAt body line k at) {g
   pub more-up : (f : ℕ → Answer Record) (r : LineAnswer) → NotMore got → r ≡ numberRefusal k got → Asks body (suc k) f → Answers line r (numberField max k body >>= f)
   more-up f r other q asks = go got refl other q
     where
-      go : (g : Number) → got ≡ g → NotMore g → r ≡ numberRefusal k g → Answers line r (numberField max k body >>= f)
+      go : (g : Field) → got ≡ g → NotMore g → r ≡ numberRefusal k g → Answers line r (numberField max k body >>= f)
       go (Bad fault) e other q = bad-up f fault r e q
       go (Last v) e other q = refused-up FieldNotFound (suc k) (rw add-one at q) (rw (last-value here seen v e) (asks .missing (no-field here seen v e) v))
       go (More v n) e other q = absurd (⊎-elim (λ z. omega arith) (λ z. omega arith) other)
@@ -118,15 +120,15 @@ module _ {body line : Bytes} {k at max : ℕ} (here : FieldAt body line k at) {g
   last-up : {any : Bytes} (made : ℕ → Record) (r : LineAnswer) → NotLast got → r ≡ numberRefusal k got → Answers any r (numberField max k body >>= λ n. lastBefore (suc k) body (made n))
   last-up {any} made r other q = go got refl other q
     where
-      go : (g : Number) → got ≡ g → NotLast g → r ≡ numberRefusal k g → Answers any r (numberField max k body >>= λ n. lastBefore (suc k) body (made n))
+      go : (g : Field) → got ≡ g → NotLast g → r ≡ numberRefusal k g → Answers any r (numberField max k body >>= λ n. lastBefore (suc k) body (made n))
       go (Bad fault) e other q = refused-up fault k q (rw (bad-value here seen fault e))
       go (Last v) e other q = absurd (⊎-elim (λ z. omega arith) (λ z. omega arith) other)
       go (More v n) e other q = refused-up TooManyFields 0 q (rw (more-value here seen v n e) (past-last body (suc k) (made v) _ (next-field here seen v n e .is)))
 
-pub more-fits : {s : Bytes} {at : ℕ} (got : Number) → NumberField u32-max at s got → (v n : ℕ) → got ≡ More v n → Fits w32 v
+pub more-fits : {s : Bytes} {at : ℕ} (got : Field) → NumberField u32-max at s got → (v n : ℕ) → got ≡ More v n → Fits w32 v
 more-fits got seen v n e = let h : v ≤ u32-max = rw e at (seen .most) in record { fits = omega arith }
 
-pub last-fits : {s : Bytes} {at : ℕ} (got : Number) → NumberField u32-max at s got → (v : ℕ) → got ≡ Last v → Fits w32 v
+pub last-fits : {s : Bytes} {at : ℕ} (got : Field) → NumberField u32-max at s got → (v : ℕ) → got ≡ Last v → Fits w32 v
 last-fits got seen v e = let h : v ≤ u32-max = rw e at (seen .most) in record { fits = omega arith }
 
 -- ---- names: FN and FNDA
@@ -159,7 +161,7 @@ line-read {body} {line} {k} {at} here checksum is l count =
     go false = read (lineData l count (some (drop at line))) (Lent.LineData l count (Ck.Given (partFrom at (drop at line))))
         (ap (λ (q : Part). Lent.LineData l count (Ck.Given q)) (rw (to-end line at) at (part-rest line at (here .within))))
 
-pub line-last : {body line : Bytes} {at max : ℕ} → FieldAt body line 2 at → {got : Number} → NumberField max at (part line at) got → (l count : ℕ) → got ≡ Last count → Answers line (Read (Lent.LineData l count Ck.Absent)) (numberField max 2 body >>= λ n. accepted (lineData l n (checksumField 3 body)))
+pub line-last : {body line : Bytes} {at max : ℕ} → FieldAt body line 2 at → {got : Field} → NumberField max at (part line at) got → (l count : ℕ) → got ≡ Last count → Answers line (Read (Lent.LineData l count Ck.Absent)) (numberField max 2 body >>= λ n. accepted (lineData l n (checksumField 3 body)))
 unfolding lentFrom lentChecksum checksumField
 line-last here seen l count e =
     rw (last-value here seen count e, no-field here seen count e, checksumField)
@@ -179,7 +181,7 @@ count-in Ct.BranchesHit n line = refl
 count-in Ct.LinesFound n line = refl
 count-in Ct.LinesHit n line = refl
 
-module _ {body line : Bytes} {at : ℕ} (here : FieldAt body line 1 at) (got : Number) (seen : NumberField u32-max at (part line at) got) where
+module _ {body line : Bytes} {at : ℕ} (here : FieldAt body line 1 at) (got : Field) (seen : NumberField u32-max at (part line at) got) where
   pub count-up : (made : ℕ → Record) (r : LineAnswer) → NotLast got → r ≡ numberRefusal 1 got → Answers line r (readOne made body)
   unfolding readOne
   count-up made r other q = last-up here seen made r other q
@@ -226,11 +228,6 @@ module _ (body rest : Bytes) (here : fromField 4 body ≡ some rest) where
   whole : FieldAt body rest 4 0
   whole = record { is = here; within = omega arith }
 
-from-zero : (number : Number) → inLine 0 number ≡ number
-from-zero (Last v) = refl
-from-zero (More v n) = ap (λ (m : ℕ). More v m) (omega arith)
-from-zero (Bad f) = refl
-
 module _ (l b c : ℕ) (rest : Bytes) where
   abbrev Ends : Bytes → Bytes → LineAnswer → Type 0
   Ends line body r = Answers line r (takenField u64-max 4 body >>= λ taken. lastBefore 5 body (branchData l b c taken))
@@ -257,12 +254,12 @@ module _ (l b c : ℕ) (rest : Bytes) where
           (rw (dash-none body (45 ∷ 44 ∷ xs) here refl) (past-last body 5 (branchData l b c none) xs (fifth body (45 ∷ 44 ∷ xs) here)))
 
   -- a number
-  module _ (plain : sameBytes (before comma rest) (ascii "-") ≡ false) (got : Number) (seen : NumberRead u64-max rest got) where
+  module _ (plain : sameBytes (before comma rest) (ascii "-") ≡ false) (got : Field) (seen : NumberField u64-max 0 rest got) where
     number : (body : Bytes) → fromField 4 body ≡ some rest → takenField u64-max 4 body ≡ (numberField u64-max 4 body >>= λ taken. accepted (some taken))
     number body here = number-some body rest here plain
 
     seen-whole : NumberField u64-max 0 (part rest 0) got
-    seen-whole = rw (to-end rest 0) (record { is = seen .is ∙ sym (from-zero (numberIn u64-max rest)); long = omega (arith, seen .long); most = seen .most })
+    seen-whole = rw (to-end rest 0) seen
 
     last-there : (v : ℕ) → got ≡ Last v → TakenRead l b c rest (Read (Lent.BranchData l b c (Tk.Given v)))
     unfolding lentFrom lentTaken
@@ -282,18 +279,19 @@ module _ (l b c : ℕ) (rest : Bytes) where
             (last-up (whole body rest here) seen-whole (λ n. branchData l b c (some n)) r other q)
 
   -- a short number is not "-"
-  pub taken-short : (short : Short) (v : ℕ) → ShortRead rest short → short ≡ S.Last v → TakenRead l b c rest (Read (Lent.BranchData l b c (Tk.Given v)))
+  pub taken-short : (short : Short) (v d : ℕ) → ShortRead rest short → short ≡ S.Last v d → TakenRead l b c rest (Read (Lent.BranchData l b c (Tk.Given v)))
   unfolding numberIn readNumber readDigits
-  taken-short short v h e = last-there (go (sameBytes (before comma rest) (ascii "-")) refl) (Last v) seen v refl
+  taken-short short v d h e =
+      last-there (go (sameBytes (before comma rest) (ascii "-")) refl) (Last v) (short-last 0 short h u64-max v d (omega arith) e) v refl
     where
-      seen : NumberRead u64-max rest (Last v)
+      seen : NumberRead u64-max rest (N.Last v d)
       seen = rw e at (h .is u64-max (omega arith))
 
       go : (d : Bool) → sameBytes (before comma rest) (ascii "-") ≡ d → d ≡ false
       go false q = refl
       go true q = impossible (cc (rw (bytes-same .same-eq (before comma rest) (ascii "-") q) at (seen .is)))
 
-  module _ (d : Bool) (d-is : d ≡ sameBytes rest (ascii "-")) (no-d : d ≡ false) (m : Bool) (m-is : m ≡ sameBytes (take 2 rest) (ascii "-,")) (no-m : m ≡ false) (got : Number) (seen : NumberRead u64-max rest got) where
+  module _ (d : Bool) (d-is : d ≡ sameBytes rest (ascii "-")) (no-d : d ≡ false) (m : Bool) (m-is : m ≡ sameBytes (take 2 rest) (ascii "-,")) (no-m : m ≡ false) (got : Field) (seen : NumberField u64-max 0 rest got) where
     plain : sameBytes (before comma rest) (ascii "-") ≡ false
     plain = no-dash rest (sym d-is ∙ no-d) (sym m-is ∙ no-m)
 
@@ -307,7 +305,7 @@ pub taken-read : {body line : Bytes} {at : ℕ} → FieldAt body line 4 at → (
 taken-read {body} {line} {at} here l b c r w = w .is line body (here .is ∙ ap (λ (s : Bytes). some s) (sym (to-end line at)))
 
 -- with numerals for the fields, as the code has them
-module _ {body line : Bytes} {at max : ℕ} (got : Number) (seen : NumberField max at (part line at) got) (v n : ℕ) (is : got ≡ More v n) where
+module _ {body line : Bytes} {at max : ℕ} (got : Field) (seen : NumberField max at (part line at) got) (v n : ℕ) (is : got ≡ More v n) where
   pub second-field : FieldAt body line 1 at → FieldAt body line 2 n
   second-field here = next-field here seen v n is
 

@@ -14,23 +14,36 @@ use Rattle.model.specs.Order.{if_then_else_}
 use Rattle.model.specs.Bytes.{Bytes, ascii, sameBytes}
 use Rattle.scan.specs.declared.Number.{Number}
 use Rattle.scan.specs.declared.Number.the-variants as N
-use Rattle.scan.specs.Scan.{numberIn, nextOf, valueOf}
+use Rattle.scan.specs.Scan.{numberIn}
+use Rattle.record_parse.specs.declared.fields.Field.{Field}
+use Rattle.record_parse.specs.declared.fields.Field.the-variants as F
 
 abbrev pub refusedAt : Fault → ℕ → LineAnswer
 refusedAt fault field = Refused (record { fault = fault; text = 0; line = 0; field = field; needed = 0 })
 
-abbrev pub numberRefusal : ℕ → Number → LineAnswer
-numberRefusal field (N.Fault fault) = refusedAt fault field
-numberRefusal field (N.Last value) = refusedAt FieldNotFound (field + 1)
-numberRefusal field (N.More value next) = refusedAt TooManyFields 0
+abbrev pub numberRefusal : ℕ → Field → LineAnswer
+numberRefusal field (F.Fault fault) = refusedAt fault field
+numberRefusal field (F.Last value) = refusedAt FieldNotFound (field + 1)
+numberRefusal field (F.More value next) = refusedAt TooManyFields 0
 
 -- a number read in the part of a line from start on: what follows its comma is a position of the line
-abbrev pub inLine : ℕ → Number → Number
-inLine start (N.Last value) = N.Last value
-inLine start (N.More value next) = N.More value (start + next)
-inLine start (N.Fault fault) = N.Fault fault
+abbrev pub inLine : ℕ → Number → Field
+inLine start (N.Last value digits) = F.Last value
+inLine start (N.More value digits) = F.More value (start + digits + 1)
+inLine start (N.Fault fault) = F.Fault fault
 
-pub record NumberField (max start : ℕ) (rest : Bytes) (r : Number) : Type 0 where
+-- where the next field starts
+abbrev pub nextOf : Field → ℕ
+nextOf (F.Last value) = 0
+nextOf (F.More value next) = next
+nextOf (F.Fault fault) = 0
+
+abbrev pub valueOf : Field → ℕ
+valueOf (F.Last value) = value
+valueOf (F.More value next) = value
+valueOf (F.Fault fault) = 0
+
+pub record NumberField (max start : ℕ) (rest : Bytes) (r : Field) : Type 0 where
   pub is : r ≡ inLine start (numberIn max rest)
   pub long : nextOf r ≤ start + length rest
   pub most : valueOf r ≤ max

@@ -12,6 +12,13 @@ use model::Refusal;
 use scan::Number;
 use scan_digits::Short;
 
+// A number field of a line: the last one, or a comma follows, and the next field starts at a position of the line; or its fault.
+pub(crate) enum Field {
+    Last(u64),
+    More { value: u64, next: usize },
+    Fault(Fault),
+}
+
 pub(crate) fn refused(fault: Fault, field: u32) -> LineAnswer
     ensures { λ r. ⌜ r ≡ refusedAt fault field ⌝ }
 {
@@ -26,44 +33,47 @@ pub(crate) fn refused(fault: Fault, field: u32) -> LineAnswer
 
 // Why a number is not what its field asks for: its own fault; it is the last field, and one must follow; one follows, and it must
 // be the last.
-pub(crate) fn number_refusal(got: Number, field: u32) -> LineAnswer
+pub(crate) fn number_refusal(got: Field, field: u32) -> LineAnswer
     requires { ⌜ field ≤ 4 ⌝ }
     ensures { λ r. ⌜ r ≡ numberRefusal field got ⌝ }
 {
     match got {
-        Number::Fault(fault) => refused(fault, field),
-        Number::Last(_value) => refused(Fault::FieldNotFound, field + 1),
-        Number::More { value: _v, next: _ } => refused(Fault::TooManyFields, 0),
+        Field::Fault(fault) => refused(fault, field),
+        Field::Last(_value) => refused(Fault::FieldNotFound, field + 1),
+        Field::More { value: _v, next: _ } => refused(Fault::TooManyFields, 0),
     }
 }
 
 // A number up to max that is not short: read digit by digit.
-fn long_field(start: usize, rest: &[u8], max: u64) -> Number
+pub(crate) fn long_field(start: usize, rest: &[u8], max: u64) -> Field
     requires { ⌜ start + length (now rest) < 2 ^ 64 ⌝ }
     ensures { λ r. ⌜ NumberField max start (now (rest .entry)) r ⌝ }
 {
     let got = scan::read_number(rest, max);
-    let Number::More { value, next } = got else {
-        return got;
-    };
-    let next = start + next;
-    Number::More { value, next }
+    match got {
+        Number::Last { value, digits: _ } => Field::Last(value),
+        Number::More { value, digits } => {
+            let next = start + digits + 1;
+            Field::More { value, next }
+        }
+        Number::Fault(fault) => Field::Fault(fault),
+    }
 }
 
 // Reads a number up to max; `short` has it already if it is short. The part `rest` starts at a position of the line,
 // and so does what follows the number's comma. The caller computes `short`, since the compiler inlines two functions of
 // this size and not one of twice the size.
-pub(crate) fn number_field(start: usize, rest: &[u8], short: Short, max: u64) -> Number
+pub(crate) fn number_field(start: usize, rest: &[u8], short: Short, max: u64) -> Field
     requires { ⌜ start + length (now rest) < 2 ^ 64 ⌝ }
     requires { ⌜ ShortRead (now rest) short ⌝ }
     requires { ⌜ 99999999 ≤ max ⌝ }
     ensures { λ r. ⌜ NumberField max start (now (rest .entry)) r ⌝ }
 {
     match short {
-        Short::Last(value) => Number::Last(value),
-        Short::More { value, next } => {
-            let next = start + next;
-            Number::More { value, next }
+        Short::Last { value, digits: _ } => Field::Last(value),
+        Short::More { value, digits } => {
+            let next = start + digits + 1;
+            Field::More { value, next }
         }
         Short::Unknown => long_field(start, rest, max),
     }

@@ -6,7 +6,8 @@ ghost use Rattle.model.specs.Bytes.{before};
 ghost use Rattle.model.specs.Tags.{allKinds, defaultTag};
 ghost use Rattle.model.specs.Line.{kindAmong};
 ghost use Rattle.model.specs.Parts.{lentRecord, lentLine};
-ghost use Rattle.model.specs.Calls.{LineCall};
+ghost use Rattle.model.specs.Number.{readField};
+ghost use Rattle.model.specs.Calls.{LineCall, NumberCall};
 ghost use Rattle.record_parse.specs.Answers.{Answers};
 ghost use Rattle.record_parse.specs.Lines.{bodyIn, bodyAt};
 
@@ -18,8 +19,10 @@ use fields::text_field;
 use lines::TotalAnswer;
 use model::Fault;
 use model::LineAnswer;
+use model::NumberAnswer;
 use model::Record;
 use model::Refusal;
+use scan::Number;
 
 // A line with this tag, whose body starts at a position.
 fn read_tagged(tag: &[u8], line: &[u8], at: usize) -> LineAnswer
@@ -105,5 +108,23 @@ pub fn read_line(line: &[u8]) -> LineAnswer
                 needed: r.needed,
             })
         }
+    }
+}
+
+// Reads one number field, a number up to max: its value, and how many digits were read. A refusal has no place.
+pub fn read_number(field: &[u8], max: u64) -> NumberAnswer
+    ensures { λ r. ⌜ NumberCall (readField max (now (field .entry))) r ⌝ }
+{
+    if scan::starts_with(field, b",") {
+        return NumberAnswer::Refused(refusal::unplaced(Fault::InvalidDigit));
+    }
+    let got = scan::read_number(field, max);
+    match got {
+        Number::Last { value, digits } => NumberAnswer::Read { value, digits },
+        Number::More {
+            value: _value,
+            digits: _,
+        } => NumberAnswer::Refused(refusal::unplaced(Fault::InvalidDigit)),
+        Number::Fault(fault) => NumberAnswer::Refused(refusal::unplaced(fault)),
     }
 }

@@ -8,7 +8,9 @@ ghost use Rattle.model.specs.declared.Kind.the-variants as Kind;
 ghost use Rattle.scan_digits.specs.Word.{ShortRead};
 ghost use Rattle.record_parse.specs.Answers.{Answers};
 ghost use Rattle.record_parse.specs.Lines.{TakenRead, countLent, countMade, CountOf};
+use super::fields::Field;
 use super::fields::checksum_field;
+use super::fields::long_field;
 use super::fields::number_field;
 use super::fields::number_refusal;
 use super::fields::refused;
@@ -18,7 +20,6 @@ use model::Fault;
 use model::LineAnswer;
 use model::Record;
 use model::Taken;
-use scan::Number;
 use scan_digits::Short;
 
 const MAX_U32: u64 = 4294967295;
@@ -45,9 +46,9 @@ pub(crate) fn read_function_name(line: &[u8], at: usize) -> LineAnswer
     requires { ⌜ at ≤ length (now line) ⌝ }
     ensures { λ r. ⌜ Answers (now (line .entry)) r (readBody Kind.FunctionName (drop at (now (line .entry)))) ⌝ }
 {
-    let short = scan_digits::short_number(line, at);
+    let short = scan_digits::short_number(line, &line[at..]);
     let first = number_field(at, &line[at..], short, MAX_U32);
-    let Number::More { value, next } = first else {
+    let Field::More { value, next } = first else {
         return number_refusal(first, 1);
     };
     let start = value as u32;
@@ -60,9 +61,9 @@ pub(crate) fn read_function_data(line: &[u8], at: usize) -> LineAnswer
     requires { ⌜ at ≤ length (now line) ⌝ }
     ensures { λ r. ⌜ Answers (now (line .entry)) r (readBody Kind.FunctionData (drop at (now (line .entry)))) ⌝ }
 {
-    let short = scan_digits::short_number(line, at);
+    let short = scan_digits::short_number(line, &line[at..]);
     let first = number_field(at, &line[at..], short, MAX_U64);
-    let Number::More {
+    let Field::More {
         value: count,
         next: rest,
     } = first
@@ -78,7 +79,10 @@ fn read_taken(line: u32, block: u32, branch: u32, short: Short, rest: &[u8]) -> 
     requires { ⌜ ShortRead (now rest) short ⌝ }
     ensures { λ r. ⌜ TakenRead line block branch (now (rest .entry)) r ⌝ }
 {
-    if let Short::Last(count) = short {
+    if let Short::Last {
+        value: count,
+        digits: _,
+    } = short {
         let taken = Taken::Given(count);
         return LineAnswer::Read(Record::BranchData {
             line,
@@ -99,8 +103,8 @@ fn read_taken(line: u32, block: u32, branch: u32, short: Short, rest: &[u8]) -> 
     if scan::starts_with(rest, b"-,") {
         return refused(Fault::TooManyFields, 0);
     }
-    let fourth = scan::read_number(rest, MAX_U64);
-    let Number::Last(count) = fourth else {
+    let fourth = long_field(0, rest, MAX_U64);
+    let Field::Last(count) = fourth else {
         return number_refusal(fourth, 4);
     };
     let taken = Taken::Given(count);
@@ -117,30 +121,30 @@ pub(crate) fn read_branch_data(line: &[u8], at: usize) -> LineAnswer
     requires { ⌜ at ≤ length (now line) ⌝ }
     ensures { λ r. ⌜ Answers (now (line .entry)) r (readBody Kind.BranchData (drop at (now (line .entry)))) ⌝ }
 {
-    let short = scan_digits::short_number(line, at);
+    let short = scan_digits::short_number(line, &line[at..]);
     let first = number_field(at, &line[at..], short, MAX_U32);
-    let Number::More {
+    let Field::More {
         value: number,
         next,
     } = first
     else {
         return number_refusal(first, 1);
     };
-    let short = scan_digits::digit_number(line, next);
+    let short = scan_digits::digit_number(line, &line[next..]);
     let second = number_field(next, &line[next..], short, MAX_U32);
-    let Number::More { value: block, next } = second else {
+    let Field::More { value: block, next } = second else {
         return number_refusal(second, 2);
     };
-    let short = scan_digits::digit_number(line, next);
+    let short = scan_digits::digit_number(line, &line[next..]);
     let third = number_field(next, &line[next..], short, MAX_U32);
-    let Number::More {
+    let Field::More {
         value: branch,
         next,
     } = third
     else {
         return number_refusal(third, 3);
     };
-    let short = scan_digits::short_number(line, next);
+    let short = scan_digits::short_number(line, &line[next..]);
     read_taken(
         number as u32,
         block as u32,
@@ -155,21 +159,21 @@ pub(crate) fn read_line_data(line: &[u8], at: usize) -> LineAnswer
     requires { ⌜ at ≤ length (now line) ⌝ }
     ensures { λ r. ⌜ Answers (now (line .entry)) r (readBody Kind.LineData (drop at (now (line .entry)))) ⌝ }
 {
-    let short = scan_digits::short_number(line, at);
+    let short = scan_digits::short_number(line, &line[at..]);
     let first = number_field(at, &line[at..], short, MAX_U32);
-    let Number::More { value, next } = first else {
+    let Field::More { value, next } = first else {
         return number_refusal(first, 1);
     };
     let number = value as u32;
-    let short = scan_digits::short_number(line, next);
+    let short = scan_digits::short_number(line, &line[next..]);
     let second = number_field(next, &line[next..], short, MAX_U64);
     match second {
-        Number::Last(count) => LineAnswer::Read(Record::LineData {
+        Field::Last(count) => LineAnswer::Read(Record::LineData {
             line: number,
             count,
             checksum: Checksum::Absent,
         }),
-        Number::More { value: count, next } => {
+        Field::More { value: count, next } => {
             let checksum = checksum_field(next, &line[next..]);
             LineAnswer::Read(Record::LineData {
                 line: number,
@@ -177,7 +181,7 @@ pub(crate) fn read_line_data(line: &[u8], at: usize) -> LineAnswer
                 checksum,
             })
         }
-        Number::Fault(fault) => refused(fault, 2),
+        Field::Fault(fault) => refused(fault, 2),
     }
 }
 
@@ -200,9 +204,9 @@ pub(crate) fn read_total(kind: Total, line: &[u8], at: usize) -> LineAnswer
     requires { ⌜ at ≤ length (now line) ⌝ }
     ensures { λ r. ⌜ Answers (now (line .entry)) r (readOne (countMade kind) (drop at (now (line .entry)))) ⌝ }
 {
-    let short = scan_digits::short_number(line, at);
+    let short = scan_digits::short_number(line, &line[at..]);
     let first = number_field(at, &line[at..], short, MAX_U32);
-    let Number::Last(value) = first else {
+    let Field::Last(value) = first else {
         return number_refusal(first, 1);
     };
     LineAnswer::Read(total_record(kind, value as u32))

@@ -26,6 +26,8 @@ pub fn number_of(fault: Fault) -> u32
         Fault::MalformedBundle => 16,
         Fault::PartOutside => 17,
         Fault::MalformedRanges => 18,
+        Fault::SignedNumber => 19,
+        Fault::SecondSourceFile => 25,
     }
 }
 

@@ -213,9 +213,8 @@ module _ {text ws ws′ : List ℕ} {index limit : ℕ} {st : State} {lent : Len
   pub ends : k ≡ 12 → StepBy (effect endOfRecord) text ws ws′ index limit st r → Steps text ws ws′ index limit st lent at len r
   ends z σ = stepped (effect endOfRecord (stateOf text ws index st)) (λ made ρ. rw z refl) (λ made ρ. σ)
 
-  pub ignores : FoundOrHit k → StepBy (effect (sourceFile (partIn text (st .path)))) text ws ws′ index limit st r → Steps text ws ws′ index limit st lent at len r
-  unfolding effect ignored
-  ignores ι σ = stepped (effect (sourceFile (partIn text (st .path))) (stateOf text ws index st)) (λ made ρ. sym (is-ignored (partIn (drop at text) (textPart lent)) (itemIn (drop at text) lent) (stateOf text ws index st) k ι)) (λ made ρ. σ)
+  pub ignores : FoundOrHit k → StepBy ignored text ws ws′ index limit st r → Steps text ws ws′ index limit st lent at len r
+  ignores ι σ = stepped (ignored (stateOf text ws index st)) (λ made ρ. sym (is-ignored (partIn (drop at text) (textPart lent)) (itemIn (drop at text) lent) (stateOf text ws index st) k ι)) (λ made ρ. σ)
 
   pub adds : (row : Row) → (k ≤ 12 → Added k) → RowOf at len lent row
       → StepBy (enterItem (combineOf (eqb k 3)) (itemOf text row)) text ws ws′ index limit st r → Steps text ws ws′ index limit st lent at len r

@@ -10,6 +10,7 @@ use section::on_end_of_record;
 use section::on_item;
 use section::on_source_file;
 use section::on_test_name;
+use section::open_section;
 use table::Row;
 use table_item::branch_row;
 use table_item::calls_row;
@@ -146,7 +147,7 @@ pub fn step(
             return on_source_file(words, index, limit, state, path);
         }
         4..=5 | 7..=8 | 10..=11 => {
-            return on_source_file(words, index, limit, state, state.path);
+            return open_section(words, index, limit, state);
         }
         12 => {
             return on_end_of_record(text, words, index, limit, state);

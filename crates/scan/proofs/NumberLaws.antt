@@ -2,17 +2,17 @@
 use Prim.Native.Nat.{ℕ, suc, _+_, _-_, _*_, _/_, _%_, _≤_, _<_}
 use mathlib.Core.Path.{_≡_, refl, sym, ap, _∙_}
 use mathlib.Core.List.{[], _∷_}
-use mathlib.Core.Bool.{Bool, true, false, cond, _&&_}
+use mathlib.Core.Bool.{Bool, true, false, true≢false, cond, _&&_}
 use native.Mathlib.Omega.{arith}
 use lib.Dec.{leb, ltb, eqb}
 use lib.ListN.{length, drop, getD}
 use borrow.Author.Tests.{lt-ltb, le-ltb, le-leb, lt-leb, eq-eqb, ne-eqb, ltb-true, ltb-false, leb-true, eqb-true}
 use Rattle.model.specs.Order.{if_then_else_}
-use Rattle.model.specs.declared.Fault.the-variants.{EmptyNumber, InvalidDigit, NumberOverflow}
+use Rattle.model.specs.declared.Fault.the-variants.{EmptyNumber, InvalidDigit, NumberOverflow, SignedNumber}
 use Rattle.model.specs.Bytes.{Bytes, plus, comma, before, after}
 use Rattle.model.specs.Answer.{Answer, accepted, refuse}
-use Rattle.model.specs.Number.{isDigit, readDigits, readSome, readNumber}
-use Rattle.scan.specs.Scan.{followed, numberIn, nextOf, valueOf, signLen, withDigits, Above, NumberRead}
+use Rattle.model.specs.Number.{isDigit, readDigits, readNumber}
+use Rattle.scan.specs.Scan.{followed, numberIn, nextOf, valueOf, isSigned, withDigits, Above, NumberRead}
 use Rattle.scan.specs.declared.Number.{Number}
 use Rattle.scan.specs.declared.Number.the-variants.{Last, More, Fault}
 use Rattle.scan.proofs.ByteLaws.{drop-next, drop-end}
@@ -38,133 +38,120 @@ module _ {value digit max : ℕ} where
   pub passes : {r : Bool} → Above value digit max r → r ≡ true → max < value * 10 + digit
   passes a e = ltb-true max (value * 10 + digit) (sym (a .is) ∙ e)
 
--- the answer from index i on, where the digits begin at start and have a value so far
-unfoldable pub scanned : ℕ → ℕ → ℕ → ℕ → Bytes → Number
-scanned max start i value [] = withDigits start i (Last value)
-scanned max start i value (b ∷ bs) =
-    if isDigit b then if leb (value * 10 + (b - 48)) max then scanned max start (i + 1) (value * 10 + (b - 48)) bs else Fault NumberOverflow
-    else if eqb b comma then withDigits start i (More value (i + 1))
+-- the answer from index i on, where the digits before it have a value
+unfoldable pub scanned : ℕ → ℕ → ℕ → Bytes → Number
+scanned max i value [] = withDigits i (Last value i)
+scanned max i value (b ∷ bs) =
+    if isDigit b then if leb (value * 10 + (b - 48)) max then scanned max (i + 1) (value * 10 + (b - 48)) bs else Fault NumberOverflow
+    else if eqb b comma then withDigits i (More value i)
     else Fault InvalidDigit
 
-module _ (max start : ℕ) where
+module _ (max : ℕ) where
   -- the rest as the model reads it
   abbrev Rest : ℕ → ℕ → Bytes → Type 0
-  Rest i value bs = scanned max start i value bs ≡ followed (readDigits max value (before comma bs)) (i + length (before comma bs)) (after comma bs)
+  Rest i value bs = scanned max i value bs ≡ followed (readDigits max value (before comma bs)) (i + length (before comma bs)) (after comma bs)
 
   rest-step : (i value b : ℕ) (bs : Bytes) → eqb b comma ≡ false → ((v : ℕ) → Rest (i + 1) v bs) → Rest i value (b ∷ bs)
   unfolding scanned before after readDigits
   rest-step i value b bs n rest = rw (n, before, after) (go (isDigit b) (leb (value * 10 + (b - 48)) max))
     where
-      go : (d t : Bool) → (cond d (cond t (scanned max start (i + 1) (value * 10 + (b - 48)) bs) (Fault NumberOverflow)) (Fault InvalidDigit)) ≡ followed (cond d (cond t (readDigits max (value * 10 + (b - 48)) (before comma bs)) (refuse NumberOverflow)) (refuse InvalidDigit)) (i + suc (length (before comma bs))) (after comma bs)
+      go : (d t : Bool) → (cond d (cond t (scanned max (i + 1) (value * 10 + (b - 48)) bs) (Fault NumberOverflow)) (Fault InvalidDigit)) ≡ followed (cond d (cond t (readDigits max (value * 10 + (b - 48)) (before comma bs)) (refuse NumberOverflow)) (refuse InvalidDigit)) (i + suc (length (before comma bs))) (after comma bs)
       go true true = rest (value * 10 + (b - 48)) ∙ ap (λ (n : ℕ). followed (readDigits max (value * 10 + (b - 48)) (before comma bs)) n (after comma bs)) (omega arith)
       go true false = refl
       go false t = refl
 
   -- after the first digit
-  rest-more : (i value : ℕ) (bs : Bytes) → start < i → Rest i value bs
+  rest-more : (i value : ℕ) (bs : Bytes) → 0 < i → Rest i value bs
   unfolding scanned before after readDigits withDigits
-  rest-more i value [] h = rw (lt-ltb start i h)
+  rest-more i value [] h = rw (ne-eqb i 0 (λ e. omega (arith, h, e))) (ap (λ (n : ℕ). Last value n) (omega arith))
   rest-more i value (b ∷ bs) h = go (eqb b comma) refl (λ v. rest-more (i + 1) v bs (omega arith))
     where
       go : (d : Bool) → eqb b comma ≡ d → ((v : ℕ) → Rest (i + 1) v bs) → Rest i value (b ∷ bs)
       go true e rest =
           let is : b ≡ 44 = eqb-true b 44 e in
-          rw (is, before, after, lt-ltb start i h) (ap (λ (n : ℕ). More value n) (omega arith))
+          rw (is, before, after, ne-eqb i 0 (λ z. omega (arith, h, z))) (ap (λ (n : ℕ). More value n) (omega arith))
       go false e rest = rest-step i value b bs e rest
 
-  -- the first byte, which is no comma
-  rest-first : (b : ℕ) (bs : Bytes) → eqb b comma ≡ false → Rest start 0 (b ∷ bs)
-  rest-first b bs e = rest-step start 0 b bs e (λ v. rest-more (start + 1) v bs (omega arith))
-
--- from the first digit on: the whole number
-from-start : (max : ℕ) (s : Bytes) → scanned max (signLen s) (signLen s) 0 (drop (signLen s) s) ≡ numberIn max s
-unfolding scanned signLen numberIn before after readNumber readSome withDigits
-from-start max [] = refl
-from-start max (b ∷ bs) = go (eqb b plus) refl
+-- from the first byte on: the whole number, unless it has a sign
+from-start : (max : ℕ) (s : Bytes) → isSigned s ≡ false → scanned max 0 0 s ≡ numberIn max s
+unfolding scanned isSigned numberIn before after readNumber withDigits
+from-start max [] n = refl
+from-start max (b ∷ bs) n = go (eqb b comma) refl
   where
-    after-sign : (bs : Bytes) → scanned max 1 1 0 bs ≡ followed (readSome max (before comma bs)) (suc (length (before comma bs))) (after comma bs)
-    after-sign [] = refl
-    after-sign (x ∷ xs) = pick (eqb x comma) refl
-      where
-        pick : (d : Bool) → eqb x comma ≡ d → scanned max 1 1 0 (x ∷ xs) ≡ followed (readSome max (before comma (x ∷ xs))) (suc (length (before comma (x ∷ xs)))) (after comma (x ∷ xs))
-        pick true e = rw (eqb-true x 44 e, before)
-        pick false e = rest-first max 1 x xs e ∙ rw (e, before, after) (ap (λ (n : ℕ). followed (readDigits max 0 (x ∷ before comma xs)) n (after comma xs)) (omega arith))
-
-    plain : (d : Bool) → eqb b comma ≡ d → eqb b plus ≡ false → scanned max 0 0 0 (b ∷ bs) ≡ numberIn max (b ∷ bs)
-    plain true e n = rw (eqb-true b 44 e, before)
-    plain false e n = rest-first max 0 b bs e ∙ rw (e, before, after, n) (ap (λ (n : ℕ). followed (readDigits max 0 (b ∷ before comma bs)) n (after comma bs)) (omega arith))
-
-    go : (d : Bool) → eqb b plus ≡ d → scanned max (cond d 1 0) (cond d 1 0) 0 (drop (cond d 1 0) (b ∷ bs)) ≡ numberIn max (b ∷ bs)
-    go true e = after-sign bs ∙ rw (eqb-true b 43 e, before, after)
-    go false e = plain (eqb b comma) refl e
+    go : (d : Bool) → eqb b comma ≡ d → scanned max 0 0 (b ∷ bs) ≡ numberIn max (b ∷ bs)
+    go true e = rw (eqb-true b 44 e, before)
+    go false e =
+        rest-step max 0 0 b bs e (λ v. rest-more max 1 v bs (omega arith))
+        ∙ rw (e, before, after, n) (ap (λ (n : ℕ). followed (readDigits max 0 (b ∷ before comma bs)) n (after comma bs)) (omega arith))
 
 -- ---- a sign
 
-pub sign-empty : (s : Bytes) → length s ≡ 0 → 0 ≡ signLen s
-unfolding signLen
+pub sign-empty : (s : Bytes) → length s ≡ 0 → false ≡ isSigned s
+unfolding isSigned
 sign-empty [] e = refl
 sign-empty (b ∷ bs) e = absurd (omega arith)
 
-pub sign-plus : (s : Bytes) → (length s ≡ 0 → ⊥) → getD s 0 0 ≡ 43 → 1 ≡ signLen s
-unfolding signLen
-sign-plus [] n e = absurd (n refl)
-sign-plus (b ∷ bs) n e = rw (eq-eqb b 43 e)
+pub sign-first : (s : Bytes) → (length s ≡ 0 → ⊥) → eqb (getD s 0 0) 43 ≡ isSigned s
+unfolding isSigned
+sign-first [] n = absurd (n refl)
+sign-first (b ∷ bs) n = refl
 
-pub sign-none : (s : Bytes) → (length s ≡ 0 → ⊥) → (getD s 0 0 ≡ 43 → ⊥) → 0 ≡ signLen s
-unfolding signLen
-sign-none [] n e = absurd (n refl)
-sign-none (b ∷ bs) n e = rw (ne-eqb b 43 e)
+pub sign-none : (s : Bytes) → (length s ≡ 0 → ⊥) → (getD s 0 0 ≡ 43 → ⊥) → isSigned s ≡ false
+sign-none s n e = sym (sign-first s n) ∙ ne-eqb (getD s 0 0) 43 e
+
+pub sign-read : {max : ℕ} {s : Bytes} {r : Bool} → r ≡ isSigned s → r ≡ true → NumberRead max s (Fault SignedNumber)
+unfolding isSigned numberIn before after readNumber
+sign-read {max} {s} e t = record { is = go s (sym e ∙ t); long = omega arith; most = omega arith }
+  where
+    go : (s : Bytes) → isSigned s ≡ true → Fault SignedNumber ≡ numberIn max s
+    go [] n = absurd (true≢false (sym n))
+    go (b ∷ bs) n = rw (eqb-true b 43 n, before, after)
 
 -- ---- the end of a number
 
-module _ (start end : ℕ) (number : Number) where
-  pub digits-some : start < end → number ≡ withDigits start end number
+module _ (digits : ℕ) (number : Number) where
+  pub digits-some : (digits ≡ 0 → ⊥) → number ≡ withDigits digits number
   unfolding withDigits
-  digits-some h = rw (lt-ltb start end h)
+  digits-some h = rw (ne-eqb digits 0 h)
 
-  pub digits-empty : end ≤ start → start ≡ 0 → Fault EmptyNumber ≡ withDigits start end number
+  pub digits-empty : digits ≡ 0 → Fault EmptyNumber ≡ withDigits digits number
   unfolding withDigits
-  digits-empty h e = rw (le-ltb start end h, eq-eqb start 0 e)
-
-  pub digits-sign : end ≤ start → (start ≡ 0 → ⊥) → Fault InvalidDigit ≡ withDigits start end number
-  unfolding withDigits
-  digits-sign h e = rw (le-ltb start end h, ne-eqb start 0 e)
+  digits-empty e = rw (eq-eqb digits 0 e)
 
   -- what bounds the number bounds the answer
-  digits-most : (f : Number → ℕ) (m : ℕ) → f number ≤ m → f (Fault EmptyNumber) ≤ m → f (Fault InvalidDigit) ≤ m → f (withDigits start end number) ≤ m
+  digits-most : (f : Number → ℕ) (m : ℕ) → f number ≤ m → f (Fault EmptyNumber) ≤ m → f (withDigits digits number) ≤ m
   unfolding withDigits
-  digits-most f m h k l = go (ltb start end) (eqb start 0)
+  digits-most f m h k = go (eqb digits 0)
     where
-      go : (d t : Bool) → f (cond d number (cond t (Fault EmptyNumber) (Fault InvalidDigit))) ≤ m
-      go true t = h
-      go false true = k
-      go false false = l
+      go : (d : Bool) → f (cond d (Fault EmptyNumber) number) ≤ m
+      go true = k
+      go false = h
 
 -- ---- the loop over the digits: going on from index i gives the whole's answer
 
-pub record Scan (max : ℕ) (s : Bytes) (start i value : ℕ) : Type 0 where
+pub record Scan (max : ℕ) (s : Bytes) (i value : ℕ) : Type 0 where
   pub within : i ≤ length s
   pub most : value ≤ max
-  pub left : scanned max start i value (drop i s) ≡ numberIn max s
+  pub left : scanned max i value (drop i s) ≡ numberIn max s
 
-pub scan-start : {max : ℕ} {s : Bytes} {start : ℕ} → start ≡ signLen s → start ≤ length s → Scan max s start start 0
-scan-start {max} {s} {start} e h = record { within = h; most = omega arith; left = rw e (from-start max s) }
+pub scan-start : {max : ℕ} {s : Bytes} {r : Bool} → r ≡ isSigned s → r ≡ false → Scan max s 0 0
+scan-start {max} {s} e f = record { within = omega arith; most = omega arith; left = from-start max s (sym e ∙ f) }
 
-module _ {max : ℕ} {s : Bytes} {start i value : ℕ} (scan : Scan max s start i value) where
-  digits-read : (r number : Number) → nextOf number ≤ length s → valueOf number ≤ max → r ≡ withDigits start i number → r ≡ numberIn max s → NumberRead max s r
+module _ {max : ℕ} {s : Bytes} {i value : ℕ} (scan : Scan max s i value) where
+  digits-read : (r number : Number) → nextOf number ≤ length s → valueOf number ≤ max → r ≡ withDigits i number → r ≡ numberIn max s → NumberRead max s r
   digits-read r number h k e q =
       record {
         is = q;
-        long = rw e (digits-most start i number nextOf (length s) h (omega arith) (omega arith));
-        most = rw e (digits-most start i number valueOf max k (omega arith) (omega arith));
+        long = rw e (digits-most i number nextOf (length s) h (omega arith));
+        most = rw e (digits-most i number valueOf max k (omega arith));
       }
 
-  pub scan-end : (r : Number) → length s ≤ i → r ≡ withDigits start i (Last value) → NumberRead max s r
+  pub scan-end : (r : Number) → length s ≤ i → r ≡ withDigits i (Last value i) → NumberRead max s r
   unfolding scanned
-  scan-end r h e = digits-read r (Last value) (omega arith) (scan .most) e (e ∙ (rw (drop-end s i h) at (scan .left)))
+  scan-end r h e = digits-read r (Last value i) (omega arith) (scan .most) e (e ∙ (rw (drop-end s i h) at (scan .left)))
 
   -- the byte at i
-  next : (b : ℕ) → i < length s → getD s i 0 ≡ b → scanned max start i value (b ∷ drop (i + 1) s) ≡ numberIn max s
+  next : (b : ℕ) → i < length s → getD s i 0 ≡ b → scanned max i value (b ∷ drop (i + 1) s) ≡ numberIn max s
   next b h e = rw (drop-next 0 s i h, e) at (scan .left)
 
   -- a byte whose distance from '0' is above 9
@@ -181,9 +168,9 @@ module _ {max : ℕ} {s : Bytes} {start i value : ℕ} (scan : Scan max s start 
   is-digit : (digit : ℕ) → digit ≤ 9 → isDigit (digit + 48) ≡ true
   is-digit digit h = rw (le-leb 48 (digit + 48) (omega arith)) (le-leb (digit + 48) 57 (omega arith))
 
-  pub scan-comma : (r : Number) → i < length s → getD s i 0 ≡ 44 → r ≡ withDigits start i (More value (i + 1)) → NumberRead max s r
+  pub scan-comma : (r : Number) → i < length s → getD s i 0 ≡ 44 → r ≡ withDigits i (More value i) → NumberRead max s r
   unfolding scanned
-  scan-comma r h is q = digits-read r (More value (i + 1)) (omega arith) (scan .most) q (q ∙ next 44 h is)
+  scan-comma r h is q = digits-read r (More value i) (omega arith) (scan .most) q (q ∙ next 44 h is)
 
   pub scan-bad : (digit : ℕ) → i < length s → (digit + 48) % 256 ≡ getD s i 0 → digit < 256 → 9 < digit → (getD s i 0 ≡ 44 → ⊥) → NumberRead max s (Fault InvalidDigit)
   unfolding scanned
@@ -204,7 +191,7 @@ module _ {max : ℕ} {s : Bytes} {start i value : ℕ} (scan : Scan max s start 
         most = omega arith;
       }
 
-  pub scan-step : {r : Bool} (digit : ℕ) → i < length s → (digit + 48) % 256 ≡ getD s i 0 → digit ≤ 9 → Above value digit max r → r ≡ false → Scan max s start (i + 1) (value * 10 + digit)
+  pub scan-step : {r : Bool} (digit : ℕ) → i < length s → (digit + 48) % 256 ≡ getD s i 0 → digit ≤ 9 → Above value digit max r → r ≡ false → Scan max s (i + 1) (value * 10 + digit)
   unfolding scanned
   scan-step digit h e d a f =
       let near = fits a f in

@@ -1,17 +1,17 @@
-// Bytes searched, compared and trimmed, and numbers read. These are the words "bytes 10 and 13 are dropped" and "a number may begin with
-// one '+'" of SPEC 2.1.
+// Bytes searched, compared and trimmed, and numbers read. These are the words "bytes 10 and 13 are dropped" of SPEC 2.1 and "a number has
+// digits alone" of SPEC 2.3.
 ghost use mathlib.Core.Path.{_≡_};
 ghost use Prim.Native.Nat.{_≤_, _<_};
 ghost use lib.ListN.{length, take};
 ghost use Rattle.model.specs.Bytes.{before, sameBytes};
 ghost use Rattle.model.specs.Line.{trimmed};
-ghost use Rattle.scan.specs.Scan.{isEnd, signLen, withDigits, Above, NumberRead};
+ghost use Rattle.scan.specs.Scan.{isEnd, isSigned, withDigits, Above, NumberRead};
 use model::Fault;
 
-// A number at the front of a text: the text ends after it, or a comma follows and next is past the comma; or its fault.
+// A number at the front of a text, with how many digits were read: the text ends after them, or a comma follows; or its fault.
 pub enum Number {
-    Last(u64),
-    More { value: u64, next: usize },
+    Last { value: u64, digits: usize },
+    More { value: u64, digits: usize },
     Fault(Fault),
 }
 
@@ -80,30 +80,24 @@ pub fn trim(s: &[u8]) -> &[u8]
     &s[..n]
 }
 
-// How many bytes a number's sign takes.
-fn sign_len(s: &[u8]) -> usize
-    ensures { λ r. ⌜ (r ≡ signLen (now (s .entry))) × (r ≤ length (now (s .entry))) ⌝ }
+// Whether a plus sign comes first.
+fn is_signed(s: &[u8]) -> bool
+    ensures { λ r. ⌜ r ≡ isSigned (now (s .entry)) ⌝ }
 {
     if s.len() == 0 {
-        return 0;
+        return false;
     }
-    if s[0] == b'+' {
-        return 1;
-    }
-    0
+    s[0] == b'+'
 }
 
-// The number whose digits are those from start to end; without a digit it is empty, or bad after a sign.
-fn with_digits(start: usize, end: usize, number: Number) -> Number
-    ensures { λ r. ⌜ r ≡ withDigits start end number ⌝ }
+// The number that has so many digits; without one it is empty.
+fn with_digits(digits: usize, number: Number) -> Number
+    ensures { λ r. ⌜ r ≡ withDigits digits number ⌝ }
 {
-    if start < end {
-        return number;
-    }
-    if start == 0 {
+    if digits == 0 {
         return Number::Fault(Fault::EmptyNumber);
     }
-    Number::Fault(Fault::InvalidDigit)
+    number
 }
 
 // Whether the value with one more digit is above max. Most digits need the first test only.
@@ -124,16 +118,17 @@ fn is_above(value: u64, digit: u64, max: u64) -> bool
 pub fn read_number(s: &[u8], max: u64) -> Number
     ensures { λ r. ⌜ NumberRead max (now (s .entry)) r ⌝ }
 {
-    let start = sign_len(s);
+    if is_signed(s) {
+        return Number::Fault(Fault::SignedNumber);
+    }
     let mut value = 0;
-    let mut i = start;
+    let mut i = 0;
     while i < s.len() {
         let b = s[i];
         let digit = std::num::wrapping_sub_u8(b, b'0') as u64;
         if 9 < digit {
             if b == b',' {
-                let next = i + 1;
-                return with_digits(start, i, Number::More { value, next });
+                return with_digits(i, Number::More { value, digits: i });
             }
             return Number::Fault(Fault::InvalidDigit);
         }
@@ -143,5 +138,5 @@ pub fn read_number(s: &[u8], max: u64) -> Number
         value = value * 10 + digit;
         i += 1;
     }
-    with_digits(start, i, Number::Last(value))
+    with_digits(i, Number::Last { value, digits: i })
 }

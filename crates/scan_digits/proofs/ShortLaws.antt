@@ -17,7 +17,7 @@ use Rattle.scan.specs.declared.Number.the-variants as N
 use Rattle.scan.specs.Scan.{Above, NumberRead}
 use Rattle.scan.proofs.ByteLaws.{drop-next}
 use Rattle.scan.proofs.NumberLaws.{Scan, scan-start, scan-end, scan-comma, scan-step, sign-none, digits-some}
-use Rattle.scan_digits.specs.Word.{wordOf, Small, valueFrom, ShortRead}
+use Rattle.scan_digits.specs.Word.{wordOf, Small, valueFrom, EndOf, ShortRead}
 use Rattle.scan_digits.specs.declared.Short.the-variants.{Last, More, Unknown}
 use Rattle.scan_digits.proofs.WordLaws.{filled, digit-of}
 
@@ -159,7 +159,7 @@ most-eight m h = go (8 - m) m (omega arith)
 
 module _ (max : ℕ) (s : Bytes) (bytes : Bounded s) where
   -- m more digits
-  digits-on : (m n i v : ℕ) → m ≤ n → Scan max s 0 i v → most m v ≤ max → Small m (lessZero n (drop i s)) → Scan max s 0 (i + m) (valueFrom v m (lessZero n (drop i s)))
+  digits-on : (m n i v : ℕ) → m ≤ n → Scan max s i v → most m v ≤ max → Small m (lessZero n (drop i s)) → Scan max s (i + m) (valueFrom v m (lessZero n (drop i s)))
   unfolding Small valueFrom most
   digits-on zero n i v h scan k small = rw (add-zero i) scan
   digits-on (suc m) zero i v h scan k small = absurd (omega arith)
@@ -169,8 +169,8 @@ module _ (max : ℕ) (s : Bytes) (bytes : Bounded s) where
     where
       go : (digit : ℕ) → lessZero (suc n) (drop i s) % 256 ≡ digit
           → (0 < length (drop i s)) × (getD (drop i s) 0 0 ≡ lessZero (suc n) (drop i s) % 256 + 48) × (lessZero (suc n) (drop i s) / 256 ≡ lessZero n (drop 1 (drop i s)))
-          → ((w : ℕ) → Scan max s 0 (i + 1) w → most m w ≤ max → Small m (lessZero n (drop (i + 1) s)) → Scan max s 0 (i + 1 + m) (valueFrom w m (lessZero n (drop (i + 1) s))))
-          → Scan max s 0 (i + suc m) (valueFrom (v * 10 + lessZero (suc n) (drop i s) % 256) m (lessZero (suc n) (drop i s) / 256))
+          → ((w : ℕ) → Scan max s (i + 1) w → most m w ≤ max → Small m (lessZero n (drop (i + 1) s)) → Scan max s (i + 1 + m) (valueFrom w m (lessZero n (drop (i + 1) s))))
+          → Scan max s (i + suc m) (valueFrom (v * 10 + lessZero (suc n) (drop i s) % 256) m (lessZero (suc n) (drop i s) / 256))
       go digit e (some, is, later) on =
           let there : i < length s = omega (arith, simp length-drop at some) in
           let byte : getD s i 0 ≡ digit + 48 = ap (λ (t : Bytes). getD t 0 0) (sym (drop-next 0 s i there)) ∙ is ∙ ap (λ (x : ℕ). x + 48) e in
@@ -178,63 +178,59 @@ module _ (max : ℕ) (s : Bytes) (bytes : Bounded s) where
           let near : most m (v * 10 + digit) ≤ max = le-trans (most-mono m (v * 10 + digit) (v * 10 + 9) (omega (arith, low))) k in
           let fits : v * 10 + digit ≤ max = le-trans (most-above m (v * 10 + digit)) near in
           let above : Above v digit max false = record { is = sym (le-ltb max (v * 10 + digit) fits) } in
-          let next : Scan max s 0 (i + 1) (v * 10 + digit) = scan-step scan digit there (omega (arith, byte, low)) low above refl in
+          let next : Scan max s (i + 1) (v * 10 + digit) = scan-step scan digit there (omega (arith, byte, low)) low above refl in
           let rest : lessZero (suc n) (drop i s) / 256 ≡ lessZero n (drop (i + 1) s) = later ∙ ap (lessZero n) (drop-drop 1 i s) in
           let end : i + suc m ≡ i + 1 + m = omega arith in
           rw (end, e, rest) (on (v * 10 + digit) next near (rw rest at small))
 
   -- from the front: the first byte is a digit and no sign
-  pub digits-read : (n x : ℕ) → x ≡ lessZero 8 s → 0 < n → n ≤ 8 → 99999999 ≤ max → Small n x → Scan max s 0 n (valueFrom 0 n x)
+  pub digits-read : (n x : ℕ) → x ≡ lessZero 8 s → 0 < n → n ≤ 8 → 99999999 ≤ max → Small n x → Scan max s n (valueFrom 0 n x)
   unfolding Small
   digits-read zero x e h k l small = absurd (omega arith)
   digits-read (suc n) x e h k l small =
       let (first, rest) = rw e at small in
       let (some, is, later) = less-digit 7 s bytes first in
-      let start : Scan max s 0 0 0 = scan-start (sign-none s (λ z. omega (arith, z, some)) (λ z. omega (arith, z, is, first))) (omega arith) in
+      let start : Scan max s 0 0 = scan-start refl (sign-none s (λ z. omega (arith, z, some)) (λ z. omega (arith, z, is, first))) in
       let end : 0 + suc n ≡ suc n = omega arith in
-      rw e (subst (λ (k : ℕ). Scan max s 0 k (valueFrom 0 (suc n) (lessZero 8 s))) end (digits-on (suc n) 8 0 0 k start (le-trans (most-eight (suc n) k) l) (rw e at small)))
+      rw e (subst (λ (k : ℕ). Scan max s k (valueFrom 0 (suc n) (lessZero 8 s))) end (digits-on (suc n) 8 0 0 k start (le-trans (most-eight (suc n) k) l) (rw e at small)))
 
--- a number of the line s from a position on, its bytes in the word w
-module _ (s : Bytes) (at w n v : ℕ) (bytes : Bounded s) (w-is : w ≡ wordOf (take 8 (drop at s))) (small : Small n (bitXor w 3472328296227680304)) (few : n ≤ 8) (some : n ≡ 0 → ⊥) (v-is : v ≡ valueFrom 0 n (bitXor w 3472328296227680304)) where
-  read : (max : ℕ) → 99999999 ≤ max → Scan max (drop at s) 0 n v
+-- a number at the front of the part s, its first bytes in the word w
+module _ (line s : Bytes) (w n v : ℕ) (bytes : Bounded s) (ends : EndOf line s) (w-is : w ≡ wordOf (take 8 (drop (length line - length s) line))) (small : Small n (bitXor w 3472328296227680304)) (few : n ≤ 8) (some : n ≡ 0 → ⊥) (v-is : v ≡ valueFrom 0 n (bitXor w 3472328296227680304)) where
+  read : (max : ℕ) → 99999999 ≤ max → Scan max s n v
   unfolding lessZero
-  read max h = rw v-is (digits-read max (drop at s) (drop-bounded at s bytes) n (bitXor w 3472328296227680304) (ap (λ (k : ℕ). bitXor k 3472328296227680304) w-is) (pos n some) few h small)
+  read max h =
+      let first : w ≡ wordOf (take 8 s) = w-is ∙ ap (λ (t : Bytes). wordOf (take 8 t)) (sym (ends .is)) in
+      rw v-is (digits-read max s bytes n (bitXor w 3472328296227680304) (ap (λ (k : ℕ). bitXor k 3472328296227680304) first) (pos n some) few h small)
     where
       pos : (n : ℕ) → (n ≡ 0 → ⊥) → 0 < n
       pos zero h = absurd (h refl)
       pos (suc n) h = omega arith
 
-  number-within : at ≤ length s → at + n ≤ length s
-  number-within h = let k = read 99999999 (omega arith) .within in let l = simp length-drop at k in omega (arith, h, l)
+  before-end : (n ≡ length s → ⊥) → n < length s
+  before-end l = let within = read 99999999 (omega arith) .within in omega (arith, within, l)
 
-  pub number-there : at ≤ length s → (at + n ≡ length s → ⊥) → at + n < length s
-  number-there h l = let within = number-within h in omega (arith, within, l)
+  pub number-there : (n ≡ length s → ⊥) → length line - length s + n < length line
+  number-there l = omega (arith, before-end l, ends .within)
 
-  pub number-last : at + n ≡ length s → ShortRead (drop at s) (Last v)
-  number-last e = record { is = λ max k. scan-end (read max k) (N.Last v) (simp length-drop (omega arith)) (digits-some 0 n (N.Last v) (omega (arith, some))) }
+  pub number-last : n ≡ length s → ShortRead s (Last v n)
+  number-last e = record { is = λ max k. scan-end (read max k) (N.Last v n) (omega (arith, e)) (digits-some n (N.Last v n) some) }
 
-  pub number-more : at ≤ length s → (at + n ≡ length s → ⊥) → getD s (at + n) 0 ≡ 44 → ShortRead (drop at s) (More v (n + 1))
-  number-more h l e =
-      let far = number-there h l in
-      let there : n < length (drop at s) = simp length-drop (omega (arith, far)) in
-      let byte : getD (drop at s) n 0 ≡ 44 = getD-drop at s n 0 ∙ e in
-      record { is = λ max k. scan-comma (read max k) (N.More v (n + 1)) there byte (digits-some 0 n (N.More v (n + 1)) (omega (arith, some))) }
+  pub number-more : (n ≡ length s → ⊥) → getD line (length line - length s + n) 0 ≡ 44 → ShortRead s (More v n)
+  number-more l e =
+      let byte : getD s n 0 ≡ 44 = ap (λ (t : Bytes). getD t n 0) (ends .is) ∙ getD-drop (length line - length s) line n 0 ∙ e in
+      record { is = λ max k. scan-comma (read max k) (N.More v n) (before-end l) byte (digits-some n (N.More v n) some) }
 
 pub number-unknown : (s : Bytes) → ShortRead s Unknown
 number-unknown s = record { is = λ max k. tt }
 
 -- one digit and a comma
-pub number-digit : (s : Bytes) (at digit : ℕ) → at + 1 < length s → (digit + 48) % 256 ≡ getD s at 0 → digit ≤ 9 → getD s (at + 1) 0 ≡ 44 → ShortRead (drop at s) (More digit 2)
-number-digit s at digit h e d c =
-    let first : getD (drop at s) 0 0 ≡ getD s at 0 = getD-drop at s 0 0 ∙ ap (λ (k : ℕ). getD s k 0) (add-zero at) in
-    let there : 1 < length (drop at s) = simp length-drop (omega arith) in
-    let byte : (digit + 48) % 256 ≡ getD (drop at s) 0 0 = e ∙ sym first in
-    record { is = λ max k. go max k (drop at s) there byte (getD-drop at s 1 0 ∙ c) }
+pub number-digit : (s : Bytes) (digit : ℕ) → 1 < length s → (digit + 48) % 256 ≡ getD s 0 0 → digit ≤ 9 → getD s 1 0 ≡ 44 → ShortRead s (More digit 1)
+number-digit s digit l b d c = record { is = λ max k. go max k }
   where
-    go : (max : ℕ) → 99999999 ≤ max → (t : Bytes) → 1 < length t → (digit + 48) % 256 ≡ getD t 0 0 → getD t 1 0 ≡ 44 → NumberRead max t (N.More digit 2)
-    go max k t l b c =
-        let start : Scan max t 0 0 0 = scan-start (sign-none t (λ z. omega (arith, z, l)) (λ z. omega (arith, z, b, d))) (omega arith) in
+    go : (max : ℕ) → 99999999 ≤ max → NumberRead max s (N.More digit 1)
+    go max k =
+        let start : Scan max s 0 0 = scan-start refl (sign-none s (λ z. omega (arith, z, l)) (λ z. omega (arith, z, b, d))) in
         let above : Above 0 digit max false = record { is = sym (le-ltb max (0 * 10 + digit) (omega arith)) } in
-        let one : Scan max t 0 1 (0 * 10 + digit) = scan-step start digit (omega arith) b d above refl in
+        let one : Scan max s 1 (0 * 10 + digit) = scan-step start digit (omega arith) b d above refl in
         let same : 0 * 10 + digit ≡ digit = omega arith in
-        scan-comma (rw same at one) (N.More digit 2) l c (digits-some 0 1 (N.More digit 2) (omega arith))
+        scan-comma (rw same at one) (N.More digit 1) l c (digits-some 1 (N.More digit 1) (λ z. omega (arith, z)))

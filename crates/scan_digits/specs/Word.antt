@@ -1,6 +1,8 @@
 -- A number of at most eight digits, its bytes as one word. Assumes nothing.
-use Prim.Native.Nat.{ℕ, zero, suc, _+_, _*_, _/_, _%_, _≤_}
+use Prim.Native.Nat.{ℕ, zero, suc, _+_, _-_, _*_, _/_, _%_, _≤_}
+use mathlib.Core.Path.{_≡_}
 use mathlib.Core.List.{[], _∷_}
+use lib.ListN.{length, drop}
 use Rattle.model.specs.Bytes.{Bytes}
 use Rattle.scan.specs.declared.Number.the-variants as N
 use Rattle.scan.specs.Scan.{NumberRead}
@@ -22,10 +24,15 @@ unfoldable pub valueFrom : ℕ → ℕ → ℕ → ℕ
 valueFrom value zero x = value
 valueFrom value (suc n) x = valueFrom (value * 10 + x % 256) n (x / 256)
 
+-- a part that ends a line
+pub record EndOf (line part : Bytes) : Type 0 where
+  pub within : length part ≤ length line
+  pub is : part ≡ drop (length line - length part) line
+
 -- the meaning of an answer about a number up to max
 abbrev pub shortIs : ℕ → Bytes → Short → Type 0
-shortIs max s (Last value) = NumberRead max s (N.Last value)
-shortIs max s (More value next) = NumberRead max s (N.More value next)
+shortIs max s (Last value digits) = NumberRead max s (N.Last value digits)
+shortIs max s (More value digits) = NumberRead max s (N.More value digits)
 shortIs max s Unknown = Unit {0}
 
 pub record ShortRead (s : Bytes) (r : Short) : Type 0 where

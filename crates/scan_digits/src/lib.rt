@@ -3,12 +3,13 @@
 ghost use mathlib.Core.Path.{_≡_};
 ghost use Prim.Native.Nat.{_+_, _≤_, _<_, min};
 ghost use lib.ListN.{length, take, drop};
-ghost use Rattle.scan_digits.specs.Word.{wordOf, valueFrom, Small, ShortRead};
+ghost use Rattle.scan_digits.specs.Word.{wordOf, valueFrom, Small, EndOf, ShortRead};
 
-// A number at the front of a text, if it is known to be short: at most eight digits, and after them the end, or a comma and next past it.
+// A number at the front of a part, with how many digits were read, if it is known to be short: at most eight, and after them the end or a
+// comma.
 pub enum Short {
-    Last(u64),
-    More { value: u64, next: usize },
+    Last { value: u64, digits: usize },
+    More { value: u64, digits: usize },
     Unknown,
 }
 
@@ -87,64 +88,63 @@ fn digits_value(x: u64, n: usize) -> u64
     eight_value(x << shift)
 }
 
-// The number at a position; unknown where the whole text has fewer than eight bytes.
-pub fn short_number(s: &[u8], at: usize) -> Short
-    requires { ⌜ at ≤ length (now s) ⌝ }
-    ensures { λ r. ⌜ ShortRead (drop at (now (s .entry))) r ⌝ }
+// The number at the front of a part, which ends the line; unknown where the line has fewer than eight bytes. The line is lent beside
+// the part, since a word is loaded from it.
+pub fn short_number(line: &[u8], part: &[u8]) -> Short
+    requires { ⌜ EndOf (now line) (now part) ⌝ }
+    ensures { λ r. ⌜ ShortRead (now (part .entry)) r ⌝ }
 {
-    if s.len() < 8 {
+    if line.len() < 8 {
         return Short::Unknown;
     }
-    if s.len() <= at {
+    if part.len() == 0 {
         return Short::Unknown;
     }
-    let x = word_at(s, at) ^ 0x3030303030303030;
-    let count = small_count(x);
-    if count == 0 {
+    let at = line.len() - part.len();
+    let x = word_at(line, at) ^ 0x3030303030303030;
+    let digits = small_count(x);
+    if digits == 0 {
         return Short::Unknown;
     }
-    let value = digits_value(x, count);
-    let end = at + count;
-    if end == s.len() {
-        return Short::Last(value);
+    let value = digits_value(x, digits);
+    if digits == part.len() {
+        return Short::Last { value, digits };
     }
-    if s[end] == b',' {
-        let next = count + 1;
-        return Short::More { value, next };
+    // `part[digits]` is the same byte, and slower
+    if line[at + digits] == b',' {
+        return Short::More { value, digits };
     }
     Short::Unknown
 }
 
 // One digit and a comma.
-fn one_digit(s: &[u8], at: usize) -> Short
-    requires { ⌜ at ≤ length (now s) ⌝ }
-    ensures { λ r. ⌜ ShortRead (drop at (now (s .entry))) r ⌝ }
+fn one_digit(part: &[u8]) -> Short
+    ensures { λ r. ⌜ ShortRead (now (part .entry)) r ⌝ }
 {
-    let end = at + 1;
-    if s.len() <= end {
+    if part.len() < 2 {
         return Short::Unknown;
     }
-    let digit = std::num::wrapping_sub_u8(s[at], b'0') as u64;
+    let digit = std::num::wrapping_sub_u8(part[0], b'0') as u64;
     if 9 < digit {
         return Short::Unknown;
     }
-    if s[end] == b',' {
+    if part[1] == b',' {
         return Short::More {
             value: digit,
-            next: 2,
+            digits: 1,
         };
     }
     Short::Unknown
 }
 
 // A number that most often has one digit and is not the last.
-pub fn digit_number(s: &[u8], at: usize) -> Short
-    requires { ⌜ at ≤ length (now s) ⌝ }
-    ensures { λ r. ⌜ ShortRead (drop at (now (s .entry))) r ⌝ }
+pub fn digit_number(line: &[u8], part: &[u8]) -> Short
+    requires { ⌜ EndOf (now line) (now part) ⌝ }
+    ensures { λ r. ⌜ ShortRead (now (part .entry)) r ⌝ }
 {
-    let one = one_digit(s, at);
+    let one = one_digit(part);
     let Short::Unknown = one else {
         return one;
     };
-    short_number(s, at)
+    short_number(line, part)
 }

@@ -3,6 +3,7 @@ use mathlib.Core.Path.{_≡_, refl, sym, ap, _∙_}
 use mathlib.Core.Logic.{_⊎_, inl, inr}
 use mathlib.Core.Bool.{Bool, true, false, cond}
 use mathlib.Core.List.{List, [], _∷_}
+use mathlib.Core.Option.{Option}
 use Prim.Native.Nat.{ℕ, suc, _+_, _≤_, _<_}
 use native.Mathlib.Omega.{arith}
 use borrow.Author.Tests.{leb-true, leb-false}
@@ -17,7 +18,7 @@ use Rattle.ordmap.proofs.Results.{accepted-inj, not-accepted, not-refused, bind
 use Rattle.model.specs.declared.Fault.{Fault}
 use Rattle.model.specs.declared.Fault.the-variants.{TooManyEntries}
 use Rattle.model.specs.declared.Refusal.{Refusal}
-use Rattle.model.specs.Bytes.{compareBytes}
+use Rattle.model.specs.Bytes.{Bytes, compareBytes}
 use Rattle.model.specs.Answer.{Answer, refuse, unplaced}
 use Rattle.model.specs.Report.{Item, itemKey, within}
 use Rattle.model.specs.Reading.{State as ModelState, entries, open-section, enterItem}
@@ -57,7 +58,7 @@ module _ {A : Type 0} where
       go false e q = (cc, leb-false n limit e)
 
 -- the entries of a state with an open section
-pub count-open : (s : ModelState) (path : List ℕ) (l : List Item) → entries (open-section s path l) ≡ length (s .kept) + suc (length l)
+pub count-open : (s : ModelState) (path : Option Bytes) (l : List Item) → entries (open-section s path l) ≡ length (s .kept) + suc (length l)
 unfolding entries open-section
 count-open s path l = refl
 
@@ -115,7 +116,7 @@ module _ {text ws : List ℕ} {index limit : ℕ} {st : State} (ζ : HoldsState 
     others j p q = φ .others j p (omega arith) ∙ ε .others j p (omega arith)
 
     pub added-next : endOf (st .kept + 1) t ≤ limit + st .tombstones → length ws′ ≡ length ws
-        → StepOf text ws′ index limit answer (Next (withOpen st (st .used) t (st .path)))
+        → StepOf text ws′ index limit answer (Next (withOpen st (st .used) t))
     unfolding open-section
     added-next m len =
         let l = itemsOf text ws′ index (st .kept + 1) t in
@@ -233,7 +234,7 @@ module _ {text ws ws₁ : List ℕ} {index limit header : ℕ} {st : State} (ζ 
           (φ : FlushedIfOver text ws₃ ws₄ index used (index + capacity limit) (st .kept + 1) (limit + st .tombstones) s t) where
         pub line-next : endOf (st .kept + 1) t ≤ limit + st .tombstones → length ws₄ ≡ length ws₂
             → StepOf text ws₄ index limit (counted limit (enterItem (combineOf adds) (itemOf text r) (stateOf text ws index st)))
-            (Next (withOpen st used t (st .path)))
+            (Next (withOpen st used t))
         line-next m len″ = step-as same-answer (added-next there header-there r adds ε φ m len″)
 
         pub line-past : limit + st .tombstones < endOf (st .kept + 1) t

@@ -13,7 +13,7 @@ use Rattle.table.specs.Store.{row}
 use Rattle.table.proofs.TabulateLaws.{length-tabulate}
 use Rattle.ordmap.specs.Result.{accepted}
 use Rattle.model.specs.declared.Part.{Part}
-use Rattle.model.specs.declared.Fault.the-variants.{UnexpectedRecord, TooManyEntries}
+use Rattle.model.specs.declared.Fault.the-variants.{UnexpectedRecord, TooManyEntries, SecondSourceFile}
 use Rattle.model.specs.Lists.{filter}
 use Rattle.model.specs.Order.{if_then_else_, isLess, isGreater}
 use Rattle.model.specs.Bytes.{Bytes}
@@ -21,7 +21,7 @@ use Rattle.model.specs.Path.{components}
 use Rattle.model.specs.Answer.{Answer}
 use Rattle.model.specs.Report.{Item, sectionItem, Report, SectionKey, sectionKey, inSection, compareSections, within}
 use Rattle.model.specs.Record.{testName, sourceFile, endOfRecord}
-use Rattle.model.specs.Reading.{State as ModelState, outside, open-section, entries, spellingOf, replaceSection, keepSection, effect}
+use Rattle.model.specs.Reading.{State as ModelState, outside, open-section, entries, pathOr, spellingOf, replaceSection, keepSection, ignored, nameSection, effect}
 use Rattle.table_item.specs.Items.{partIn, PartInside}
 use Rattle.table_item.specs.SortedItems.{itemsAt, SortedItems}
 use Rattle.section_upsert.specs.MainDelta.{mergeItems}
@@ -29,19 +29,17 @@ use Rattle.section_upsert.proofs.UpsertLaws.{within-fits, within-past}
 use Rattle.section_tail.specs.Tail.{insertAll, rowsOf, AllFlushed}
 use Rattle.section_tail.proofs.ItemLaws.{held-length}
 use Rattle.section.specs.declared.State.{State}
+use Rattle.section.specs.declared.Step.{Step}
 use Rattle.section.specs.declared.Step.the-variants.{Next, Refused}
 use Rattle.section_commit.specs.declared.KeptSizes.{KeptSizes}
 use Rattle.table_section.specs.Sections.{testOf, pathOf, entryAt}
 use Rattle.section_commit.specs.Commit.{keptAt, InParts, KeptSections, reportOf, MergedAndCompacted as AllLate, Committed}
 use Rattle.section_commit.proofs.HeldLaws.{kept-length, main-sections, main-entries}
-use Rattle.section.specs.Reading.{slack, capacity, SectionRoom, RowReserved, withOpen, withClosed, mainOf, keptSizesOf, stateOf, Opened, RowsWithinLimit, HoldsState, counted, StepOf, AllInMain}
-use Rattle.section.proofs.StateLaws.{rows-fit, kept-rows, kept-size, same-kept, same-sections, no-items, by-inside, more-valid, more-state, inside-valid, outside-valid}
+use Rattle.section.specs.Reading.{slack, capacity, SectionRoom, RowReserved, withOpen, withPath, withClosed, noPart, mainOf, keptSizesOf, stateOf, Opened, RowsWithinLimit, HoldsState, counted, StepOf, StepBy, AllInMain}
+use Rattle.section.proofs.StateLaws.{rows-fit, kept-rows, kept-size, same-kept, same-sections, no-items, by-inside, more-valid, more-state, inside-valid, outside-valid, path-or, step-as}
 use Rattle.section.proofs.ItemLaws.{count-open, header-free}
 
 -- ---- a step to the outside
-
-abbrev none : Part
-none = record { start = 0; len = 0 }
 
 next-outside : {text ws : List ℕ} {index limit : ℕ} (kept delta tombstones used : ℕ) (test : Part) (report : Report)
     → keptAt text ws index (kept - delta) delta ≡ report
@@ -82,21 +80,34 @@ module _ {text ws : List ℕ} {index limit : ℕ} (st : State) where
       rw e (next-outside (st .kept) (st .delta) (st .tombstones) (st .used) name _ refl (ζ .space .room) (ζ .space .most) (ζ .space .tombstones) (ζ .space .delta)
       (kept-few ζ) (ζ .sections) i)
 
--- ---- SF, found and hit lines
+-- ---- SF
 
-module _ {text ws : List ℕ} {index limit : ℕ} {st : State} (path : Part) (ζ : HoldsState text ws index limit st) where
+module _ {text ws : List ℕ} {index limit : ℕ} (st : State) where
+  pub second-path : (path : Bytes) → st .«has_path» ≡ true → StepBy (effect (sourceFile path)) text ws ws index limit st (Refused SecondSourceFile)
+  unfolding effect nameSection
+  second-path path e = record { is = rw e; valid = tt }
+
+  -- the first SF gives the path and opens the section
+  pub first-path : {ws′ : List ℕ} {path : Part} {named : State} {r : Step} → HoldsState text ws index limit st → st .«has_path» ≡ false
+      → named ≡ withPath st path → StepBy ignored text ws ws′ index limit named r → StepBy (effect (sourceFile (partIn text path))) text ws ws′ index limit st r
+  unfolding effect nameSection ignored open-section
+  first-path ζ e f σ = step-as (rw (f, e)) σ
+
+-- ---- found and hit lines
+
+module _ {text ws : List ℕ} {index limit : ℕ} {st : State} (ζ : HoldsState text ws index limit st) where
   abbrev S : ModelState
   S = stateOf text ws index st
 
   abbrev opened : ModelState
-  opened = open-section S (partIn text path) (S .items)
+  opened = open-section S (S .path) (S .items)
 
   abbrev answer : Answer ModelState
-  answer = counted limit (effect (sourceFile (partIn text path)) S)
+  answer = counted limit (ignored S)
 
   is-opened : answer ≡ within limit (length (S .kept) + suc (length (S .items))) opened
-  unfolding effect
-  is-opened = ap (λ (n : ℕ). within limit n opened) (count-open S (partIn text path) (S .items))
+  unfolding ignored
+  is-opened = ap (λ (n : ℕ). within limit n opened) (count-open S (S .path) (S .items))
 
   number : length (S .items) ≤ rowsOf (st .sizes)
   number = by-inside ζ (λ o. held-length (ζ .open-items o)) (λ z e. omega (arith, ap length e))
@@ -109,15 +120,15 @@ module _ {text ws : List ℕ} {index limit : ℕ} {st : State} (path : Part) (ζ
   }
 
   pub open-next : {ws′ : List ℕ} {header : ℕ} → RowReserved ws ws′ index (st .used) limit (st .kept) header → st .kept < limit + st .tombstones → length ws′ ≡ length ws
-      → PartInside text path → StepOf text ws′ index limit answer (Next (withOpen st header (st .sizes) path))
+      → StepOf text ws′ index limit answer (Next (withOpen st header (st .sizes)))
   unfolding open-section
-  open-next ρ h len i =
+  open-next ρ h len =
       record {
         is =
-            ap (λ (s : ModelState). accepted (open-section s (partIn text path) (s .items))) (more-state ζ ρ)
+            ap (λ (s : ModelState). accepted (open-section s (s .path) (s .items))) (more-state ζ ρ)
             ∙ sym (is-opened ∙ within-fits limit (length (S .kept) + suc (length (S .items))) opened
             (omega (arith, number, rows-fit ζ h, kept-size ζ)));
-        valid = inside-valid (more-valid ζ ρ len) (header-free (ζ .space) ρ h) (rows-fit ζ h) i;
+        valid = inside-valid (more-valid ζ ρ len) (header-free (ζ .space) ρ h) (rows-fit ζ h);
       }
 
 -- ---- end_of_record
@@ -179,11 +190,11 @@ kept-most test path (i ∷ items) kept =
 module _ {text ws : List ℕ} {index limit : ℕ} {st : State} (ζ : HoldsState text ws index limit st) where
   pub end-empty : rowsOf (st .sizes) ≡ 0
       → StepOf text ws index limit (counted limit (effect endOfRecord (stateOf text ws index st)))
-      (Next (withClosed (st .kept) (st .delta) (st .tombstones) (st .used) none))
+      (Next (withClosed (st .kept) (st .delta) (st .tombstones) (st .used) noPart))
   unfolding effect keepSection
   end-empty z =
       rw (no-items text ws index (st .kept + 1) (st .sizes) z)
-      (next-outside (st .kept) (st .delta) (st .tombstones) (st .used) none _ refl (ζ .space .room) (ζ .space .most) (ζ .space .tombstones) (ζ .space .delta)
+      (next-outside (st .kept) (st .delta) (st .tombstones) (st .used) noPart _ refl (ζ .space .room) (ζ .space .most) (ζ .space .tombstones) (ζ .space .delta)
       (kept-few ζ) (ζ .sections) (omega arith))
 
   -- all n items are in main, and then the section is committed
@@ -205,13 +216,13 @@ module _ {text ws : List ℕ} {index limit : ℕ} {st : State} (ζ : HoldsState 
 
     -- the model's kept sections with this one
     abbrev after : Report
-    after = keepSection (S₀ .test) (S₀ .path) (S₀ .items) (S₀ .kept)
+    after = keepSection (S₀ .test) (pathOr (S₀ .path)) (S₀ .items) (S₀ .kept)
 
     after-few : rowsOf (st .sizes) ≢ 0 → length after ≤ limit
     after-few h =
         omega (
           arith,
-          kept-most (S₀ .test) (S₀ .path) (S₀ .items) (S₀ .kept),
+          kept-most (S₀ .test) (pathOr (S₀ .path)) (S₀ .items) (S₀ .kept),
           kept-size ζ,
           items-fit ζ h,
         )
@@ -220,7 +231,7 @@ module _ {text ws : List ℕ} {index limit : ℕ} {st : State} (ζ : HoldsState 
         → pathOf text key ≡ partIn text (st .path) → length ws₂ ≡ length ws → q ≡ keptSizesOf st → most ≡ slack limit → r .tombstones ≤ most
         → Committed text ws₁ ws₂ index (st .used) q n key r
         → StepOf text ws₂ index limit (counted limit (effect endOfRecord (stateOf text ws index st)))
-        (Next (withClosed (r .main + r .delta) (r .delta) (r .tombstones) (st .used) none))
+        (Next (withClosed (r .main + r .delta) (r .delta) (r .tombstones) (st .used) noPart))
     unfolding effect
     end-kept {ws₂} key r h t p len e m d κ = go (closed-as e κ)
       where
@@ -229,14 +240,14 @@ module _ {text ws : List ℕ} {index limit : ℕ} {st : State} (ζ : HoldsState 
 
         go : Committed text ws₁ ws₂ index (st .used) (keptSizesOf st) n key r
             → StepOf text ws₂ index limit (counted limit (accepted (outside after [])))
-            (Next (withClosed (r .main + r .delta) (r .delta) (r .tombstones) (st .used) none))
+            (Next (withClosed (r .main + r .delta) (r .delta) (r .tombstones) (st .used) noPart))
         go κ =
-            next-outside (r .main + r .delta) (r .delta) (r .tombstones) (st .used) none after
+            next-outside (r .main + r .delta) (r .delta) (r .tombstones) (st .used) noPart after
             (ap (λ (m : ℕ). keptAt text ws₂ index m (r .delta)) some
             ∙ κ .report
             ∙ ap₂ (λ (a b : Bytes). keepSection a b (itemsAt text ws₁ index (mainOf st + st .delta + 1) n)
-            (reportOf text ws₁ index (keptSizesOf st))) t p
-            ∙ ap₂ (λ (x : List Item) (y : Report). keepSection (partIn text (st .test)) (partIn text (st .path)) x y)
+            (reportOf text ws₁ index (keptSizesOf st))) t (p ∙ path-or text (st .«has_path») (st .path) (ζ .path))
+            ∙ ap₂ (λ (x : List Item) (y : Report). keepSection (partIn text (st .test)) (pathOr (S₀ .path)) x y)
             (ap (λ (k : ℕ). itemsAt text ws₁ index k n) first ∙ ς .items) (same-kept ws₁ ζ older))
             (record { rows = ζ .space .room .rows; words = omega (arith, ζ .space .room .words) }) (ζ .space .most) (omega arith) (omega arith) (after-few h)
             (rw some (κ .held)) (omega arith)

@@ -13,7 +13,7 @@ use Rattle.table.proofs.WordLaws.{kept-wider}
 use Rattle.model.specs.declared.Part.{Part}
 use Rattle.model.specs.Lists.{filter}
 use Rattle.model.specs.Answer.{Answer}
-use Rattle.model.specs.Reading.{State as ModelState, outside}
+use Rattle.model.specs.Reading.{State as ModelState, outside, pathOr}
 use Rattle.table_item.specs.Items.{partIn, PartInside}
 use Rattle.section_upsert.specs.MainDelta.{mergeItems}
 use Rattle.section_upsert.proofs.UpsertLaws.{parted-none}
@@ -27,7 +27,7 @@ use Rattle.section.specs.declared.Step.the-variants.{Next}
 use Rattle.section_commit.specs.declared.KeptSizes.{KeptSizes}
 use Rattle.section_commit.specs.Commit.{InParts, KeptSections, reportOf}
 use Rattle.section_commit.proofs.HeldLaws.{parts-as, kept-as, kept-length, all-main}
-use Rattle.section.specs.Reading.{slack, capacity, SectionRoom, RowReserved, FlushedIfOver, withOpen, withClosed, mainOf, keptSizesOf, stateOf, Opened, RowsWithinLimit, HoldsState, StepOf}
+use Rattle.section.specs.Reading.{slack, capacity, SectionRoom, RowReserved, FlushedIfOver, withOpen, withPath, withClosed, mainOf, keptSizesOf, pathIn, stateOf, Opened, RowsWithinLimit, PathInside, StateRoom, HoldsState, StepOf}
 
 -- ---- rows that are ready
 
@@ -157,6 +157,7 @@ withUsed st used = record {
   inside = st .inside;
   test = st .test;
   path = st .path;
+  «has_path» = st .«has_path»;
 }
 
 module _ {text ws ws′ : List ℕ} {index limit place r : ℕ} {st : State} (ζ : HoldsState text ws index limit st)
@@ -199,7 +200,7 @@ module _ {text ws ws′ : List ℕ} {index limit place r : ℕ} {st : State} (ζ
     kept = same-kept ws′ ζ (λ k p q. ρ .rows k p (omega (arith, ζ .space .kept))) i;
     test = partIn text (st .test);
     inside = st .inside;
-    path = partIn text (st .path);
+    path = pathIn text (st .«has_path») (st .path);
     items = items i;
   }
     where
@@ -210,10 +211,10 @@ module _ {text ws ws′ : List ℕ} {index limit place r : ℕ} {st : State} (ζ
           (λ z e. no-items text ws′ index (st .kept + 1) (st .sizes) z ∙ sym e)
 
 -- a state whose header row is in use may be inside
-pub inside-valid : {text ws : List ℕ} {index limit : ℕ} {st : State} {path : Part} → HoldsState text ws index limit st → st .kept < st .used
-    → st .kept + 1 + rowsOf (st .sizes) ≤ limit + st .tombstones → PartInside text path
-    → HoldsState text ws index limit (withOpen st (st .used) (st .sizes) path)
-inside-valid ζ h f i = record {
+pub inside-valid : {text ws : List ℕ} {index limit : ℕ} {st : State} → HoldsState text ws index limit st → st .kept < st .used
+    → st .kept + 1 + rowsOf (st .sizes) ≤ limit + st .tombstones
+    → HoldsState text ws index limit (withOpen st (st .used) (st .sizes))
+inside-valid ζ h f = record {
   space = record {
     room = ζ .space .room;
     store = ζ .space .store;
@@ -227,8 +228,50 @@ inside-valid ζ h f i = record {
   opened = h;
   fits = f;
   test = ζ .test;
-  path = i;
+  path = ζ .path;
 }
+
+-- ---- the path
+
+-- the state with a path
+module _ {ws : List ℕ} {index limit : ℕ} {st named : State} {path : Part} (e : named ≡ withPath st path) where
+  room : StateRoom ws index limit st → StateRoom ws index limit (withPath st path)
+  room ς = record { room = ς .room; store = ς .store; delta = ς .delta; kept = ς .kept; most = ς .most; tombstones = ς .tombstones }
+
+  pub named-room : StateRoom ws index limit st → StateRoom ws index limit named
+  named-room ς = rw e (room ς)
+
+  pub named-valid : {text : List ℕ} → HoldsState text ws index limit st → PartInside text path → HoldsState text ws index limit named
+  named-valid {text} ζ i = rw e there
+    where
+      still : (b : Bool) → Opened b st → Opened b (withPath st path)
+      still true o = o
+      still false o = o
+
+      within : (b : Bool) → RowsWithinLimit b limit st → RowsWithinLimit b limit (withPath st path)
+      within true f = f
+      within false f = f
+
+      there : HoldsState text ws index limit (withPath st path)
+      there = record {
+        space = room (ζ .space);
+        sections = ζ .sections;
+        open-items = ζ .open-items;
+        opened = still (st .inside) (ζ .opened);
+        fits = within (st .inside) (ζ .fits);
+        test = ζ .test;
+        path = i;
+      }
+
+-- where no SF came the path is empty, as the model has it
+module _ (text : List ℕ) where
+  pub path-inside : (b : Bool) (path : Part) → PathInside text b path → PartInside text path
+  path-inside true path i = i
+  path-inside false path e = rw e (omega arith)
+
+  pub path-or : (b : Bool) (path : Part) → PathInside text b path → partIn text path ≡ pathOr (pathIn text b path)
+  path-or true path i = refl
+  path-or false path e = rw e
 
 pub outside-valid : {text ws : List ℕ} {index limit kept delta tombstones used : ℕ} {test : Part} → SectionRoom ws index limit → used ≤ capacity limit
     → tombstones ≤ slack limit → delta ≤ kept → kept ≤ limit + tombstones
@@ -240,7 +283,7 @@ outside-valid ρ m d l f σ i = record {
   opened = refl;
   fits = f;
   test = i;
-  path = omega arith;
+  path = refl;
 }
 
 -- ---- before the first line

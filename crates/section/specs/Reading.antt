@@ -4,6 +4,7 @@ use mathlib.Core.Path.{_≡_}
 use mathlib.Core.Logic.{_⊎_}
 use mathlib.Core.Bool.{Bool, true, false}
 use mathlib.Core.List.{List}
+use mathlib.Core.Option.{Option, none, some}
 use lib.ListN.{length}
 use Rattle.table.specs.Places.{Unchanged}
 use Rattle.table.specs.Rows.{row-words, UnchangedOutside}
@@ -56,8 +57,8 @@ pub record FlushedIfOver (text ws ws′ : List ℕ) (index used spare at most : 
 
 -- ---- states
 
-abbrev pub withOpen : State → ℕ → OpenSizes → Part → State
-withOpen st used sizes path = record {
+abbrev pub withOpen : State → ℕ → OpenSizes → State
+withOpen st used sizes = record {
   kept = st .kept;
   delta = st .delta;
   tombstones = st .tombstones;
@@ -65,8 +66,25 @@ withOpen st used sizes path = record {
   sizes = sizes;
   inside = true;
   test = st .test;
-  path = path;
+  path = st .path;
+  «has_path» = st .«has_path»;
 }
+
+abbrev pub withPath : State → Part → State
+withPath st path = record {
+  kept = st .kept;
+  delta = st .delta;
+  tombstones = st .tombstones;
+  used = st .used;
+  sizes = st .sizes;
+  inside = st .inside;
+  test = st .test;
+  path = path;
+  «has_path» = true;
+}
+
+abbrev pub noPart : Part
+noPart = record { start = 0; len = 0 }
 
 abbrev pub withClosed : ℕ → ℕ → ℕ → ℕ → Part → State
 withClosed kept delta tombstones used test = record {
@@ -77,7 +95,8 @@ withClosed kept delta tombstones used test = record {
   sizes = record { main = 0; delta = 0; tail = 0; flushes = 0 };
   inside = false;
   test = test;
-  path = record { start = 0; len = 0 };
+  path = noPart;
+  «has_path» = false;
 }
 
 -- the number of kept rows in main
@@ -88,13 +107,18 @@ mainOf st = st .kept - st .delta
 abbrev pub keptSizesOf : State → KeptSizes
 keptSizesOf st = record { main = mainOf st; delta = st .delta; tombstones = st .tombstones }
 
+-- the path, if its SF came
+abbrev pub pathIn : Bytes → Bool → Part → Option Bytes
+pathIn text true path = some (partIn text path)
+pathIn text false path = none
+
 -- the model's state that the words are
 abbrev pub stateOf : Bytes → List ℕ → ℕ → State → ModelState
 stateOf text ws index st = record {
   kept = reportOf text ws index (keptSizesOf st);
   test = partIn text (st .test);
   inside = st .inside;
-  path = partIn text (st .path);
+  path = pathIn text (st .«has_path») (st .path);
   items = itemsOf text ws index (st .kept + 1) (st .sizes);
 }
 
@@ -107,6 +131,11 @@ Opened false st = rowsOf (st .sizes) ≡ 0
 abbrev pub RowsWithinLimit : Bool → ℕ → State → Type 0
 RowsWithinLimit true limit st = st .kept + 1 + rowsOf (st .sizes) ≤ limit + st .tombstones
 RowsWithinLimit false limit st = st .kept ≤ limit + st .tombstones
+
+-- without SF the path is empty
+abbrev pub PathInside : Bytes → Bool → Part → Type 0
+PathInside text true path = PartInside text path
+PathInside text false path = path ≡ noPart
 
 -- the words have room for the state
 pub record StateRoom (ws : List ℕ) (index limit : ℕ) (st : State) : Type 0 where
@@ -125,7 +154,7 @@ pub record HoldsState (text ws : List ℕ) (index limit : ℕ) (st : State) : Ty
   pub opened : Opened (st .inside) st
   pub fits : RowsWithinLimit (st .inside) limit st
   pub test : PartInside text (st .test)
-  pub path : PartInside text (st .path)
+  pub path : PathInside text (st .«has_path») (st .path)
 
 -- ---- steps
 

@@ -15,15 +15,15 @@ ghost use mathlib.Core.List.{List, []};
 ghost use Prim.Native.Nat.{ℕ, _+_, _≤_, _<_, _^_};
 ghost use lib.ListN.{length};
 ghost use Rattle.model.specs.Record.{testName, sourceFile, endOfRecord};
-ghost use Rattle.model.specs.Reading.{outside, enterItem, effect};
+ghost use Rattle.model.specs.Reading.{outside, enterItem, ignored, effect};
 ghost use Rattle.table.specs.Store.{Store};
 ghost use Rattle.table_item.specs.Items.{partIn, PartInside, itemOf, ItemRow};
 ghost use Rattle.table_item.specs.Combining.{Adds, combineOf};
 ghost use Rattle.section_tail.specs.Tail.{OpenSection};
-ghost use Rattle.section.specs.Reading.{slack, capacity, SectionRoom, RowReserved, FlushedIfOver, withOpen, withClosed, keptSizesOf, stateOf, StateRoom, HoldsState, StepBy, AllInMain};
+ghost use Rattle.section.specs.Reading.{slack, capacity, SectionRoom, RowReserved, FlushedIfOver, withOpen, withPath, withClosed, keptSizesOf, stateOf, StateRoom, HoldsState, StepBy, AllInMain};
 
 // The state between two lines: the number of kept rows, of those in the delta, and of tombstones; the number of rows in
-// use; the sizes of the open section; the last test name and path.
+// use; the sizes of the open section; the last test name; the open section's path, and whether its SF came.
 pub struct State {
     pub kept: usize,
     pub delta: usize,
@@ -33,6 +33,7 @@ pub struct State {
     pub inside: bool,
     pub test: Part,
     pub path: Part,
+    pub has_path: bool,
 }
 
 pub enum Step {
@@ -71,10 +72,11 @@ fn kept_sizes(state: State) -> KeptSizes
 }
 
 // The state with an open section.
-fn with_open(state: State, used: usize, sizes: OpenSizes, path: Part) -> State
-    ensures { λ r. ⌜ r ≡ withOpen state used sizes path ⌝ }
+fn with_open(state: State, used: usize, sizes: OpenSizes) -> State
+    ensures { λ r. ⌜ r ≡ withOpen state used sizes ⌝ }
 {
     let test = state.test;
+    let path = state.path;
     State {
         kept: state.kept,
         delta: state.delta,
@@ -84,6 +86,26 @@ fn with_open(state: State, used: usize, sizes: OpenSizes, path: Part) -> State
         inside: true,
         test: test,
         path: path,
+        has_path: state.has_path,
+    }
+}
+
+// The state whose section has the path.
+fn with_path(state: State, path: Part) -> State
+    ensures { λ r. ⌜ r ≡ withPath state path ⌝ }
+{
+    let sizes = state.sizes;
+    let test = state.test;
+    State {
+        kept: state.kept,
+        delta: state.delta,
+        tombstones: state.tombstones,
+        used: state.used,
+        sizes: sizes,
+        inside: state.inside,
+        test: test,
+        path: path,
+        has_path: true,
     }
 }
 
@@ -107,6 +129,7 @@ fn with_closed(kept: usize, delta: usize, tombstones: usize, used: usize, test: 
         inside: false,
         test: test,
         path: none,
+        has_path: false,
     }
 }
 
@@ -174,7 +197,6 @@ pub fn on_item(
         return Step::Refused(Fault::TooManyEntries);
     }
     let sizes = state.sizes;
-    let path = state.path;
     let header_used = reserve_row(words, index, state.used, limit, kept);
     let end = kept + 1 + sizes.main + sizes.delta + sizes.tail;
     let used = reserve_row(words, index, header_used, limit, end);
@@ -196,7 +218,7 @@ pub fn on_item(
             if most < total {
                 return Step::Refused(Fault::TooManyEntries);
             }
-            return Step::Next(with_open(state, used, all, path));
+            return Step::Next(with_open(state, used, all));
         }
         Outcome::Refused(fault) => {
             return Step::Refused(fault);
@@ -215,7 +237,7 @@ pub fn on_test_name(state: State, name: Part) -> Step
     Step::Next(with_closed(state.kept, state.delta, state.tombstones, state.used, name))
 }
 
-// SF, and the found and hit lines, which open the section and keep its path.
+// SF: the path of the section, which has no other.
 pub fn on_source_file(
     words: &mut [u64],
     index: usize,
@@ -226,12 +248,25 @@ pub fn on_source_file(
     requires { ⌜ StateRoom (now words) index limit state ⌝ }
     ensures { λ r. ⌜ ((text : List ℕ) → HoldsState text (now (words .entry)) index limit state → PartInside text path → StepBy (effect (sourceFile (partIn text path))) text (now (words .entry)) (now (words .exit)) index limit state r) ⌝ }
 {
+    let has_path = state.has_path;
+    if has_path {
+        return Step::Refused(Fault::SecondSourceFile);
+    }
+    let named = with_path(state, path);
+    open_section(words, index, limit, named)
+}
+
+// The found and hit lines, which only open the section.
+pub fn open_section(words: &mut [u64], index: usize, limit: usize, state: State) -> Step
+    requires { ⌜ StateRoom (now words) index limit state ⌝ }
+    ensures { λ r. ⌜ ((text : List ℕ) → HoldsState text (now (words .entry)) index limit state → StepBy ignored text (now (words .entry)) (now (words .exit)) index limit state r) ⌝ }
+{
     let kept = state.kept;
     if limit + state.tombstones <= kept {
         return Step::Refused(Fault::TooManyEntries);
     }
     let used = reserve_row(words, index, state.used, limit, kept);
-    Step::Next(with_open(state, used, state.sizes, path))
+    Step::Next(with_open(state, used, state.sizes))
 }
 
 // end_of_record: commits the open section, all its items in main, unless it is empty.

@@ -2,23 +2,15 @@
 // gives: 15, 17 and 18.
 use model::InsertAnswer;
 use model::Part;
-use model::QueryAnswer;
 use model::Record;
 use model::WriteAnswer;
-
-fn show_range(start: u32, end: u32) {
-    io::write_all(1, b" ");
-    io::print_decimal(1, start as u64);
-    io::write_all(1, b"-");
-    io::print_decimal(1, end as u64);
-}
 
 // All pairs of the slice, those past the used ones too.
 fn show_pairs(pairs: &[[u32; 2]]) {
     let n = pairs.len();
     let mut k = 0;
     while k < n {
-        show_range(pairs[k][0], pairs[k][1]);
+        program_io::show_range(pairs[k][0], pairs[k][1]);
         k += 1;
     }
     io::write_all(1, b"\n");
@@ -28,7 +20,7 @@ fn show_pairs(pairs: &[[u32; 2]]) {
 fn insert(pairs: &mut [[u32; 2]], used: usize, start: u32, end: u32) -> usize {
     match line_num_pairs::insert(pairs, used, start, end) {
         InsertAnswer::Used(n) => {
-            io::print_decimal(1, n as u64);
+            program_io::show_number(n as u64);
             show_pairs(pairs);
             n
         }
@@ -40,16 +32,7 @@ fn insert(pairs: &mut [[u32; 2]], used: usize, start: u32, end: u32) -> usize {
 }
 
 fn query(pairs: &[[u32; 2]], used: usize, start: u32, end: u32) {
-    match line_num_pairs::query(pairs, used, start, end) {
-        QueryAnswer::Holds(held) => {
-            if held {
-                io::write_all(1, b"held\n");
-            } else {
-                io::write_all(1, b"not held\n");
-            }
-        }
-        QueryAnswer::Refused(refusal) => program_io::show_refusal(refusal),
-    }
+    program_io::show_query(line_num_pairs::query(pairs, used, start, end));
 }
 
 // 1–2 and 3–4 join, 1–2 and 4–5 don't.

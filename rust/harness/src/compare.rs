@@ -1,50 +1,26 @@
 //! The comparison: the port is asked, and all that it hands back or leaves alone is held against what is expected.
 
-use crate::expected::{path_order, too_short, written, Answer, Expected};
+use crate::differences::{Difference, Differences};
+use crate::expected::{path_order, printing, Expected};
 use crate::guarded::{LentBytes, LentWords};
 use crate::interface::{Port, OUTPUT_TOO_SHORT, WORDS};
 use crate::tally::Tally;
-use std::fmt;
 
-/// Words past the eighth, and bytes past the record, that are lent as well.
-const MOST_WORDS: usize = WORDS + 2;
-const BYTES_PAST: usize = 16;
+/// Words past the eighth, and bytes past what is printed, that are lent as well.
+pub(crate) const MOST_WORDS: usize = WORDS + 2;
+pub(crate) const BYTES_PAST: usize = 16;
 
 /// Of how many lines one is asked with every length. A prime, so that no habit of an exhaustive list falls in step with it.
 const THOROUGH_ONE_IN: u64 = 37;
 
 /// Every length of a longer output would take all the time.
-const THOROUGH_AT_MOST: usize = 300;
-
-const SHOWN: usize = 10;
-
-pub struct Difference {
-    asked: String,
-    rust: String,
-    port: String,
-}
-
-impl Difference {
-    pub fn new(asked: String, rust: String, port: String) -> Self {
-        Difference { asked, rust, port }
-    }
-}
-
-impl fmt::Display for Difference {
-    fn fmt(&self, f: &mut fmt::Formatter) -> fmt::Result {
-        writeln!(f, "{}", self.asked)?;
-        writeln!(f, "  expected {}", self.rust)?;
-        writeln!(f, "  port     {}", self.port)
-    }
-}
+pub(crate) const THOROUGH_AT_MOST: usize = 300;
 
 pub struct Comparison<P> {
     port: P,
     pub tally: Tally,
     pub calls: u64,
-    pub differences: u64,
-    /// The first ones.
-    pub shown: Vec<Difference>,
+    pub differences: Differences,
 }
 
 impl<P: Port> Comparison<P> {
@@ -53,8 +29,7 @@ impl<P: Port> Comparison<P> {
             port,
             tally: Tally::default(),
             calls: 0,
-            differences: 0,
-            shown: Vec::new(),
+            differences: Differences::default(),
         }
     }
 
@@ -68,7 +43,7 @@ impl<P: Port> Comparison<P> {
         self.reading(line, &expected, MOST_WORDS);
         let needed = expected.printed.as_ref().map_or(0, Vec::len);
         self.printing(line, &expected, needed + BYTES_PAST, MOST_WORDS);
-        if self.tally.lines().is_multiple_of(THOROUGH_ONE_IN) && needed <= THOROUGH_AT_MOST {
+        if self.tally.asked().is_multiple_of(THOROUGH_ONE_IN) && needed <= THOROUGH_AT_MOST {
             self.every_length(line, &expected, needed);
         }
     }
@@ -89,11 +64,11 @@ impl<P: Port> Comparison<P> {
         let mut lent = LentWords::new(words);
         let number = self.port.read_line(line, lent.lend());
         if !lent.holds(number, &expected.read) {
-            self.differ(
-                || format!("read {}, answer of {words} words", shown(line)),
-                || format!("{:?}", expected.read),
-                || lent.shown(number),
-            );
+            self.differences.add(0, || Difference {
+                asked: format!("read {}, answer of {words} words", shown(line)),
+                rust: format!("{:?}", expected.read),
+                port: lent.shown(number),
+            });
         }
     }
 
@@ -102,15 +77,15 @@ impl<P: Port> Comparison<P> {
         self.calls += 1;
         let mut lent = LentWords::new(words);
         let number = self.port.print_line(line, out.lend(), lent.lend());
-        let (answer, bytes) = printing_of(expected, room);
+        let (answer, bytes) = printing(expected.told(), room);
         self.tally.too_short += u64::from(answer.number == OUTPUT_TOO_SHORT);
         if !lent.holds(number, &answer) || !out.holds(bytes) {
             let lengths = format!("output of {room} bytes, answer of {words} words");
-            self.differ(
-                || format!("print {}, {lengths}", shown(line)),
-                || format!("{answer:?}, output {}, then untouched", shown(bytes)),
-                || format!("{}, output {}", lent.shown(number), shown(out.all())),
-            );
+            self.differences.add(0, || Difference {
+                asked: format!("print {}, {lengths}", shown(line)),
+                rust: format!("{answer:?}, output {}, then untouched", shown(bytes)),
+                port: format!("{}, output {}", lent.shown(number), shown(out.all())),
+            });
         }
     }
 
@@ -120,33 +95,12 @@ impl<P: Port> Comparison<P> {
         self.calls += 1;
         let order = self.port.compare_paths(a, b);
         if order != expected {
-            self.differ(
-                || format!("paths {} and {}", shown(a), shown(b)),
-                || expected.to_string(),
-                || order.to_string(),
-            );
+            self.differences.add(0, || Difference {
+                asked: format!("paths {} and {}", shown(a), shown(b)),
+                rust: expected.to_string(),
+                port: order.to_string(),
+            });
         }
-    }
-
-    fn differ(
-        &mut self,
-        asked: impl FnOnce() -> String,
-        rust: impl FnOnce() -> String,
-        port: impl FnOnce() -> String,
-    ) {
-        self.differences += 1;
-        if self.shown.len() < SHOWN {
-            self.shown.push(Difference::new(asked(), rust(), port()));
-        }
-    }
-}
-
-/// What printing answers into an output of some length, and the bytes that the output then begins with.
-fn printing_of(expected: &Expected, room: usize) -> (Answer, &[u8]) {
-    match &expected.printed {
-        None => (expected.read, &[]),
-        Some(printed) if printed.len() <= room => (written(printed.len()), printed),
-        Some(printed) => (too_short(printed.len()), &[]),
     }
 }
 
@@ -158,79 +112,37 @@ pub fn shown(bytes: &[u8]) -> String {
 #[cfg(test)]
 mod tests {
     use super::*;
-    use crate::interface::{LEN, NEEDED, START};
+    use crate::interface::{LEN, START};
+    use crate::stand_in::Wrong;
 
-    /// What a port could do wrong.
-    #[derive(Debug, Clone, Copy, PartialEq)]
-    enum Wrong {
-        Nothing,
-        Number,
-        Word(usize),
-        EmptyTextElsewhere,
-        NinthWord,
-        ShortAnswerBegun,
-        WrittenOnRefusal,
-        WrittenPastTheRecord,
-        NewlineMissing,
-        NeededLength,
-        ExactFitRefused,
-        PathOrder,
-    }
-
-    /// Answers as expected, save for what is wrong.
     struct StandIn(Wrong);
 
     impl StandIn {
-        fn tell(&self, answer: Answer, words: &mut [u64]) -> u32 {
-            let told = words.len().min(WORDS);
-            if told == WORDS || self.0 == Wrong::ShortAnswerBegun {
-                words[..told].copy_from_slice(&answer.words[..told]);
+        fn expected(&self, line: &[u8]) -> Expected {
+            let unsigned = line.strip_suffix(b"+2").map(|begun| [begun, b"2"].concat());
+            match (self.0, unsigned) {
+                (Wrong::PlusTaken, Some(unsigned)) => Expected::of(&unsigned),
+                _ => Expected::of(line),
             }
-            if self.0 == Wrong::NinthWord && words.len() > WORDS {
-                words[WORDS] = 0;
-            }
-            answer.number
-        }
-
-        fn read(&self, line: &[u8]) -> Answer {
-            let expected = Expected::of(line);
-            let mut read = expected.read;
-            match self.0 {
-                Wrong::Number => read.number += 1,
-                Wrong::Word(place) => read.words[place] += 1,
-                Wrong::EmptyTextElsewhere if read.words[START] != 0 && read.words[LEN] == 0 => {
-                    read.words[START] -= 1
-                }
-                _ => {}
-            }
-            read
-        }
-
-        fn print(&self, line: &[u8], out: &mut [u8]) -> Answer {
-            let mut expected = Expected::of(line);
-            if let (Wrong::NewlineMissing, Some(printed)) = (self.0, &mut expected.printed) {
-                printed.pop();
-            }
-            let room = out.len() - usize::from(self.0 == Wrong::ExactFitRefused && !out.is_empty());
-            let (mut answer, bytes) = printing_of(&expected, room);
-            out[..bytes.len()].copy_from_slice(bytes);
-            match (self.0, answer.number) {
-                (Wrong::WrittenPastTheRecord, 0) if bytes.len() < out.len() => out[bytes.len()] = 0,
-                (Wrong::WrittenOnRefusal, 1..) if !out.is_empty() => out[0] = 0,
-                (Wrong::NeededLength, OUTPUT_TOO_SHORT) => answer.words[NEEDED] += 1,
-                _ => {}
-            }
-            answer
         }
     }
 
     impl Port for StandIn {
         fn read_line(&self, line: &[u8], answer: &mut [u64]) -> u32 {
-            self.tell(self.read(line), answer)
+            let mut read = self.expected(line).read;
+            let empty = read.words[START] != 0 && read.words[LEN] == 0;
+            if self.0 == Wrong::EmptyTextElsewhere && empty {
+                read.words[START] -= 1;
+            }
+            self.0.answer(read, answer)
         }
 
         fn print_line(&self, line: &[u8], out: &mut [u8], answer: &mut [u64]) -> u32 {
-            self.tell(self.print(line, out), answer)
+            let mut expected = self.expected(line);
+            if let (Wrong::NewlineMissing, Some(printed)) = (self.0, &mut expected.printed) {
+                printed.pop();
+            }
+            self.0.print(expected.told(), out, answer)
         }
 
         fn compare_paths(&self, a: &[u8], b: &[u8]) -> u32 {
@@ -244,7 +156,14 @@ mod tests {
 
     fn compared(wrong: Wrong) -> Comparison<StandIn> {
         let mut comparison = Comparison::new(StandIn(wrong));
-        let lines: [&[u8]; 5] = [b"TN:a", b"FN:", b"DA:1,2,", b"SF:\xff", b"BRDA:1,2,3,4\n"];
+        let lines: [&[u8]; 6] = [
+            b"TN:a",
+            b"FN:",
+            b"DA:1,2,",
+            b"SF:\xff",
+            b"BRDA:1,2,3,4\n",
+            b"DA:1,+2",
+        ];
         for line in lines
             .iter()
             .cycle()
@@ -259,37 +178,46 @@ mod tests {
     #[test]
     fn a_port_that_answers_as_the_rust_has_no_differences() {
         let comparison = compared(Wrong::Nothing);
-        assert_eq!(comparison.differences, 0);
+        assert_eq!(comparison.differences.count, 0);
         assert_eq!(comparison.compared(), THOROUGH_ONE_IN * 5 + 1);
-        assert_eq!(comparison.tally.thorough, 5);
+        assert_eq!(comparison.tally.apart, THOROUGH_ONE_IN);
+        assert_eq!(comparison.tally.thorough, 6);
         assert_eq!(comparison.tally.too_short, 5 + 8 + 5 + 13);
     }
 
     #[test]
     fn whatever_a_port_does_wrong_is_seen() {
-        let words = (0..WORDS).map(Wrong::Word);
         let others = [
-            Wrong::Number,
             Wrong::EmptyTextElsewhere,
-            Wrong::NinthWord,
-            Wrong::ShortAnswerBegun,
-            Wrong::WrittenOnRefusal,
-            Wrong::WrittenPastTheRecord,
             Wrong::NewlineMissing,
-            Wrong::NeededLength,
-            Wrong::ExactFitRefused,
             Wrong::PathOrder,
+            Wrong::PlusTaken,
         ];
-        for wrong in words.chain(others) {
-            assert!(compared(wrong).differences > 0, "{wrong:?} is not seen");
+        for wrong in Wrong::of_printing().chain(others) {
+            assert!(
+                compared(wrong).differences.count > 0,
+                "{wrong:?} is not seen"
+            );
+        }
+    }
+
+    fn first_difference(wrong: Wrong) -> String {
+        let differences = compared(wrong).differences;
+        let first = differences.shown().next().map(Difference::to_string);
+        first.expect("a difference")
+    }
+
+    #[test]
+    fn a_wrong_answer_is_seen_when_a_line_is_read() {
+        for wrong in Wrong::of_answers() {
+            let first = first_difference(wrong);
+            assert!(first.starts_with("read "), "{wrong:?}: {first}");
         }
     }
 
     #[test]
     fn a_difference_is_shown_in_full() {
-        let comparison = compared(Wrong::Number);
-        assert_eq!(comparison.shown.len(), SHOWN);
-        let first = comparison.shown[0].to_string();
+        let first = first_difference(Wrong::Number);
         assert!(first.starts_with("read b\"TN:a\" (hex 544e3a61), answer of 10 words\n"));
         assert!(first.contains("port     1 [1, 0, 0, 0, 0, 0, 3, 1, untouched"));
     }

@@ -1,9 +1,10 @@
-//! What the port must answer: the Rust's answer to a line, in the words of the C interface.
+//! What the port must answer: the Rust's answer to a line, or 19 where a number has a plus sign, in the words of the C interface.
 
 use crate::interface::{
-    Words, EQUAL, FIELD, FIRST_NUMBER, GIVEN, GREATER, KIND, LEN, LESS, LINE, NEEDED, START, TEXT,
-    WORDS, WRITTEN,
+    Words, EQUAL, FIELD, FIRST_NUMBER, GIVEN, GREATER, KIND, LEN, LESS, LINE, NEEDED,
+    OUTPUT_TOO_SHORT, START, TEXT, WORDS, WRITTEN,
 };
+use crate::plus::{self, SIGNED_NUMBER};
 use oracle::{Fault, Record, Refusal};
 use std::borrow::Cow;
 use std::cmp::Ordering;
@@ -25,6 +26,8 @@ pub struct Expected {
     pub printed: Option<Vec<u8>>,
     /// The line is not UTF-8, so the Rust could only be asked about one that stands in for it.
     pub outside: bool,
+    /// The Rust answers otherwise, as was asked for: a number has a plus sign.
+    pub apart: bool,
 }
 
 impl Expected {
@@ -35,19 +38,26 @@ impl Expected {
         } else {
             Cow::Borrowed(line)
         };
-        match oracle::read_line(&asked) {
+        match plus::read_line(&asked) {
             Ok(record) => Expected {
                 read: read(&record, &asked),
                 printed: Some(printed(&record, line)),
                 outside,
+                apart: false,
             },
             Err(Fault::Refused(refusal)) => Expected {
                 read: refused(refusal),
                 printed: None,
                 outside,
+                apart: refusal.number == SIGNED_NUMBER,
             },
             Err(Fault::Outside) => unreachable!("a line that is UTF-8 can be asked"),
         }
+    }
+
+    /// What printing the record writes, or the refusal.
+    pub fn told(&self) -> Result<&[u8], Answer> {
+        self.printed.as_deref().ok_or(self.read)
     }
 }
 
@@ -128,6 +138,13 @@ fn start_of_text(len: usize, line: &[u8]) -> usize {
     line.len() - dropped - len
 }
 
+/// An answer that has one word: what was written, how many pairs there are, or whether one is held.
+pub fn answered(first: u64) -> Answer {
+    let mut words = [0; WORDS];
+    words[WRITTEN] = first;
+    Answer { number: 0, words }
+}
+
 pub fn refused(refusal: Refusal) -> Answer {
     let mut words = [0; WORDS];
     words[TEXT] = refusal.text as u64;
@@ -153,17 +170,20 @@ fn printed(record: &Record, line: &[u8]) -> Vec<u8> {
     printed
 }
 
-pub fn written(len: usize) -> Answer {
-    let mut words = [0; WORDS];
-    words[WRITTEN] = len as u64;
-    Answer { number: 0, words }
+/// The answer of a call that prints into an output of some length, and the bytes that the output then begins with.
+pub fn printing(told: Result<&[u8], Answer>, room: usize) -> (Answer, &[u8]) {
+    match told {
+        Err(refusal) => (refusal, &[]),
+        Ok(printed) if printed.len() <= room => (answered(printed.len() as u64), printed),
+        Ok(printed) => (too_short(printed.len()), &[]),
+    }
 }
 
-pub fn too_short(needed: usize) -> Answer {
+fn too_short(needed: usize) -> Answer {
     let mut words = [0; WORDS];
     words[NEEDED] = needed as u64;
     Answer {
-        number: crate::interface::OUTPUT_TOO_SHORT,
+        number: OUTPUT_TOO_SHORT,
         words,
     }
 }
@@ -215,6 +235,14 @@ mod tests {
     fn the_words_of_a_refusal() {
         assert_eq!(words(b"BRDA:1,0,0,"), (4, [0, 1, 4, 0, 0, 0, 0, 0]));
         assert_eq!(words(b"LF:1,2"), (3, [0, 1, 0, 0, 0, 0, 0, 0]));
+        assert_eq!(words(b"BRDA:1,0,0,+5"), (19, [0, 1, 4, 0, 0, 0, 0, 0]));
+    }
+
+    #[test]
+    fn a_line_with_a_plus_sign_is_kept_apart() {
+        let apart = |line: &[u8]| Expected::of(line).apart;
+        assert!(apart(b"DA:+1,x") && apart(b"FN:+1,\xff"));
+        assert!(!apart(b"DA:x,+1") && !apart(b"TN:+1") && !apart(b"DA:1,2"));
     }
 
     #[test]

@@ -1,5 +1,7 @@
 //! The port's calls, and the meaning of the eight words that they answer with.
 
+use crate::ranges::List;
+
 /// The calls of the port on lines and paths, in safe form.
 ///
 /// A number is 0 for an answer and else SPEC 1.7's refusal. The eight words are written where the slice holds them all; a shorter
@@ -14,68 +16,43 @@ pub trait Port {
     fn compare_paths(&self, a: &[u8], b: &[u8]) -> u32;
 }
 
+pub trait Numbers {
+    /// Reads one number field, a number up to `max`. The first two words are its value and how many digits were read.
+    fn read_number(&self, field: &[u8], max: u64, answer: &mut [u64]) -> u32;
+}
+
+/// What is lent to a call that prints a report.
+pub struct Lent<'a> {
+    pub scratch: &'a mut [u64],
+    pub out: &'a mut [u8],
+    pub answer: &'a mut [u64],
+}
+
 /// The calls on texts and bundles. They print a report to `out`, and leave it alone where they refuse; the scratch is free afterwards.
 pub trait Gatherer {
-    fn read_text(
-        &self,
-        text: &[u8],
-        scratch: &mut [u64],
-        out: &mut [u8],
-        answer: &mut [u64],
-    ) -> u32;
+    fn read_text(&self, text: &[u8], lent: Lent) -> u32;
 
     /// Checked, with [`INNER_WORDS`] of scratch inside.
     fn gather(&self, bundle: &[u8], out: &mut [u8], answer: &mut [u64]) -> u32;
 
     /// Checked.
-    fn gather_with(
-        &self,
-        bundle: &[u8],
-        scratch: &mut [u64],
-        out: &mut [u8],
-        answer: &mut [u64],
-    ) -> u32;
+    fn gather_with(&self, bundle: &[u8], lent: Lent) -> u32;
 
-    fn gather_lossy(
-        &self,
-        bundle: &[u8],
-        scratch: &mut [u64],
-        out: &mut [u8],
-        answer: &mut [u64],
-    ) -> u32;
+    fn gather_lossy(&self, bundle: &[u8], lent: Lent) -> u32;
 
-    /// Reads a text and keeps what the first `used` pairs hold.
-    fn filter_text(
-        &self,
-        text: &[u8],
-        pairs: &[[u32; 2]],
-        used: usize,
-        scratch: &mut [u64],
-        out: &mut [u8],
-        answer: &mut [u64],
-    ) -> u32;
+    /// Reads a text and keeps what the list holds.
+    fn filter_text(&self, text: &[u8], list: &List, lent: Lent) -> u32;
 }
 
-/// The calls on lists of ranges: a slice of pairs, each a start and an end, of which the first `used` count.
+/// The calls on lists of ranges.
 pub trait Ranges {
-    fn insert_range(
-        &self,
-        pairs: &mut [[u32; 2]],
-        used: usize,
-        start: u32,
-        end: u32,
-        answer: &mut [u64],
-    ) -> u32;
+    /// Changes the pairs; the first word of the answer is how many are used then.
+    fn insert_range(&self, list: &mut List, start: u32, end: u32, answer: &mut [u64]) -> u32;
 
-    fn query_range(
-        &self,
-        pairs: &[[u32; 2]],
-        used: usize,
-        start: u32,
-        end: u32,
-        answer: &mut [u64],
-    ) -> u32;
+    fn query_range(&self, list: &List, start: u32, end: u32, answer: &mut [u64]) -> u32;
+}
 
+pub trait HalfOpen {
     /// The start and the end of the range that `a..b` is.
     fn half_open(&self, a: u32, b: u32, answer: &mut [u64]);
 }

@@ -1,13 +1,18 @@
-//! The differential harness for lines, paths, ranges, texts and bundles: questions, what the Rust answers, and the comparison with the port.
+//! The differential harness for lines, number fields, paths, ranges, texts and bundles: questions, what the Rust answers, and the comparison with the port.
 //!
-//! Nothing here is linked with the port: [`Port`], [`Ranges`] and [`Gatherer`] are what the programs hand in, and the tests a stand-in for it.
+//! Nothing here is linked with the port: [`Port`], [`Numbers`], [`Ranges`] and [`Gatherer`] are what the programs hand in, a [`Build`], and the tests a
+//! stand-in for it.
 
+pub mod calls;
 pub mod compare;
+pub mod differences;
 pub mod expected;
 pub mod guarded;
 pub mod interface;
 pub mod lines;
+pub mod numbers;
 pub mod paths;
+pub mod plus;
 pub mod ranges;
 pub mod reports;
 pub mod rng;
@@ -15,6 +20,10 @@ pub mod sample;
 pub mod tally;
 pub mod tracefile;
 
+#[cfg(test)]
+mod stand_in;
+
+pub use calls::Build;
 pub use compare::Comparison;
-pub use interface::{Gatherer, Port, Ranges};
+pub use interface::{Gatherer, Numbers, Port, Ranges};
 pub use rng::Rng;

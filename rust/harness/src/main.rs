@@ -1,28 +1,31 @@
-//! Compares the port with the unchanged Rust on lines, paths, ranges, texts, filters and bundles.
+//! Compares the port with the unchanged Rust on lines, paths, ranges, texts, filters and bundles, and with what include/lcov.h says on
+//! single number fields.
 //!
-//!     harness [--seed N] [--minutes M | [--lines N] [--ranges N] [--reports N]]
+//!     harness [--seed N] [--minutes M | [--lines N] [--numbers N] [--ranges N] [--reports N]]
 //!
-//! Every run asks the systematic lines and bundles and all pairs of paths. Random questions follow: so many lines, lists of ranges, and
-//! texts, filters and bundles, or rounds of all of them until so many minutes have passed since the start. It prints how often each
-//! answer came, ten differences of each kind in full (of texts and bundles the smallest), how many calls there were, and a last line
-//! `N compared, M differences`; the exit status is 0 only if M is 0.
+//! Every run asks the systematic lines, number fields and bundles and all pairs of paths. Random questions follow: so many lines, number
+//! fields, lists of ranges, and texts, filters and bundles, or rounds of all of them until so many minutes have passed since the start. It
+//! prints how often each answer came, ten differences of each kind in full (of texts and bundles the smallest), how many calls there were,
+//! and a last line `N compared, M differences`; the exit status is 0 only if M is 0.
 
-mod linked;
-
+use harness::differences::Differences;
 use harness::interface::{INNER_WORDS, MAX_ENTRIES, WORDS_PER_ENTRY};
 use harness::lines::{random, systematic};
-use harness::{paths, ranges, reports, Comparison, Rng};
-use linked::Linked;
+use harness::ranges::cases::ROOM;
+use harness::ranges::program::Program;
+use harness::{numbers, paths, ranges, reports, Build, Comparison, Rng};
+use lcov_sys::Calls;
 use std::process::ExitCode;
 use std::time::{Duration, Instant};
 
 const USAGE: &str =
-    "usage: harness [--seed N] [--minutes M | [--lines N] [--ranges N] [--reports N]]";
+    "usage: harness [--seed N] [--minutes M | [--lines N] [--numbers N] [--ranges N] [--reports N]]";
 
 /// The number of random questions.
 #[derive(Clone, Copy)]
 struct Round {
     lines: u64,
+    numbers: u64,
     /// Lists, each filled by a dozen inserts with queries between them.
     ranges: u64,
     /// Half of them texts, each filtered too, half bundles, each asked checked and lossy.
@@ -32,6 +35,7 @@ struct Round {
 /// What a run asks where nothing else is said.
 const USUAL: Round = Round {
     lines: 1_000_000,
+    numbers: 500_000,
     ranges: 20_000,
     reports: 200_000,
 };
@@ -39,9 +43,13 @@ const USUAL: Round = Round {
 /// What is asked again and again until the time is over.
 const AGAIN: Round = Round {
     lines: 200_000,
+    numbers: 100_000,
     ranges: 4_000,
     reports: 40_000,
 };
+
+/// Of how many lists one is asked of range structs too, which another process answers.
+const STRUCTS_ONE_IN: u64 = 20;
 
 struct Options {
     seed: u64,
@@ -56,7 +64,14 @@ fn main() -> ExitCode {
     };
     oracle::hush_overflow();
     let start = Instant::now();
-    let mut run = Run::new(options.seed);
+    let program = match Program::start() {
+        Ok(program) => program,
+        Err(error) => {
+            eprintln!("the program test_line_num can't be run: {error}");
+            return ExitCode::from(2);
+        }
+    };
+    let mut run = Run::new(options.seed, program);
     run.systematic();
     match options.minutes {
         None => run.round(options.round),
@@ -84,11 +99,12 @@ fn options(mut words: impl Iterator<Item = String>) -> Option<Options> {
             "--seed" => options.seed = number,
             "--minutes" => options.minutes = Some(number),
             "--lines" => options.round.lines = number,
+            "--numbers" => options.round.numbers = number,
             "--ranges" => options.round.ranges = number,
             "--reports" => options.round.reports = number,
             _ => return None,
         }
-        counted |= matches!(word.as_str(), "--lines" | "--ranges" | "--reports");
+        counted |= !matches!(word.as_str(), "--seed" | "--minutes");
     }
     (options.minutes.is_none() || !counted).then_some(options)
 }
@@ -96,24 +112,31 @@ fn options(mut words: impl Iterator<Item = String>) -> Option<Options> {
 struct Run {
     seed: u64,
     rng: Rng,
-    lines: Comparison<Linked>,
-    ranges: ranges::compare::Comparison<Linked>,
-    reports: reports::compare::Comparison<Linked>,
+    lines: Comparison<Build>,
+    numbers: numbers::compare::Comparison<Build>,
+    ranges: ranges::compare::Comparison<Build>,
+    /// Lists of range structs.
+    structs: ranges::compare::Comparison<Program>,
+    reports: reports::compare::Comparison<Build>,
 }
 
 impl Run {
-    fn new(seed: u64) -> Self {
+    fn new(seed: u64, program: Program) -> Self {
+        let port = Build(Calls::LINKED);
         Run {
             seed,
             rng: Rng::new(seed),
-            lines: Comparison::new(Linked),
-            ranges: ranges::compare::Comparison::new(Linked),
-            reports: reports::compare::Comparison::new(Linked, seed),
+            lines: Comparison::new(port),
+            numbers: numbers::compare::Comparison::new(port),
+            ranges: ranges::compare::Comparison::new(port),
+            structs: ranges::compare::Comparison::new(program),
+            reports: reports::compare::Comparison::new(port, seed),
         }
     }
 
     fn systematic(&mut self) {
         systematic(&mut |line| self.lines.line(line));
+        numbers::fields::systematic(&mut |field, max| self.numbers.field(field, max));
         let spellings = paths::spellings(&mut self.rng);
         for a in &spellings {
             for b in &spellings {
@@ -134,29 +157,58 @@ impl Run {
         for _ in 0..round.lines {
             self.lines.line(&random::line(&mut self.rng));
         }
-        for _ in 0..round.ranges {
-            self.ranges.list(&mut self.rng);
+        for _ in 0..round.numbers {
+            let (field, max) = numbers::fields::random(&mut self.rng);
+            self.numbers.field(&field, max);
+        }
+        for number in 0..round.ranges {
+            self.list(number % STRUCTS_ONE_IN == 0);
         }
         for _ in 0..round.reports / 2 {
             random_reports(&mut self.reports, &mut self.rng);
         }
     }
 
+    /// A list of pairs, and one of structs too where that is asked.
+    fn list(&mut self, with_structs: bool) {
+        let rng = &mut self.rng;
+        let pairs = ranges::random::empty_list(rng);
+        self.ranges.list(pairs, rng);
+        let (a, b) = (ranges::random::line(rng), ranges::random::line(rng));
+        self.ranges.half_open(a, b);
+        if with_structs {
+            let structs = ranges::random::begun_list(rng, ROOM);
+            self.structs.list(structs, rng);
+        }
+    }
+
+    fn found(&self) -> impl Iterator<Item = &Differences> {
+        [
+            &self.lines.differences,
+            &self.numbers.differences,
+            &self.ranges.differences,
+            &self.structs.differences,
+            &self.reports.differences,
+        ]
+        .into_iter()
+    }
+
     fn differences(&self) -> u64 {
-        self.lines.differences + self.ranges.differences + self.reports.differences
+        self.found().map(|differences| differences.count).sum()
     }
 
     fn tell(&self, took: Duration) {
-        print!(
-            "{}{}{}",
-            self.lines.tally, self.ranges.tally, self.reports.tally
-        );
-        let of_reports = self.reports.shown.iter().map(|(_, difference)| difference);
-        let shown = self.lines.shown.iter().chain(&self.ranges.shown);
-        for (number, difference) in (1..).zip(shown.chain(of_reports)) {
+        print!("{}{}", self.lines.tally, self.numbers.tally);
+        print!("{}", self.ranges.tally);
+        println!("of range structs, by the program test_line_num:");
+        print!("{}{}", self.structs.tally, self.reports.tally);
+        for (number, difference) in (1..).zip(self.found().flat_map(Differences::shown)) {
             println!("difference {number}: {difference}");
         }
-        let calls = self.lines.calls + self.ranges.tally.calls() + self.reports.tally.calls();
+        let ranges = self.ranges.tally.calls() + self.structs.tally.calls();
+        let numbers = &self.numbers.tally;
+        let calls = self.lines.calls + numbers.calls + ranges + self.reports.tally.calls();
+        let compared = self.lines.compared() + numbers.asked() + ranges;
         println!(
             "seed {}: {calls} calls in {:.1} s",
             self.seed,
@@ -164,7 +216,7 @@ impl Run {
         );
         println!(
             "{} compared, {} differences",
-            self.lines.compared() + self.ranges.tally.calls() + self.reports.tally.questions(),
+            compared + self.reports.tally.questions(),
             self.differences()
         );
     }
@@ -174,7 +226,7 @@ impl Run {
 const ORDERS_ONE_IN: usize = 20;
 
 /// A text, read and filtered, and a bundle.
-fn random_reports(comparison: &mut reports::compare::Comparison<Linked>, rng: &mut Rng) {
+fn random_reports(comparison: &mut reports::compare::Comparison<Build>, rng: &mut Rng) {
     let habit = reports::random::Habit::random(rng);
     let text = reports::random::text(rng, habit);
     comparison.text(&text);

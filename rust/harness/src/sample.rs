@@ -1,9 +1,10 @@
-//! The recorded sample: lines and the Rust's answers to them, for a replay without Rust.
+//! The recorded sample: lines and the Rust's answers to them, but 19 where a number has a plus sign, for a replay without Rust.
 
 use crate::expected::Expected;
 use crate::interface::{FIELD, KIND, LINE};
 use crate::lines::{random, systematic, LAYOUTS};
-use crate::tally::REFUSALS;
+use crate::plus::SIGNED_NUMBER;
+use crate::tally::LINE_REFUSALS;
 use crate::{tracefile, Rng};
 use std::collections::HashSet;
 
@@ -11,7 +12,7 @@ pub const SEED: u64 = 53;
 
 /// How often each answer comes: each of the thirteen kinds, and each refusal.
 const EACH: usize = 210;
-const ANSWERS: usize = LAYOUTS.len() + REFUSALS.len();
+const ANSWERS: usize = LAYOUTS.len() + LINE_REFUSALS + 1;
 
 const LONGEST: usize = 200;
 
@@ -81,7 +82,7 @@ fn candidate(rng: &mut Rng, listed: &[Vec<u8>]) -> Vec<u8> {
     }
 }
 
-/// Kinds first, then refusals; None for a line outside the domain of comparison.
+/// Kinds first, then refusals, 19 the last; None for a line outside the domain of comparison.
 fn answer_of(line: &[u8]) -> Option<usize> {
     let expected = Expected::of(line);
     if expected.outside {
@@ -89,6 +90,7 @@ fn answer_of(line: &[u8]) -> Option<usize> {
     }
     Some(match expected.read.number {
         0 => expected.read.words[KIND] as usize - 1,
+        SIGNED_NUMBER => ANSWERS - 1,
         number => LAYOUTS.len() + number as usize - 1,
     })
 }
@@ -117,7 +119,7 @@ pub fn decoded(mut bytes: &[u8]) -> Option<Vec<Vec<u8>>> {
     Some(lines)
 }
 
-/// What the Rust answers to the lines.
+/// What the Rust answers to the lines, or 19.
 pub fn answers(lines: &[Vec<u8>]) -> Vec<u8> {
     lines.iter().flat_map(|line| answer(line)).collect()
 }
@@ -127,6 +129,7 @@ fn answer(line: &[u8]) -> Vec<u8> {
         read,
         printed,
         outside,
+        ..
     } = Expected::of(line);
     assert!(
         !outside,
@@ -174,13 +177,14 @@ mod tests {
     #[test]
     fn an_answer_is_a_record_or_a_refusal() {
         let lines = [
-            b"DA:01,+2,-\r\n".to_vec(),
+            b"DA:01,2,-\r\n".to_vec(),
             b"FN:5".to_vec(),
             b"LF:1,2".to_vec(),
+            b"DA:01,+2,-".to_vec(),
         ];
         assert_eq!(
             answers(&lines),
-            b"DA:1,2\nrefused 2 0 1 2\nrefused 3 0 1 0\n"
+            b"DA:1,2\nrefused 2 0 1 2\nrefused 3 0 1 0\nrefused 19 0 1 2\n"
         );
     }
 }

@@ -5,14 +5,40 @@ use crate::interface::{EQUAL, GREATER, KIND, LESS};
 use crate::lines::LAYOUTS;
 use std::fmt;
 
-/// SPEC 9.1's numbers for a lone line.
-pub const REFUSALS: [&str; 6] = [
+/// Numbers of SPEC 9.1, and 0 for an answer.
+pub const NUMBERS: usize = 26;
+
+/// The first of them that refuse a lone line, from 1.
+pub const LINE_REFUSALS: usize = 6;
+
+/// What each number says; those that no line, text or bundle can give are empty.
+pub const NAMES: [&str; NUMBERS] = [
+    "answered",
     "tag unknown",
     "field missing",
     "too many fields",
     "number empty",
     "bad digit",
     "number too large",
+    "TN in a section",
+    "ends in a section",
+    "sum of calls",
+    "too many entries",
+    "starts differ",
+    "checksums differ",
+    "sum of runs",
+    "output too short",
+    "",
+    "bundle ill formed",
+    "",
+    "ranges ill formed",
+    "plus sign",
+    "",
+    "",
+    "",
+    "",
+    "",
+    "second SF",
 ];
 
 #[derive(Default)]
@@ -20,9 +46,11 @@ pub struct Tally {
     /// By kind, in the order of `RecordKind`.
     pub read: [u64; LAYOUTS.len()],
     /// By number, from 1.
-    pub refused: [u64; REFUSALS.len()],
+    pub refused: [u64; LINE_REFUSALS],
     /// Lines that are not UTF-8: read, and refused.
     pub outside: [u64; 2],
+    /// Lines that the Rust answers otherwise: a number has a plus sign.
+    pub apart: u64,
     /// Pairs of paths by their order.
     pub paths: [u64; 3],
     /// Lines asked again with every length of answer and of output.
@@ -35,6 +63,7 @@ impl Tally {
     pub fn count_line(&mut self, expected: &Expected) {
         let number = expected.read.number as usize;
         let counted = match (expected.outside, number) {
+            _ if expected.apart => &mut self.apart,
             (true, 0) => &mut self.outside[0],
             (true, _) => &mut self.outside[1],
             (false, 0) => &mut self.read[expected.read.words[KIND] as usize - 1],
@@ -47,10 +76,15 @@ impl Tally {
         self.paths[order as usize] += 1;
     }
 
+    /// Those that were compared.
     pub fn lines(&self) -> u64 {
         self.read.iter().sum::<u64>()
             + self.refused.iter().sum::<u64>()
             + self.outside.iter().sum::<u64>()
+    }
+
+    pub fn asked(&self) -> u64 {
+        self.lines() + self.apart
     }
 
     pub fn pairs(&self) -> u64 {
@@ -61,30 +95,40 @@ impl Tally {
 impl fmt::Display for Tally {
     fn fmt(&self, f: &mut fmt::Formatter) -> fmt::Result {
         for (layout, count) in LAYOUTS.iter().zip(self.read) {
-            writeln!(f, "read {:<24}{count:>10}", layout.tag)?;
+            row(f, &format!("read {}", layout.tag), &[count])?;
         }
-        for (number, (what, count)) in (1..).zip(REFUSALS.iter().zip(self.refused)) {
-            writeln!(f, "refused {number} {what:<19}{count:>10}")?;
+        for (number, count) in (1..).zip(self.refused) {
+            row(f, &format!("refused {number} {}", NAMES[number]), &[count])?;
         }
-        writeln!(f, "outside, read                {:>10}", self.outside[0])?;
-        writeln!(f, "outside, refused             {:>10}", self.outside[1])?;
-        writeln!(f, "lines                        {:>10}", self.lines())?;
-        writeln!(f, "  of them with every length  {:>10}", self.thorough)?;
-        writeln!(f, "  outputs too short          {:>10}", self.too_short)?;
-        writeln!(
+        rows(
             f,
-            "paths, less                  {:>10}",
-            self.paths[LESS as usize]
-        )?;
-        writeln!(
-            f,
-            "paths, equal                 {:>10}",
-            self.paths[EQUAL as usize]
-        )?;
-        writeln!(
-            f,
-            "paths, greater               {:>10}",
-            self.paths[GREATER as usize]
+            &[
+                ("outside, read", self.outside[0]),
+                ("outside, refused", self.outside[1]),
+                ("lines", self.lines()),
+                ("lines apart, not compared", self.apart),
+                ("  of both with every length", self.thorough),
+                ("  outputs too short", self.too_short),
+                ("paths, less", self.paths[LESS as usize]),
+                ("paths, equal", self.paths[EQUAL as usize]),
+                ("paths, greater", self.paths[GREATER as usize]),
+            ],
         )
     }
+}
+
+/// A row for each count.
+pub fn rows(f: &mut fmt::Formatter, counts: &[(&str, u64)]) -> fmt::Result {
+    counts
+        .iter()
+        .try_for_each(|&(what, count)| row(f, what, &[count]))
+}
+
+/// What was counted, and the cells beside it.
+pub fn row(f: &mut fmt::Formatter, what: &str, cells: &[impl fmt::Display]) -> fmt::Result {
+    write!(f, "{what:<29}")?;
+    for cell in cells {
+        write!(f, "{cell:>10}")?;
+    }
+    writeln!(f)
 }

@@ -6,11 +6,7 @@ use std::ops::Range;
 /// The head of a bundle that names as many texts as it may.
 const LONGEST_HEAD: usize = 8 + 8 * MAX_TEXTS;
 
-/// How many bytes a round of a gather takes before it begins no further file.
-pub const ROUND: usize = 16 << 20;
-
-/// The texts are put behind the place of the longest head, and the head, when it is known, right before them: so a file is read to where it
-/// stays, and no text is copied.
+/// The texts are put behind the place of the longest head, and the head, when it is known, right before them.
 pub struct Bundle {
     bytes: Vec<u8>,
     ends: Vec<usize>,
@@ -18,10 +14,8 @@ pub struct Bundle {
 
 impl Bundle {
     pub fn new() -> Self {
-        let mut bytes = Vec::with_capacity(LONGEST_HEAD + 2 * ROUND);
-        bytes.resize(LONGEST_HEAD, 0);
         Bundle {
-            bytes,
+            bytes: vec![0; LONGEST_HEAD],
             ends: Vec::with_capacity(MAX_TEXTS),
         }
     }
@@ -32,27 +26,20 @@ impl Bundle {
         self.ends.clear();
     }
 
-    /// Whether another text is to wait for the next bundle.
+    /// Whether it names as many texts as it may.
     pub fn is_full(&self) -> bool {
-        self.ends.len() == MAX_TEXTS || self.text_bytes() >= ROUND
+        self.ends.len() == MAX_TEXTS
     }
 
     fn text_bytes(&self) -> usize {
         self.bytes.len() - LONGEST_HEAD
     }
 
-    /// A text that `write` appends to what it is given. None if the bundle is then too long for its u32 numbers.
-    pub fn add<E>(
-        &mut self,
-        write: impl FnOnce(&mut Vec<u8>) -> Result<(), E>,
-    ) -> Result<Option<&[u8]>, E> {
-        let start = self.bytes.len();
-        write(&mut self.bytes)?;
-        if u32::try_from(self.text_bytes()).is_err() {
-            return Ok(None);
-        }
+    /// A text that `write` appends to what it is given. Whether the bundle is still short enough for its u32 numbers.
+    pub fn add(&mut self, write: impl FnOnce(&mut Vec<u8>)) -> bool {
+        write(&mut self.bytes);
         self.ends.push(self.bytes.len());
-        Ok(Some(&self.bytes[start..]))
+        u32::try_from(self.text_bytes()).is_ok()
     }
 
     /// The bundle as the library takes it.
@@ -97,11 +84,7 @@ mod tests {
 
     fn add_all(bundle: &mut Bundle, texts: &[&str]) {
         for text in texts {
-            let write = |bytes: &mut Vec<u8>| -> Result<(), ()> {
-                bytes.extend_from_slice(text.as_bytes());
-                Ok(())
-            };
-            assert_eq!(bundle.add(write), Ok(Some(text.as_bytes())));
+            assert!(bundle.add(|bytes| bytes.extend_from_slice(text.as_bytes())));
         }
     }
 
@@ -122,10 +105,9 @@ mod tests {
     }
 
     #[test]
-    fn full_at_64_texts_or_many_bytes() {
+    fn full_at_64_texts() {
         let texts = vec!["x"; MAX_TEXTS];
         assert!(!with(&texts[1..]).is_full());
         assert!(with(&texts).is_full());
-        assert!(with(&[&"x".repeat(ROUND)]).is_full());
     }
 }

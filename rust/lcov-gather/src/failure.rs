@@ -1,9 +1,9 @@
 //! Why there is no output, and the exit status that says so.
 
 use crate::audit::Difference;
+use crate::choice::ChoiceError;
 use crate::guard::Replacements;
 use lcov_sys::Refusal;
-use std::ffi::OsString;
 use std::fmt;
 use std::io;
 use std::path::{Path, PathBuf};
@@ -14,22 +14,39 @@ pub enum Failure {
     Usage(String),
     /// A file can't be read or written.
     File(PathBuf, io::Error),
+    /// Gzip data that is cut or changed.
+    Damaged(PathBuf, io::Error),
     /// Too long for a bundle, whose lengths are u32.
     TooLong(PathBuf),
     /// A tracefile, or what came of it, is refused by the library.
     Refused(PathBuf, Refusal),
+    /// A refusal, and the lines that follow it.
+    Explained(Box<Failure>, String),
+    /// Every file is refused, so there is nothing to write.
+    NothingLeft,
+    /// A line of a tracefile is refused by this command: its number, and what is wrong.
+    Unread(PathBuf, u64, String),
     /// Something in a tracefile would replace something else, so the guard refuses it.
     Replaced(Replacements),
     /// The counts of the files are not those of the result.
-    Audit(Difference),
-    /// No section is of the file that is to be cut.
-    NoSection(OsString),
+    Audit(Box<Difference>),
+    /// The file that is to be cut is not that of one section, or of none.
+    Choice(ChoiceError),
 }
 
 impl Failure {
+    /// Whether it is about what a tracefile holds, and not about whether it can be read.
+    pub fn is_of_content(&self) -> bool {
+        matches!(self, Failure::Damaged(..) | Failure::TooLong(_)) || self.status() == 1
+    }
+
     pub fn status(&self) -> u8 {
         match self {
-            Failure::Refused(..) | Failure::Replaced(_) => 1,
+            Failure::Refused(..)
+            | Failure::Unread(..)
+            | Failure::Replaced(_)
+            | Failure::NothingLeft => 1,
+            Failure::Explained(failure, _) => failure.status(),
             Failure::Audit(_) => 3,
             _ => 2,
         }
@@ -50,10 +67,20 @@ impl fmt::Display for Failure {
         match self {
             Failure::Usage(what) => write!(f, "{what}\ntry 'lcov-gather --help'"),
             Failure::File(path, error) => write!(f, "{}: {error}", name(path)),
+            Failure::Damaged(path, error) => {
+                write!(
+                    f,
+                    "{}: the gzip data is damaged or cut: {error}",
+                    name(path)
+                )
+            }
             Failure::TooLong(path) => {
                 write!(f, "{}: 4 GiB or longer with what is gathered", name(path))
             }
-            Failure::NoSection(file) => write!(f, "no section is of the file {}", file.display()),
+            Failure::Unread(path, line, what) => write!(f, "{}:{line}: {what}", name(path)),
+            Failure::NothingLeft => write!(f, "every file is refused; nothing is written"),
+            Failure::Explained(failure, lines) => write!(f, "{failure}{lines}"),
+            Failure::Choice(error) => write!(f, "{error}"),
             Failure::Replaced(replaced) => write!(f, "{replaced}"),
             Failure::Audit(difference) => write!(f, "{difference}; nothing is written"),
             Failure::Refused(path, refusal) => {

@@ -1,18 +1,34 @@
-//! The gather of any number of tracefiles.
+//! The gather of any number of tracefiles, in rounds.
 //!
-//! A bundle names at most 64 texts. So the first 64 are gathered, then what that wrote together with the next 63, and so on: the total is
-//! that of one gather of all (docs/DECISIONS.md, "More than 64 files"). Files are read round by round, and each of them once.
+//! A round reads some files, cuts them into pieces, puts the pieces of one test name and path together, after the section that was gathered
+//! before, and has the library gather each such group. What was gathered is kept by test name and path, so that a section which no file of
+//! the round has is not looked at. Threads share the files and then the groups of a round; what is written does not depend on their number
+//! (docs/AUDIT.md, "How the command uses it").
 
 use crate::audit::Sums;
-use crate::bundle::Bundle;
 use crate::failure::{name, Failure};
-use crate::guard::{Guard, Replacements};
-use crate::input::Inputs;
-use crate::record::records;
+use crate::first_refusal::Round;
+use crate::guard::Replacements;
+use crate::input::{self, Inputs, Span};
+use crate::loaded::Loaded;
+use crate::parallel;
+use crate::pieces::{entries_of, group, Group, Meaning};
 use crate::reporter::Reporter;
-use crate::workspace::Workspace;
-use lcov_sys::Refusal;
+use crate::source::Sources;
+use crate::store::{Place, Store};
+use crate::tracefile::Tracefile;
+use crate::worker::Worker;
+use lcov_sys::MAX_TEXTS;
+use std::cmp::Reverse;
+use std::ops::Range;
 use std::path::{Path, PathBuf};
+use std::sync::atomic::{AtomicUsize, Ordering};
+
+/// The length of a round, in the command.
+pub const ROUND: u64 = 24 << 20;
+
+/// Groups are gathered together up to so many entries, since a call has a cost of its own; more leave the processor's caches.
+const BATCH: usize = 4_096;
 
 #[derive(Debug, Clone, Copy, PartialEq, Eq)]
 pub enum Mode {
@@ -24,149 +40,277 @@ pub enum Mode {
 #[derive(Debug, Clone, Copy, PartialEq, Eq)]
 pub struct Reading {
     pub mode: Mode,
-    /// Without the guard.
-    pub as_written: bool,
+    pub meaning: Meaning,
+    pub threads: usize,
+    /// How many bytes a round takes before it begins no further file.
+    pub round: u64,
 }
 
 /// The joined tracefile, the sums over the files, and what the guard found.
 pub struct Gathered {
-    pub text: Vec<u8>,
+    pub joined: Tracefile,
     pub read: Sums,
     pub replaced: Replacements,
 }
 
 struct Gathering<'a> {
-    files: &'a [PathBuf],
+    sources: Sources<'a>,
     reading: Reading,
-    reporter: &'a mut Reporter,
+    reporter: &'a Reporter,
     inputs: Inputs,
-    bundle: Bundle,
-    workspace: Workspace,
+    workers: Vec<Worker>,
     /// How many files are read.
-    done: usize,
-    /// How long the joined text of the rounds so far is; it is in the workspace.
-    joined: Option<usize>,
+    done: AtomicUsize,
     read: Sums,
     replaced: Replacements,
-    /// What is to be told of the round's files once the library has taken them.
-    notes: Vec<String>,
+    blocks: Blocks,
 }
+
+/// The first file with a block of an exception, and the first with a block that might be one's, with its line.
+#[derive(Default)]
+struct Blocks {
+    exception: Option<PathBuf>,
+    large: Option<(PathBuf, u32)>,
+}
+
+/// What the library wrote of neighbouring groups, and where its sections are.
+type Written = (Vec<u8>, Vec<Place>);
 
 /// A refusal by the library is told before what the guard found: the guard speaks only of files that the library takes.
 pub fn gather(
-    files: &[PathBuf],
+    sources: Sources,
     reading: Reading,
     start: Sums,
-    reporter: &mut Reporter,
+    reporter: &Reporter,
 ) -> Result<Gathered, Failure> {
     let mut gathering = Gathering {
-        files,
+        sources,
         reading,
         reporter,
         inputs: Inputs::default(),
-        bundle: Bundle::new(),
-        workspace: Workspace::new(),
-        done: 0,
-        joined: None,
+        workers: (0..reading.threads.max(1)).map(Worker::new).collect(),
+        done: AtomicUsize::new(0),
         read: start,
         replaced: Replacements::default(),
-        notes: Vec::new(),
+        blocks: Blocks::default(),
     };
-    while gathering.done < files.len() {
-        gathering.round()?;
-    }
-    let len = gathering.joined.unwrap_or(0);
+    let joined = gathering.gather()?;
     Ok(Gathered {
-        text: gathering.workspace.into_written(len),
+        joined,
         read: gathering.read,
         replaced: gathering.replaced,
     })
 }
 
 impl Gathering<'_> {
-    /// What is joined so far and the next files, gathered.
-    fn round(&mut self) -> Result<(), Failure> {
-        let first = self.done;
-        let earlier = self.begin()?;
-        // What is joined may fill the bundle by itself, so the first file is not asked whether it fits.
-        self.add_file()?;
-        while !self.bundle.is_full() && self.done < self.files.len() {
-            self.add_file()?;
+    /// All rounds. What was gathered before is a text of a bundle too, so that later rounds have one file less.
+    fn gather(&mut self) -> Result<Tracefile, Failure> {
+        let (files, length) = (self.sources.files, self.reading.round);
+        let mut span = input::round(files, length, MAX_TEXTS);
+        if span.files == files.len() {
+            let written = self.round(0, span, &Store::default(), |_| Vec::new())?;
+            let parts = written.into_iter().map(|(bytes, _)| bytes);
+            return Ok(Tracefile::whole(parts.collect()));
         }
-        let bundle = self.bundle.finish();
-        let mode = self.reading.mode;
-        let written = self.workspace.written(
-            |scratch, out, answer| match mode {
-                Mode::Checked => lcov_sys::gather_with(bundle, scratch, out, answer),
-                Mode::Lossy => lcov_sys::gather_lossy(bundle, scratch, out, answer),
-            },
-            bundle.len(),
-        );
-        match written {
-            Ok(written) => self.joined = Some(written.len()),
-            Err(refusal) => return Err(in_file(self.files, first, earlier, refusal)),
+        let mut store: Store = Store::default();
+        let mut start = 0;
+        while start < files.len() {
+            let written = self.round(start, span, &store, |bytes| store.places(bytes))?;
+            for (bytes, places) in written {
+                store.put(bytes, places);
+            }
+            store.pack();
+            start += span.files;
+            span = input::round(&files[start..], length, MAX_TEXTS - 1);
         }
-        for what in self.notes.drain(..) {
-            self.reporter.note(what);
-        }
-        Ok(())
+        Ok(store.finish())
     }
 
-    /// Puts what is joined into the empty bundle: the number of texts that are no files, 0 or 1.
-    fn begin(&mut self) -> Result<usize, Failure> {
-        self.bundle.clear();
-        let Some(len) = self.joined else {
-            return Ok(0);
+    /// What the library writes of the files from `start` on, each section after what `store` has of it.
+    fn round(
+        &mut self,
+        start: usize,
+        span: Span,
+        store: &Store,
+        places: impl Fn(&[u8]) -> Vec<Place> + Sync,
+    ) -> Result<Vec<Written>, Failure> {
+        let (sources, files) = self.read_round(start, span)?;
+        let texts = sources.iter().enumerate();
+        let mut groups =
+            group(texts.flat_map(|(file, source)| source.texts(source.bytes(&files), file)));
+        for group in &mut groups {
+            let before = store.find(group.test(), group.path());
+            group.texts.splice(0..0, before);
+        }
+        let is_refused = |source: &Loaded| {
+            let fault = &source.scanned.cut.fault;
+            fault.is_some() || source.refused.is_some()
         };
-        let joined = self.workspace.last(len);
-        let added = self.bundle.add(|bytes| {
-            bytes.extend_from_slice(joined);
-            Ok(())
-        })?;
-        let first = || self.files[0].clone();
-        added.map(|_| 1).ok_or_else(|| Failure::TooLong(first()))
+        let written = if sources.iter().any(is_refused) {
+            None
+        } else {
+            self.gather_all(&groups, places)
+        };
+        let Some(written) = written else {
+            return Err(self.first_refusal(&sources, &files, &groups));
+        };
+        drop(groups);
+        for (worker, files) in self.workers.iter_mut().zip(files) {
+            worker.end_round(files);
+        }
+        self.take_all(sources)?;
+        Ok(written)
     }
 
-    fn add_file(&mut self) -> Result<(), Failure> {
-        let path = &self.files[self.done];
-        let (inputs, reporter) = (&mut self.inputs, &mut *self.reporter);
-        let added = self
-            .bundle
-            .add(|bytes| inputs.read(path, bytes, reporter))?;
-        let text = added.ok_or_else(|| Failure::TooLong(path.clone()))?;
-        let guarded = (!self.reading.as_written).then_some(&mut self.replaced);
-        let has_items = scan(text, &name(path), &mut self.read, guarded);
-        if text.is_empty() {
-            self.notes
-                .push(format!("{}: the file is empty", name(path)));
-        } else if !has_items {
-            let what = "the file has no functions, branches and lines";
-            self.notes.push(format!("{}: {what}", name(path)));
+    fn first_refusal(
+        &mut self,
+        sources: &[Loaded],
+        files: &[Vec<u8>],
+        groups: &[Group],
+    ) -> Failure {
+        let round = Round {
+            sources,
+            files,
+            groups,
+            mode: self.reading.mode,
+        };
+        let found = round.find(&mut self.workers[0]);
+        // Groups that are taken one by one can only be too long together.
+        found.unwrap_or_else(|| Failure::TooLong(sources[0].path.clone()))
+    }
+
+    /// What is told and added up of files that the library takes.
+    fn take_all(&mut self, sources: Vec<Loaded>) -> Result<(), Failure> {
+        for source in &sources {
+            self.check_blocks(source)?;
         }
-        self.done += 1;
-        self.reporter.advance(self.done);
+        for source in sources {
+            self.tell(&source);
+            self.read += source.scanned.sums;
+            self.replaced.append(source.scanned.replaced);
+        }
         Ok(())
     }
-}
 
-/// One walk over the records of a file, for the audit and for the guard. Whether the file has a function, branch or line.
-pub fn scan(text: &[u8], file: &str, read: &mut Sums, guarded: Option<&mut Replacements>) -> bool {
-    let mut has_items = false;
-    let mut guard = Guard::default();
-    let mut guarded = guarded;
-    for (place, record) in records(text) {
-        read.add(record);
-        has_items |= record.is_item();
-        if let Some(replaced) = guarded.as_deref_mut() {
-            guard.take(place, record, file, replaced);
+    /// The files of a round, and the memory of the workers that has them.
+    fn read_round(
+        &mut self,
+        start: usize,
+        span: Span,
+    ) -> Result<(Vec<Loaded>, Vec<Vec<u8>>), Failure> {
+        let workers = self.workers.iter_mut();
+        workers.for_each(|worker| worker.begin_round(span.bytes));
+        let sources = self.read_all(start..start + span.files)?;
+        let workers = self.workers.iter_mut();
+        let files = workers.map(|worker| std::mem::take(&mut worker.files));
+        Ok((sources, files.collect()))
+    }
+
+    /// The files, each read and cut by one of the threads.
+    fn read_all(&mut self, files: Range<usize>) -> Result<Vec<Loaded>, Failure> {
+        let (sources, reading) = (self.sources, self.reading);
+        let (done, reporter) = (&self.done, self.reporter);
+        let read = parallel::map(&mut self.workers, files.len(), |worker, file| {
+            let loaded = Loaded::read(sources, files.start + file, reading, worker)?;
+            reporter.advance(done.fetch_add(1, Ordering::Relaxed) + 1);
+            Ok(loaded)
+        });
+        let mut all = Vec::with_capacity(read.len());
+        for read in read {
+            let (loaded, identity) = read?;
+            let source = &sources.files[loaded.place];
+            self.inputs.note(source, identity, self.reporter);
+            all.push(loaded);
+        }
+        Ok(all)
+    }
+
+    /// What is written of the groups, in order; none if one is refused. Large batches are begun first, so that none is left to one thread at
+    /// the end.
+    fn gather_all(
+        &mut self,
+        groups: &[Group],
+        places: impl Fn(&[u8]) -> Vec<Place> + Sync,
+    ) -> Option<Vec<Written>> {
+        let batches = batches(groups);
+        let mode = self.reading.mode;
+        let mut order: Vec<usize> = (0..batches.len()).collect();
+        order.sort_by_cached_key(|&batch| Reverse(entries_of(&groups[batches[batch].clone()])));
+        let written = parallel::map(&mut self.workers, batches.len(), |worker, place| {
+            let groups = &groups[batches[order[place]].clone()];
+            let bytes = worker.gather(groups, mode).ok()?;
+            let places = places(&bytes);
+            Some((bytes, places))
+        });
+        let mut parts: Vec<Written> = Vec::new();
+        parts.resize_with(batches.len(), Written::default);
+        for (batch, written) in order.into_iter().zip(written) {
+            parts[batch] = written?;
+        }
+        Some(parts)
+    }
+
+    /// What is told of a file that is taken.
+    fn tell(&self, source: &Loaded) {
+        let file = name(&source.path);
+        if source.scanned.is_empty {
+            self.reporter
+                .note(format_args!("{file}: the file is empty"));
+        } else if !source.scanned.has_items {
+            let what = "the file has no functions, branches and lines";
+            self.reporter.note(format_args!("{file}: {what}"));
+        }
+        for what in source.scanned.cut.forms.notes() {
+            self.reporter.note(format_args!("{file}: {what}"));
         }
     }
-    has_items
+
+    /// No block may be that of a branch and of an exception.
+    fn check_blocks(&mut self, source: &Loaded) -> Result<(), Failure> {
+        let cut = &source.scanned.cut;
+        let blocks = &mut self.blocks;
+        if let Some(line) = cut.large_block {
+            blocks.large.get_or_insert((source.path.clone(), line));
+        }
+        if cut.forms.exceptions > 0 {
+            blocks.exception.get_or_insert(source.path.clone());
+        }
+        match blocks {
+            Blocks {
+                exception: Some(other),
+                large: Some((path, line)),
+            } => Err(ambiguous(path, *line, other)),
+            _ => Ok(()),
+        }
+    }
 }
 
-/// The refusal with the file that it is about. What was joined before is about its last file.
-fn in_file(files: &[PathBuf], first: usize, earlier: usize, refusal: Refusal) -> Failure {
-    let place = (first + refusal.text).saturating_sub(earlier);
-    let path = files.get(place).map_or(Path::new("-"), |path| path);
-    Failure::Refused(PathBuf::from(path), refusal)
+/// A branch and an exception's branch would be added.
+fn ambiguous(path: &Path, line: u32, other: &Path) -> Failure {
+    let what = format!(
+        "the block is one that exceptions (e0, ..) of {} have; gather the two apart",
+        name(other)
+    );
+    Failure::Unread(path.to_owned(), u64::from(line), what)
+}
+
+/// Neighbours that are gathered by one call. Only one group by itself may have more than [`BATCH`] entries, so that the library's limit is met
+/// by a section and not by a batch.
+fn batches(groups: &[Group]) -> Vec<Range<usize>> {
+    let mut batches: Vec<Range<usize>> = Vec::new();
+    let mut entries = 0;
+    for (place, group) in groups.iter().enumerate() {
+        let own = group.entries();
+        match batches.last_mut() {
+            Some(batch) if own.saturating_add(entries) <= BATCH => {
+                batch.end = place + 1;
+                entries += own;
+            }
+            _ => {
+                batches.push(place..place + 1);
+                entries = own;
+            }
+        }
+    }
+    batches
 }

@@ -1,31 +1,60 @@
 //! The guard: finds where the reading of one file would let one thing replace another, so that counts or a test name are lost.
 //!
 //! The library reads as SPEC 3.2 says: a later section, DA or BRDA with the key of an earlier one replaces it, FN sets a function's
-//! count to 0, and a test name holds for one section. A section without functions, branches and lines is dropped and replaces nothing.
+//! count to 0, and a test name, also the empty one, holds for one section. A section without functions, branches and lines is dropped and
+//! replaces nothing.
 
 use crate::path::canonical;
-use crate::record::Record;
+use crate::record::{records, ItemRun, Record};
 use std::collections::HashMap;
 use std::fmt;
 
-/// So many replacements are told one by one; of the others the number is told.
+/// How many replacements a gather tells one by one.
 const SHOWN: usize = 10;
 
 /// The replacements in all files.
-#[derive(Debug, Default)]
+#[derive(Debug)]
 pub struct Replacements {
+    /// So many are told one by one; of the others the number is told.
+    most: usize,
     shown: Vec<String>,
     total: u64,
 }
 
+impl Default for Replacements {
+    fn default() -> Self {
+        Replacements::up_to(SHOWN)
+    }
+}
+
 impl Replacements {
+    /// Each of them is told.
+    pub fn all() -> Self {
+        Replacements::up_to(usize::MAX)
+    }
+
+    fn up_to(most: usize) -> Self {
+        Replacements {
+            most,
+            shown: Vec::new(),
+            total: 0,
+        }
+    }
+
     pub fn is_empty(&self) -> bool {
         self.total == 0
     }
 
+    /// Those of a later file.
+    pub fn append(&mut self, later: Replacements) {
+        let room = self.most - self.shown.len();
+        self.shown.extend(later.shown.into_iter().take(room));
+        self.total += later.total;
+    }
+
     fn add(&mut self, file: &str, found: &Found) {
         self.total += 1;
-        if self.shown.len() < SHOWN {
+        if self.shown.len() < self.most {
             self.shown.push(found.message(file));
         }
     }
@@ -42,7 +71,7 @@ impl fmt::Display for Replacements {
         }
         write!(
             f,
-            "refused, since counts or test names would be lost; --as-written takes such files"
+            "refused, since counts or test names may be lost; --as-geninfo adds them up, --as-written takes the file as it is"
         )
     }
 }
@@ -108,22 +137,50 @@ fn section_of(path: &[u8]) -> String {
 }
 
 /// The keys of a section's lines or branches with the places where they came.
-#[derive(Default)]
-struct Keys<K> {
+struct Keys<'a, K> {
+    /// Tools write the keys in order. Then none comes twice, and the places are not looked for.
+    runs: Vec<ItemRun<'a, K>>,
+    /// Of lines that are in no run.
     places: Vec<(K, u32)>,
+    last: Option<K>,
     is_unordered: bool,
 }
 
-impl<K: Ord + Copy> Keys<K> {
+impl<K> Default for Keys<'_, K> {
+    fn default() -> Self {
+        Keys {
+            runs: Vec::new(),
+            places: Vec::new(),
+            last: None,
+            is_unordered: false,
+        }
+    }
+}
+
+impl<'a, K: Ord + Copy> Keys<'a, K> {
     fn add(&mut self, key: K, place: u32) {
-        // Tools write the keys in order, and then none comes twice and nothing has to be sorted.
-        self.is_unordered |= self.places.last().is_some_and(|&(last, _)| last >= key);
+        self.is_unordered |= self.last >= Some(key);
+        self.last = Some(key);
         self.places.push((key, place));
     }
 
+    fn add_run(&mut self, run: &ItemRun<'a, K>) {
+        self.is_unordered |= self.last >= Some(run.first);
+        self.last = Some(run.last);
+        self.runs.push(*run);
+    }
+
     /// Calls for each key that came before: key, later place, earlier place. No key is left.
-    fn take_repeated(&mut self, mut repeated: impl FnMut(K, u32, u32)) {
+    fn take_repeated(
+        &mut self,
+        key_of: impl Fn(Record) -> Option<K>,
+        mut repeated: impl FnMut(K, u32, u32),
+    ) {
         if self.is_unordered {
+            for run in &self.runs {
+                let keys = records(run.bytes).filter_map(|(_, record)| key_of(record));
+                self.places.extend(keys.zip(run.number..));
+            }
             self.places.sort_unstable();
             for pair in self.places.windows(2) {
                 if pair[0].0 == pair[1].0 {
@@ -131,8 +188,24 @@ impl<K: Ord + Copy> Keys<K> {
                 }
             }
         }
+        self.runs.clear();
         self.places.clear();
+        self.last = None;
         self.is_unordered = false;
+    }
+}
+
+fn line_of(record: Record) -> Option<u32> {
+    match record {
+        Record::Line { line, .. } => Some(line),
+        _ => None,
+    }
+}
+
+fn branch_of(record: Record) -> Option<[u32; 3]> {
+    match record {
+        Record::Branch { key, .. } => Some(key),
+        _ => None,
     }
 }
 
@@ -150,26 +223,39 @@ struct Section<'a> {
 #[derive(Default)]
 pub struct Guard<'a> {
     section: Section<'a>,
-    lines: Keys<u32>,
-    branches: Keys<[u32; 3]>,
+    lines: Keys<'a, u32>,
+    branches: Keys<'a, [u32; 3]>,
     /// The functions of the open section whose count is above 0, with the FNDA that made it so.
     called: HashMap<&'a [u8], u32>,
     /// Test name and path of each kept section, with its last place.
     sections: HashMap<(&'a [u8], Vec<u8>), u32>,
-    /// The last TN of the file.
-    last_test: Option<(&'a [u8], u32)>,
+    /// The line of the last TN of the file.
+    last_test: Option<u32>,
+    /// All sections get one test name, whether they have a TN or not.
+    has_one_name: bool,
     /// What is found in the open section.
     found: Vec<Found<'a>>,
 }
 
 impl<'a> Guard<'a> {
+    pub fn new(has_one_name: bool) -> Self {
+        Guard {
+            has_one_name,
+            ..Guard::default()
+        }
+    }
+
+    pub fn has_one_name(&self) -> bool {
+        self.has_one_name
+    }
+
     /// Takes the record at a place. The replacements of a section are told when it ends: a file that ends inside a section is refused by
     /// the library.
     pub fn take(&mut self, place: u32, record: Record<'a>, file: &str, all: &mut Replacements) {
         match record {
             Record::TestName(name) => {
-                self.section.test = Some(name);
-                self.last_test = Some((name, place));
+                self.section.test = Some(if self.has_one_name { b"" } else { name });
+                self.last_test = Some(place);
                 return;
             }
             Record::End => return self.end(file, all),
@@ -180,6 +266,26 @@ impl<'a> Guard<'a> {
         }
         self.section.has_items |= record.is_item();
         self.enter(place, record);
+    }
+
+    /// Takes DA lines at once.
+    pub fn take_lines(&mut self, run: &ItemRun<'a, u32>) {
+        self.begin(run.number);
+        self.lines.add_run(run);
+    }
+
+    /// Takes BRDA lines at once.
+    pub fn take_branches(&mut self, run: &ItemRun<'a, [u32; 3]>) {
+        self.begin(run.number);
+        self.branches.add_run(run);
+    }
+
+    /// An item, with which a section may begin.
+    fn begin(&mut self, place: u32) {
+        if self.section.place == 0 {
+            self.section.place = place;
+        }
+        self.section.has_items = true;
     }
 
     fn enter(&mut self, place: u32, record: Record<'a>) {
@@ -193,7 +299,7 @@ impl<'a> Guard<'a> {
             Record::Calls { count, name } if count > 0 => {
                 self.called.entry(name).or_insert(place);
             }
-            Record::Function(name) => {
+            Record::Function { name, .. } => {
                 if let Some(earlier) = self.called.remove(name) {
                     let what = What::Function(name);
                     self.found.push(Found::new(place, earlier, what));
@@ -211,12 +317,13 @@ impl<'a> Guard<'a> {
         // A new map, since clearing one takes as long as it once was large.
         self.called = HashMap::new();
         let found = &mut self.found;
-        self.lines.take_repeated(|line, later, earlier| {
+        self.lines.take_repeated(line_of, |line, later, earlier| {
             found.push(Found::new(later, earlier, What::Line(line)));
         });
-        self.branches.take_repeated(|key, later, earlier| {
-            found.push(Found::new(later, earlier, What::Branch(key)));
-        });
+        self.branches
+            .take_repeated(branch_of, |key, later, earlier| {
+                found.push(Found::new(later, earlier, What::Branch(key)));
+            });
         self.keep(&section);
         self.found.sort_by_key(|found| found.later);
         for found in self.found.drain(..) {
@@ -227,12 +334,9 @@ impl<'a> Guard<'a> {
     /// A section that is not dropped: whether it has its test name, and whether it came before.
     fn keep(&mut self, section: &Section<'a>) {
         let Section { path, place, .. } = *section;
-        // A section after an empty TN has the empty name either way, so nothing is lost.
-        if let (None, Some((name, earlier))) = (section.test, self.last_test) {
-            if !name.is_empty() {
-                let what = What::TestName(path);
-                self.found.push(Found::new(place, earlier, what));
-            }
+        if let (None, Some(earlier), false) = (section.test, self.last_test, self.has_one_name) {
+            let what = What::TestName(path);
+            self.found.push(Found::new(place, earlier, what));
         }
         let key = (section.test.unwrap_or_default(), canonical(path));
         if let Some(earlier) = self.sections.insert(key, place) {

@@ -1,8 +1,13 @@
 //! Sections cut to ranges of lines.
 
+use crate::choice::choose;
 use crate::failure::Failure;
+use crate::path::canonical;
+use crate::sections::{path_of, printed_sections};
+use crate::tracefile::Tracefile;
 use crate::workspace::Workspace;
-use lcov_sys::{Refusal, EQUAL, WORDS};
+use lcov_sys::{Refusal, MAX_ENTRIES, WORDS};
+use std::collections::{BTreeMap, BTreeSet};
 use std::ffi::{OsStr, OsString};
 use std::os::unix::ffi::OsStrExt;
 use std::path::PathBuf;
@@ -32,8 +37,9 @@ impl Cut {
         })
     }
 
-    fn is_of(&self, path: &[u8]) -> bool {
-        lcov_sys::compare_paths(self.file.as_bytes(), path) == EQUAL
+    /// The path that is meant, in canonical form.
+    fn chosen<'a>(&self, paths: &'a [Vec<u8>]) -> Result<&'a [u8], Failure> {
+        choose(self.file.as_bytes(), paths).map_err(Failure::Choice)
     }
 }
 
@@ -71,32 +77,36 @@ fn range_of(range: &str) -> Option<[u32; 2]> {
     (pair[0] <= pair[1]).then_some(pair)
 }
 
-/// The report with each section of a file that is to be cut cut to all lines that are named for it.
-pub fn keep(joined: Vec<u8>, cuts: &[Cut]) -> Result<Vec<u8>, Failure> {
+/// The tracefile with each section of a file that is to be cut cut to all lines that are named for it.
+pub fn keep(joined: Tracefile, cuts: &[Cut]) -> Result<Tracefile, Failure> {
     if cuts.is_empty() {
         return Ok(joined);
     }
-    let mut workspace = Workspace::new();
-    let mut kept = Vec::with_capacity(joined.len());
-    let mut met = vec![false; cuts.len()];
-    for section in sections(&joined) {
-        let mut ranges = Vec::new();
-        for (cut, met) in cuts.iter().zip(&mut met) {
-            if cut.is_of(path_of(section)) {
-                *met = true;
-                ranges.extend(&cut.ranges);
-            }
-        }
-        if ranges.is_empty() {
-            kept.extend(section);
-        } else {
-            kept.extend(cut_to(section, &List::of(&ranges), &mut workspace)?);
+    let mut workspace = Workspace::default();
+    let mut kept = Vec::new();
+    let slices = joined.slices();
+    let paths = paths_of(&slices);
+    let mut ranges: BTreeMap<&[u8], Vec<[u32; 2]>> = BTreeMap::new();
+    for cut in cuts {
+        let all = ranges.entry(cut.chosen(&paths)?).or_default();
+        all.extend(&cut.ranges);
+    }
+    for section in slices.iter().flat_map(|slice| printed_sections(slice)) {
+        match ranges.get(&canonical(path_of(section))[..]) {
+            Some(ranges) => kept.extend(cut_to(section, &List::of(ranges), &mut workspace)?),
+            None => kept.extend(section),
         }
     }
-    match cuts.iter().zip(met).find(|(_, met)| !met) {
-        Some((cut, _)) => Err(Failure::NoSection(cut.file.clone())),
-        None => Ok(kept),
-    }
+    Ok(Tracefile::whole(vec![kept]))
+}
+
+/// Each path once, however many test names have it.
+fn paths_of(slices: &[&[u8]]) -> Vec<Vec<u8>> {
+    let sections = slices.iter().flat_map(|slice| printed_sections(slice));
+    let paths: BTreeSet<Vec<u8>> = sections
+        .map(|section| canonical(path_of(section)))
+        .collect();
+    paths.into_iter().collect()
 }
 
 fn cut_to<'a>(
@@ -109,30 +119,6 @@ fn cut_to<'a>(
     };
     let path = PathBuf::from(OsStr::from_bytes(path_of(section)));
     workspace
-        .written(call, section.len())
+        .written(call, section.len(), MAX_ENTRIES)
         .map_err(|refusal| Failure::Refused(path, refusal))
-}
-
-/// Each with its end_of_record.
-fn sections(report: &[u8]) -> impl Iterator<Item = &[u8]> {
-    const END: &[u8] = b"end_of_record\n";
-    let mut rest = report;
-    std::iter::from_fn(move || {
-        let mut len = 0;
-        for line in rest.split_inclusive(|&byte| byte == b'\n') {
-            len += line.len();
-            if line == END {
-                break;
-            }
-        }
-        let (section, later) = rest.split_at(len);
-        rest = later;
-        (len > 0).then_some(section)
-    })
-}
-
-/// The second line of a printed section is its SF.
-fn path_of(section: &[u8]) -> &[u8] {
-    let line = section.split(|&byte| byte == b'\n').nth(1).unwrap_or(&[]);
-    line.strip_prefix(b"SF:").unwrap_or(&[])
 }

@@ -1,14 +1,18 @@
 //! The command line.
 
 use crate::failure::Failure;
-use crate::gathering::{Mode, Reading};
+use crate::gathering::{Mode, Reading, ROUND};
 use crate::lines::Cut;
+use crate::pieces::Meaning;
+use crate::rewrite::Rewriting;
 use clap::builder::ValueParser;
 use clap::error::ErrorKind;
 use clap::{value_parser, Arg, ArgAction, ArgMatches, Command, ValueHint};
 use clap_complete::shells::{Bash, Fish, Zsh};
 use std::ffi::OsString;
+use std::num::NonZeroUsize;
 use std::path::PathBuf;
+use std::thread;
 
 const NAME: &str = "lcov-gather";
 
@@ -18,19 +22,35 @@ files, or nothing is written. '-' is standard input.";
 
 const AFTER: &str = "\
 A file is refused in which a section, DA or BRDA replaces an earlier one, FN
-sets a count above 0 to 0, or a section has no TN after a TN that names a test:
-counts or test names would be lost. --as-written takes such files as they are.
+sets a count above 0 to 0, or a section has no TN after one with TN: counts or
+test names may be lost. --as-geninfo adds what comes again, and --as-written
+takes such files as they are.
 
-In every run the counts of the DA and BRDA lines of all files are added up and
-compared with those of the result.
+In every run the counts of the DA, BRDA and FNDA lines of all files are added
+up and compared with those of the result.
 
 Exit status: 0 done; 1 a tracefile was refused, and the message names the file
 and line; 2 wrong usage, or a file can't be read or written; 3 the sums of the
-files and of the result differ.";
+files and of the result differ; 4 done, but refused files are left out.";
+
+/// What is done with the files.
+#[derive(Debug, Clone, Copy, PartialEq, Eq)]
+pub enum Action {
+    /// All are gathered, or none.
+    Gather,
+    /// Those that are not refused are gathered.
+    KeepGoing,
+    /// They are read, and nothing is written.
+    Check,
+}
 
 pub struct Options {
     pub reading: Reading,
+    pub action: Action,
+    pub rewriting: Rewriting,
     pub quiet: bool,
+    /// The numbers of each file are told.
+    pub stats: bool,
     pub lines: Vec<Cut>,
     pub output: Option<PathBuf>,
     pub files: Vec<PathBuf>,
@@ -63,13 +83,19 @@ fn options(mut matches: ArgMatches) -> Result<Options, Failure> {
         Mode::Checked
     };
     let cuts = matches.remove_many::<OsString>("lines").unwrap_or_default();
+    let maps = matches.remove_many("map-path").unwrap_or_default();
     let output = matches.remove_one::<PathBuf>("output");
     Ok(Options {
         reading: Reading {
             mode,
-            as_written: matches.get_flag("as-written"),
+            meaning: meaning(&matches),
+            threads: threads(&matches),
+            round: ROUND,
         },
+        action: action(&matches),
+        rewriting: Rewriting::new(matches.remove_one("test-name"), maps)?,
         quiet: matches.get_flag("quiet"),
+        stats: matches.get_flag("stats"),
         lines: cuts.map(|cut| Cut::parse(&cut)).collect::<Result<_, _>>()?,
         output: output.filter(|path| path.as_os_str() != "-"),
         files: matches
@@ -80,6 +106,33 @@ fn options(mut matches: ArgMatches) -> Result<Options, Failure> {
     })
 }
 
+fn action(matches: &ArgMatches) -> Action {
+    if matches.get_flag("check") {
+        Action::Check
+    } else if matches.get_flag("keep-going") {
+        Action::KeepGoing
+    } else {
+        Action::Gather
+    }
+}
+
+fn meaning(matches: &ArgMatches) -> Meaning {
+    if matches.get_flag("as-geninfo") {
+        Meaning::Geninfo
+    } else if matches.get_flag("as-written") {
+        Meaning::AsWritten
+    } else {
+        Meaning::Guarded
+    }
+}
+
+/// One where the number of processors can't be told.
+fn threads(matches: &ArgMatches) -> usize {
+    let processors = || thread::available_parallelism().map_or(1, NonZeroUsize::get);
+    let named = matches.get_one::<u16>("threads");
+    named.map_or_else(processors, |&named| usize::from(named))
+}
+
 fn command() -> Command {
     Command::new(NAME)
         .version(env!("CARGO_PKG_VERSION"))
@@ -87,8 +140,10 @@ fn command() -> Command {
         .after_help(AFTER)
         .term_width(80)
         .args(reading_arguments())
+        .args(rewriting_arguments())
+        .args(action_arguments())
         .args(file_arguments())
-        .arg(flag("quiet", "Print no notes and no progress bar").short('q'))
+        .args(telling_arguments())
         .arg(
             Arg::new("completions")
                 .long("completions")
@@ -98,20 +153,50 @@ fn command() -> Command {
         )
 }
 
-fn reading_arguments() -> [Arg; 3] {
+fn reading_arguments() -> [Arg; 5] {
     let lossy =
         "Where start lines or checksums differ, the later wins; without it such files are refused";
     let as_written =
         "Take files in which one thing replaces another as they are; what is lost is told";
+    let as_geninfo =
+        "Read files as geninfo means them: TN holds up to the next one, and a section, DA, BRDA or FNDA that comes again adds";
     let lines =
         "Keep only these lines of the source file FILE, as 10-20, 7 or 100- with commas between; \
-        sections of other files stay as they are; given twice, all lines are kept";
+        FILE may be the end of a path that no other path has; sections of other files stay as \
+        they are; given twice, all lines are kept";
     [
         flag("lossy", lossy),
+        flag("as-geninfo", as_geninfo).conflicts_with("as-written"),
         flag("as-written", as_written),
+        value("threads", "N", value_parser!(u16).range(1..).into())
+            .help("Use N threads; without it, as many as there are processors"),
         value("lines", "FILE:RANGES", value_parser!(OsString))
             .action(ArgAction::Append)
             .help(lines),
+    ]
+}
+
+fn action_arguments() -> [Arg; 2] {
+    let check =
+        "Write nothing, and tell every refusal and every replacement of every file, and all \
+        conflicts between files";
+    let keep_going = "Leave refused files out, and tell them; the exit status is then 4";
+    [
+        flag("check", check).conflicts_with_all(["keep-going", "output", "lines", "stats"]),
+        flag("keep-going", keep_going),
+    ]
+}
+
+fn rewriting_arguments() -> [Arg; 2] {
+    let test_name = "Put all sections under this test name, so that the counts of all tests add up";
+    let map_path =
+        "In paths that begin with the folders FROM put TO in their place; may be given more than \
+        once, and the first that applies counts";
+    [
+        value("test-name", "NAME", value_parser!(OsString)).help(test_name),
+        value("map-path", "FROM=TO", value_parser!(OsString))
+            .action(ArgAction::Append)
+            .help(map_path),
     ]
 }
 
@@ -138,6 +223,15 @@ fn file_arguments() -> [Arg; 4] {
             .value_parser(value_parser!(PathBuf))
             .value_hint(ValueHint::FilePath)
             .help("The tracefiles, before those of --files-from"),
+    ]
+}
+
+fn telling_arguments() -> [Arg; 2] {
+    let stats =
+        "Tell how many numbers each tracefile has, and how many digits, leading zeros included";
+    [
+        flag("quiet", "Print no notes and no progress bar").short('q'),
+        flag("stats", stats),
     ]
 }
 

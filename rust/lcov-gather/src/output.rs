@@ -3,49 +3,62 @@
 use crate::failure::Failure;
 use crate::replace::replace;
 use std::fs::{self, Metadata, OpenOptions};
-use std::io::{self, ErrorKind, Write};
+use std::io::{self, BufWriter, ErrorKind, Write};
 use std::os::unix::fs::{FileTypeExt, MetadataExt};
 use std::os::unix::net::UnixStream;
 use std::path::{Path, PathBuf};
 
+/// Slices are written together up to so many bytes.
+const SHORT: usize = 64 << 10;
+
 /// As many links as Linux follows.
 const LINKS: usize = 40;
 
-pub fn print(bytes: &[u8]) -> Result<(), Failure> {
+/// Slices of a text, one after the other.
+pub fn print(slices: &[&[u8]]) -> Result<(), Failure> {
     let mut out = io::stdout().lock();
-    out.write_all(bytes)
+    write_slices(&mut out, slices)
         .and_then(|()| out.flush())
         .map_err(|error| Failure::File(PathBuf::from("standard output"), error))
 }
 
 /// A file is replaced, also where symbolic links lead to it. A device, a fifo or a socket is written to.
-pub fn write(path: &Path, bytes: &[u8]) -> Result<(), Failure> {
-    write_to(path, bytes).map_err(|error| Failure::File(path.to_owned(), error))
+pub fn write(path: &Path, slices: &[&[u8]]) -> Result<(), Failure> {
+    write_to(path, slices).map_err(|error| Failure::File(path.to_owned(), error))
 }
 
-fn write_to(path: &Path, bytes: &[u8]) -> io::Result<()> {
+fn write_to(path: &Path, slices: &[&[u8]]) -> io::Result<()> {
     let old = match fs::metadata(path) {
         Ok(old) => Some(old),
         Err(error) if error.kind() == ErrorKind::NotFound => None,
         Err(error) => return Err(error),
     };
     match old {
-        Some(old) if old.file_type().is_socket() => UnixStream::connect(path)?.write_all(bytes),
-        Some(old) if !old.is_file() => write_into(path, bytes),
+        Some(old) if old.file_type().is_socket() => {
+            write_slices(&mut UnixStream::connect(path)?, slices)
+        }
+        Some(old) if !old.is_file() => write_into(path, slices),
         old => {
             let target = target(path)?;
             if old.as_ref().is_some_and(|old| !is_at(&target, old)) {
                 // A link of /proc leads to an open file that has lost its name: there is nothing to replace.
-                return write_into(path, bytes);
+                return write_into(path, slices);
             }
-            replace(&target, old.as_ref(), bytes)
+            replace(&target, old.as_ref(), slices)
         }
     }
 }
 
-fn write_into(path: &Path, bytes: &[u8]) -> io::Result<()> {
+fn write_into(path: &Path, slices: &[&[u8]]) -> io::Result<()> {
     let mut file = OpenOptions::new().write(true).truncate(true).open(path)?;
-    file.write_all(bytes)
+    write_slices(&mut file, slices)
+}
+
+pub fn write_slices(out: &mut impl Write, slices: &[&[u8]]) -> io::Result<()> {
+    // Short slices are put together; long ones are written from where they are.
+    let mut out = BufWriter::with_capacity(SHORT, out);
+    slices.iter().try_for_each(|slice| out.write_all(slice))?;
+    out.flush()
 }
 
 fn is_at(path: &Path, file: &Metadata) -> bool {

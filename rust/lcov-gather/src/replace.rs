@@ -1,8 +1,8 @@
 //! A file replaced by a new one beside it, which takes its name: a reader sees the old file or the new one, whatever happens on the way.
 
-use crate::output::folder_of;
+use crate::output::{folder_of, write_slices};
 use std::fs::{File, Metadata, Permissions};
-use std::io::{self, ErrorKind, Write};
+use std::io::{self, ErrorKind};
 use std::os::unix::fs::{fchown, MetadataExt, PermissionsExt};
 use std::path::Path;
 use tempfile::Builder;
@@ -12,13 +12,13 @@ use tempfile::Builder;
 pub const PREFIX: &str = ".lcov-gather-";
 
 /// Nobody but its owner can open the new file (tempfile makes it so) until it has the owner, the group and then the mode that it keeps.
-pub fn replace(path: &Path, old: Option<&Metadata>, bytes: &[u8]) -> io::Result<()> {
+pub fn replace(path: &Path, old: Option<&Metadata>, slices: &[&[u8]]) -> io::Result<()> {
     let folder = folder_of(path);
     let mut new = Builder::new()
         .prefix(PREFIX)
         .suffix(".tmp")
         .tempfile_in(folder)?;
-    new.write_all(bytes)?;
+    write_slices(&mut new, slices)?;
     let mode = match old {
         Some(old) => kept_mode(old.mode(), keep_owner(new.as_file(), old)),
         None => 0o666 & !umask(),

@@ -13,6 +13,11 @@ pub fn tell(what: impl Display) {
     let _ = writeln!(io::stderr(), "lcov-gather: {what}");
 }
 
+/// One line on standard error as it is: an answer to what was asked for, and no message.
+pub fn tell_plainly(what: impl Display) {
+    let _ = writeln!(io::stderr(), "{what}");
+}
+
 pub struct Reporter {
     quiet: bool,
     started: Instant,

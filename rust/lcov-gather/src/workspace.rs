@@ -3,33 +3,33 @@
 use lcov_sys::{Refusal, MAX_ENTRIES, OUTPUT_TOO_SHORT, WORDS, WORDS_PER_ENTRY};
 
 /// The length of an output is a multiple of it.
-const STEP: usize = 16 << 20;
+const STEP: usize = 1 << 20;
 
-/// Scratch for as many entries as there may be, and an output. Memory is mapped where a call writes, so a long output that is not used costs
-/// nothing.
+/// Scratch and an output, as long as the calls so far needed them.
+#[derive(Default)]
 pub struct Workspace {
     scratch: Vec<u64>,
     out: Vec<u8>,
 }
 
 impl Workspace {
-    pub fn new() -> Self {
-        Workspace {
-            scratch: vec![0; MAX_ENTRIES * WORDS_PER_ENTRY],
-            out: Vec::new(),
-        }
-    }
-
-    /// What a call writes that reads so many bytes, given an output that it finds long enough: at most twice.
+    /// What a call writes that reads so many bytes, given an output that it finds long enough: at most twice. The scratch allows so many
+    /// entries, or the most; a short one stays in the processor's caches.
     pub fn written(
         &mut self,
         call: impl Fn(&mut [u64], &mut [u8], &mut [u64]) -> u32,
         read: usize,
+        entries: usize,
     ) -> Result<&[u8], Refusal> {
         self.lengthen(lcov_sys::roomy(read));
+        let words = entries.min(MAX_ENTRIES) * WORDS_PER_ENTRY;
+        if self.scratch.len() < words {
+            self.scratch = Vec::new();
+            self.scratch = vec![0; words];
+        }
         loop {
             let mut answer = [0; WORDS];
-            let number = call(&mut self.scratch, &mut self.out, &mut answer);
+            let number = call(&mut self.scratch[..words], &mut self.out, &mut answer);
             match Refusal::unless_answered(number, answer) {
                 Ok(len) => return Ok(&self.out[..len as usize]),
                 Err(refusal)
@@ -42,29 +42,11 @@ impl Workspace {
         }
     }
 
-    /// What the last call wrote, `len` bytes.
-    pub fn last(&self, len: usize) -> &[u8] {
-        &self.out[..len]
-    }
-
-    /// The same, and the scratch is freed.
-    pub fn into_written(self, len: usize) -> Vec<u8> {
-        let mut out = self.out;
-        out.truncate(len);
-        out
-    }
-
     /// The old output is dropped and not copied, which would touch both. The new one is long enough for a slightly longer round too.
     fn lengthen(&mut self, len: usize) {
         if self.out.len() < len {
             self.out = Vec::new();
             self.out = vec![0; len.next_multiple_of(STEP)];
         }
-    }
-}
-
-impl Default for Workspace {
-    fn default() -> Self {
-        Workspace::new()
     }
 }

@@ -10,7 +10,17 @@ use lcov_gather::run::{run, run_from};
 use std::ffi::OsString;
 use std::fs;
 
-const BRANCHES: &str = "TN:\nSF:y\nBRDA:1,0,0,5\nBRDA:1,0,1,-\nend_of_record\n";
+const BRANCHES: &str =
+    "TN:\nSF:y\nFN:1,f\nFNDA:4,f\nFNDA:5,f\nBRDA:1,0,0,5\nBRDA:1,0,1,-\nend_of_record\n";
+
+fn sums(lines: u128, branches: u128, calls: u128) -> Sums {
+    Sums {
+        lines,
+        branches,
+        calls,
+        full: 0,
+    }
+}
 
 fn folder() -> Folder {
     let a = section("x", &[(1, 1), (2, 3)]);
@@ -29,9 +39,13 @@ fn options(folder: &Folder, option: &str) -> Options {
 
 #[test]
 fn a_sum_that_begins_above_0_is_refused() {
-    for (lines, branches, told) in [(1, 0, "count 5 and"), (0, 1, "lines 6 and 5")] {
+    for (start, told) in [
+        (sums(1, 0, 0), "count 5 and"),
+        (sums(0, 1, 0), "BRDA lines 6 and 5"),
+        (sums(0, 0, 1), "FNDA lines 10 and 9"),
+    ] {
         let folder = folder();
-        let failure = run_from(&options(&folder, ""), Sums { lines, branches }).unwrap_err();
+        let failure = run_from(&options(&folder, ""), start).unwrap_err();
         assert!(matches!(failure, Failure::Audit(_)));
         assert_eq!(failure.status(), 3);
         let message = failure.to_string();
@@ -45,11 +59,7 @@ fn a_sum_that_begins_above_0_is_refused() {
 #[test]
 fn as_written_a_difference_is_no_refusal() {
     let folder = folder();
-    let start = Sums {
-        lines: 1,
-        branches: 0,
-    };
-    run_from(&options(&folder, "--as-written"), start).unwrap();
+    run_from(&options(&folder, "--as-written"), sums(1, 0, 0)).unwrap();
     assert!(folder.text("out").contains("DA:2,3\n"));
 }
 
@@ -58,13 +68,7 @@ fn the_sums_of_a_run_begin_at_0() {
     let folder = folder();
     run(&options(&folder, "")).unwrap();
     let whole = folder.text("out");
-    assert_eq!(
-        Sums::of(whole.as_bytes()),
-        Sums {
-            lines: 4,
-            branches: 5
-        }
-    );
+    assert_eq!(Sums::of(whole.as_bytes()), sums(4, 5, 9));
     // The result is compared before it is cut.
     fs::write(folder.path("out"), "old").unwrap();
     run(&options(&folder, "--lines=x:1")).unwrap();

@@ -15,7 +15,7 @@ fn gathered(options: &[&str], texts: &[&str]) -> Result<String, String> {
         Ok(common::printed(&output))
     } else {
         assert_eq!(output.status.code(), Some(1));
-        Err(common::said(&output)
+        Err(common::said_in_short(&output)
             .trim_end()
             .replacen("lcov-gather: ", "", 1))
     }
@@ -46,7 +46,7 @@ fn refuses(texts: &[&str], said: &str) {
 fn replaces(replacing: &str, printed: &str, said: &str) {
     let as_written = gathered(&["--as-written"], &[replacing]);
     assert_eq!(as_written, Ok(text(printed)), "{replacing}");
-    let advice = "refused, since counts or test names would be lost; --as-written takes such files";
+    let advice = "refused, since counts or test names may be lost; --as-geninfo adds them up, --as-written takes the file as it is";
     let refused = Err(format!("{said}\nlcov-gather: {advice}"));
     assert_eq!(gathered(&[], &[replacing]), refused, "{replacing}");
 }
@@ -107,9 +107,27 @@ fn fn_after_fnda_sets_the_count_to_0() {
 }
 
 #[test]
-fn the_last_sf_names_all_lines() {
-    let two = text("DA:1,1 SF:a DA:2,1 SF:b end_of_record");
-    prints(&[&two], "TN: SF:b DA:1,1 DA:2,1 LF:2 LH:2 end_of_record");
+fn a_section_has_one_sf() {
+    prints(
+        &[&text(
+            "DA:1,1 SF:a DA:2,1 end_of_record SF:b DA:1,1 end_of_record",
+        )],
+        "TN: SF:a DA:1,1 DA:2,1 LF:2 LH:2 end_of_record TN: SF:b DA:1,1 LF:1 LH:1 end_of_record",
+    );
+    let said = "t0:4: second SF in a section (refusal 25)";
+    for [first, second] in [
+        ["SF:a", "SF:b"],
+        ["SF:a", "SF:a"],
+        ["SF:", "SF:a"],
+        ["SF:a", "SF:"],
+    ] {
+        let two = text(&format!("DA:1,1 {first} DA:2,1 {second} end_of_record"));
+        refuses(&[&two], said);
+        let mixed = text(&format!("DA:1,1 {first} DA:1,1 {second} end_of_record"));
+        for text in [two, mixed] {
+            assert_eq!(gathered(&["--as-geninfo"], &[&text]), Err(said.to_owned()));
+        }
+    }
 }
 
 #[test]
@@ -152,9 +170,9 @@ fn counts_with_a_sign() {
         &[&section("DA:1,-3")],
         "t0:2: field 2: bad digit (refusal 5)",
     );
-    prints(
+    refuses(
         &[&section("DA:1,+3")],
-        "TN: SF:m DA:1,3 LF:1 LH:1 end_of_record",
+        "t0:2: field 2: number with a plus sign (refusal 19)",
     );
 }
 

@@ -2,14 +2,14 @@
 
 mod common;
 
-use common::{printed, said, Folder};
-use lcov_gather::audit::Sums;
-use lcov_gather::gathering::scan;
-use lcov_gather::guard::Replacements;
+use common::{printed, said, said_in_short, Folder, Random};
+use lcov_gather::guard::Guard;
+use lcov_gather::pieces::Meaning;
+use lcov_gather::scan::scan;
 use lcov_sys::{Refusal, WORDS, WORDS_PER_ENTRY};
 
 const ADVICE: &str =
-    "lcov-gather: refused, since counts or test names would be lost; --as-written takes such files\n";
+    "lcov-gather: refused, since counts or test names may be lost; --as-geninfo adds them up, --as-written takes the file as it is\n";
 
 /// Lines parted by blanks, each with byte 10 after it.
 fn text(lines: &str) -> String {
@@ -51,12 +51,12 @@ fn a_section_that_came_before() {
             "a:5: the section without a path replaces the one at a:3",
         ],
     );
-    // The last SF and the last TN name a section.
+    // The last TN names a section, and so does its SF, wherever it stands.
     refuses(
-        "TN:s TN:t SF:b DA:1,1 SF:a end_of_record TN:t SF:a DA:2,1 end_of_record",
-        &["a:8: the section of a replaces the one at a:5"],
+        "TN:s TN:t DA:1,1 SF:a end_of_record TN:t SF:a DA:2,1 end_of_record",
+        &["a:7: the section of a replaces the one at a:4"],
     );
-    takes("TN:t SF:a DA:1,1 SF:b end_of_record TN:t SF:a DA:2,1 end_of_record");
+    takes("TN:t DA:1,1 SF:b end_of_record TN:t SF:a DA:2,1 end_of_record");
     takes("TN:t SF:a DA:1,1 end_of_record TN:u SF:a DA:1,1 end_of_record");
     takes("SF:a DA:1,1 end_of_record SF:./a DA:1,1 end_of_record SF:/a DA:1,1 end_of_record");
 }
@@ -64,14 +64,14 @@ fn a_section_that_came_before() {
 #[test]
 fn a_line_or_branch_that_came_before() {
     refuses(
-        "SF:a DA:01,1 DA:2,1 DA:+1,0 DA:1,5,sum end_of_record",
+        "SF:a DA:01,1 DA:2,1 DA:001,0 DA:1,5,sum end_of_record",
         &[
             "a:4: DA:1 replaces the one at a:2",
             "a:5: DA:1 replaces the one at a:4",
         ],
     );
     refuses(
-        "SF:a BRDA:1,0,0,1 BRDA:1,0,1,1 DA:7,1 BRDA:+1,00,0,- DA:7,1 end_of_record",
+        "SF:a BRDA:1,0,0,1 BRDA:1,0,1,1 DA:7,1 BRDA:01,00,0,- DA:7,1 end_of_record",
         &[
             "a:5: BRDA:1,0,0 replaces the one at a:2",
             "a:6: DA:7 replaces the one at a:4",
@@ -110,8 +110,30 @@ fn a_section_without_its_test_name() {
     );
     takes("SF:a DA:1,1 end_of_record TN:t SF:b DA:1,1 end_of_record");
     takes("TN:t SF:a DA:1,1 end_of_record SF:b LF:1 end_of_record");
-    takes("TN:t SF:a DA:1,1 end_of_record TN: SF:b DA:1,1 end_of_record SF:c DA:1,1 end_of_record");
-    takes("TN: SF:a DA:1,1 end_of_record SF:b DA:1,1 end_of_record TN:t");
+}
+
+/// The name is the empty one either way; the section is refused all the same, and `--as-geninfo` takes it.
+#[test]
+fn a_section_without_tn_after_an_empty_one() {
+    let lines = "TN: SF:a DA:1,1 end_of_record SF:b DA:1,1 end_of_record TN:t";
+    refuses(
+        lines,
+        &["a:5: the section of b has no TN, and the TN at a:1 is not for it"],
+    );
+    refuses(
+        "TN:t SF:a DA:1,1 end_of_record TN SF:b DA:1,1 end_of_record SF:c DA:1,1 end_of_record",
+        &["a:9: the section of c has no TN, and the TN at a:5 is not for it"],
+    );
+    takes("TN: SF:a DA:1,1 end_of_record TN: SF:b DA:1,1 end_of_record");
+    takes("TN: SF:a DA:1,1 end_of_record SF:b LF:1 end_of_record");
+    let folder = Folder::with(&[("a", &text(lines))]);
+    let expected =
+        text("TN: SF:a DA:1,1 LF:1 LH:1 end_of_record TN: SF:b DA:1,1 LF:1 LH:1 end_of_record");
+    for option in ["--as-geninfo", "--as-written", "--test-name="] {
+        let output = folder.run(&[option, "a"]);
+        assert_eq!(printed(&output), expected, "{option}");
+        assert_eq!(said(&output), "", "{option}");
+    }
 }
 
 #[test]
@@ -187,7 +209,7 @@ fn the_library_refuses_first() {
     ] {
         let output = folder.run(words);
         assert_eq!(output.status.code(), Some(1), "{words:?}");
-        assert_eq!(said(&output), format!("lcov-gather: {expected}\n"));
+        assert_eq!(said_in_short(&output), format!("lcov-gather: {expected}\n"));
     }
 }
 
@@ -202,28 +224,14 @@ fn what_as_written_loses_is_told() {
     assert_eq!(printed(&output), expected);
     assert_eq!(
         said(&output),
-        "lcov-gather: the DA lines of the files count 7 and those of the result 4, the BRDA lines 7 and 0\n"
+        "lcov-gather: the DA lines of the files count 7 and those of the result 4, the BRDA lines 7 and 0, the FNDA lines 0 and 0\n"
     );
     let quiet = folder.run(&["--as-written", "--quiet", "a"]);
     assert_eq!(printed(&quiet), expected);
     assert_eq!(said(&quiet), "");
 }
 
-/// A generator of numbers below a bound (xorshift), the same in each run.
-struct Random(u64);
-
 impl Random {
-    fn below(&mut self, bound: usize) -> usize {
-        self.0 ^= self.0 << 13;
-        self.0 ^= self.0 >> 7;
-        self.0 ^= self.0 << 17;
-        (self.0 >> 11) as usize % bound
-    }
-
-    fn of<'a>(&mut self, words: &[&'a str]) -> &'a str {
-        words[self.below(words.len())]
-    }
-
     fn line(&mut self) -> String {
         match self.below(8) {
             0 => format!("SF:{}", self.of(&["x", "x/.", "x//", "./x", "y", ""])),
@@ -234,7 +242,7 @@ impl Random {
                 self.of(&["f", "g"])
             ),
             3 | 4 => {
-                let key = (self.of(&["1", "2", "3", "+1"]), self.of(&["0", "1", "00"]));
+                let key = (self.of(&["1", "2", "3", "01"]), self.of(&["0", "1", "00"]));
                 format!("BRDA:{},{},0,{}", key.0, key.1, self.of(&["-", "0", "2"]))
             }
             5 => "LF:1".to_owned(),
@@ -252,8 +260,14 @@ impl Random {
             for _ in 0..self.below(2) {
                 text += &format!("TN:{}\n", self.of(&["", "t", "u"]));
             }
+            let mut has_path = false;
             for _ in 0..self.below(5) {
-                text += &(self.line() + "\n");
+                let line = self.line();
+                let is_path = line.starts_with("SF:");
+                if !(is_path && has_path) {
+                    text += &(line + "\n");
+                }
+                has_path |= is_path;
             }
             text += "end_of_record\n";
         }
@@ -285,17 +299,14 @@ fn measure(text: &str) -> [u64; 4] {
     measured
 }
 
-/// Whether a section with items has no TN after one with a name.
-fn loses_a_name(text: &str) -> bool {
-    let mut last = "";
+/// Whether a section with items has no TN after one with TN.
+fn lacks_a_tn(text: &str) -> bool {
+    let mut has_come = false;
     text.split_terminator("end_of_record\n").any(|section| {
-        let own = section
-            .lines()
-            .filter_map(|line| line.strip_prefix("TN:"))
-            .next_back();
-        let lost = own.is_none() && !last.is_empty() && measure(section)[0] > 0;
-        last = own.unwrap_or(last);
-        lost
+        let has_own = section.lines().any(|line| line.starts_with("TN:"));
+        let lacks = has_come && !has_own && measure(section)[0] > 0;
+        has_come |= has_own;
+        lacks
     })
 }
 
@@ -307,21 +318,15 @@ fn read_by_library(text: &str) -> String {
     String::from_utf8(out[..len as usize].to_vec()).unwrap()
 }
 
-/// Nothing is found exactly where the library's report has all sections, lines, branches, calls and test names of the text.
+/// Nothing is found exactly where the library's report has all sections, lines, branches and calls of the text, and no section lacks its TN.
 #[test]
 fn silent_exactly_where_nothing_is_lost() {
     let mut random = Random(0x9e37_79b9_7f4a_7c15);
     let (mut silent, mut loud) = (0, 0);
     for _ in 0..100_000 {
         let text = random.text();
-        let mut replaced = Replacements::default();
-        scan(
-            text.as_bytes(),
-            "a",
-            &mut Sums::default(),
-            Some(&mut replaced),
-        );
-        let is_whole = measure(&text) == measure(&read_by_library(&text)) && !loses_a_name(&text);
+        let replaced = scan(text.as_bytes(), "a", Meaning::Guarded, Guard::default()).replaced;
+        let is_whole = measure(&text) == measure(&read_by_library(&text)) && !lacks_a_tn(&text);
         assert_eq!(replaced.is_empty(), is_whole, "{text}");
         *(if is_whole { &mut silent } else { &mut loud }) += 1;
     }

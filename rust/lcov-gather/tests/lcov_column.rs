@@ -3,7 +3,7 @@
 
 mod common;
 
-use common::{missing, printed, said, Folder};
+use common::{missing, printed, said, said_in_short, Folder};
 use std::collections::BTreeSet;
 use std::path::Path;
 use std::process::{Command, Output};
@@ -152,7 +152,7 @@ const CASES: &[Case] = &[
         "second SF in a section",
         &["SF:a DA:1,1 SF:b DA:2,1 end"],
         writes("TN: SF:b FNF:0 FNH:0 DA:2,1 LF:1 LH:1 end"),
-        writes("TN: SF:b DA:1,1 DA:2,1 LF:2 LH:2 end"),
+        fails("t0:3: second SF in a section (refusal 25)"),
     ),
     case(
         "one path in two spellings",
@@ -275,7 +275,7 @@ const CASES: &[Case] = &[
         "count with a plus sign",
         &["SF:m DA:1,1 DA:2,+3 end"],
         writes("TN: SF:m FNF:0 FNH:0 DA:1,1 LF:1 LH:1 end"),
-        writes("TN: SF:m DA:1,1 DA:2,3 LF:2 LH:2 end"),
+        fails("t0:3: field 2: number with a plus sign (refusal 19)"),
     ),
     case(
         "repeated DA",
@@ -528,7 +528,7 @@ fn run_port(case: &Case, options: &[&str]) -> Result<String, String> {
         return Ok(printed(&output));
     }
     assert_eq!(output.status.code(), Some(1));
-    Err(said(&output))
+    Err(said_in_short(&output))
 }
 
 #[test]

@@ -94,6 +94,17 @@ fn peak_of(command: &mut Command) -> (i32, i64) {
     (status, usage.ru_maxrss * 1024)
 }
 
+/// The peak of the command over the files that a list names, in bytes.
+fn peak_over(folder: &Folder, names: &[String], options: &[&str]) -> i64 {
+    fs::write(folder.path("list"), names.join("\n")).unwrap();
+    let words = ["--files-from", "list", "-o", "out"];
+    let mut command = folder.command(&[&words[..], options].concat());
+    let (status, peak) = peak_of(command.stdin(Stdio::null()));
+    assert_eq!(status, 0, "{}", said(&command.output().unwrap()));
+    assert!(!folder.text("out").is_empty());
+    peak
+}
+
 #[test]
 fn many_files_stay_under_60_mb() {
     let folder = Folder::new();
@@ -101,14 +112,28 @@ fn many_files_stay_under_60_mb() {
     let len = |name: &String| fs::metadata(folder.path(name)).unwrap().len();
     let bytes: u64 = names.iter().map(len).sum();
     assert!(bytes > 130_000_000, "{bytes}");
-    fs::write(folder.path("list"), names.join("\n")).unwrap();
-    let words = ["--files-from", "list", "-o", "out"];
-    for options in [&[][..], &["--as-written"]] {
-        let mut command = folder.command(&[&words[..], options].concat());
-        let (status, peak) = peak_of(command.stdin(Stdio::null()));
-        assert_eq!(status, 0, "{}", said(&command.output().unwrap()));
+    for options in [&[][..], &["--as-written"], &["--as-geninfo"], &["--lossy"]] {
+        let peak = peak_over(&folder, &names, options);
         println!("{} MB, peak {} kB", bytes / 1_000_000, peak / 1000);
         assert!(peak < LIMIT, "{options:?}: {peak}");
-        assert!(!folder.text("out").is_empty());
+    }
+}
+
+/// A round holds at most 64 files, also where they are short of its 24 MiB: 160 files, of 14 MB more than 64, take no more memory. By one
+/// thread, since several share the files of a round otherwise in each run.
+#[test]
+fn no_more_than_64_files_are_held() {
+    let folder = Folder::new();
+    let text = generated();
+    let names: Vec<String> = (0..160).map(|number| format!("{number}.info")).collect();
+    for name in &names {
+        fs::write(folder.path(name), &text).unwrap();
+    }
+    assert!(text.len() > 120_000 && 160 * text.len() < 24 << 20);
+    for options in [&[][..], &["--as-written"], &["--as-geninfo"], &["--lossy"]] {
+        let words = [&["--threads", "1"], options].concat();
+        let [few, many] = [64, 160].map(|count| peak_over(&folder, &names[..count], &words));
+        println!("{options:?}: {} kB, {} kB", few / 1000, many / 1000);
+        assert!(many < few + 6_000_000, "{options:?}: {few} {many}");
     }
 }

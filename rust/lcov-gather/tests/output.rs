@@ -9,10 +9,12 @@ use std::io::Read;
 use std::os::fd::FromRawFd;
 use std::os::unix::ffi::OsStrExt;
 use std::os::unix::fs::{chown, symlink, FileTypeExt, MetadataExt, PermissionsExt};
-use std::os::unix::net::UnixListener;
+use std::os::unix::net::{UnixListener, UnixStream};
 use std::os::unix::process::CommandExt;
 use std::path::Path;
 use std::process::Command;
+use std::thread;
+use std::time::Duration;
 
 fn folder() -> Folder {
     Folder::with(&[("a", &result())])
@@ -84,6 +86,10 @@ fn a_socket_is_written_to() {
     assert_eq!(received, result());
     // Nobody listens: an error, and the socket stays.
     drop((stream, listener));
+    // A child that another test starts holds the listener until it runs its own program.
+    while UnixStream::connect(folder.path("out")).is_ok() {
+        thread::sleep(Duration::from_millis(1));
+    }
     let output = folder.run(&["-o", "out", "a"]);
     assert_eq!(output.status.code(), Some(2));
     assert!(said(&output).starts_with("lcov-gather: out: "));
@@ -261,7 +267,10 @@ fn a_file_of_somebody_else_is_not_more_readable_after() {
     }
     let folder = folder();
     chown(&folder.0, Some(12_345), Some(12_345)).unwrap();
-    fs::copy(common::COMMAND, folder.path("command")).unwrap();
+    // Another process copies it: a file that this one writes to may be open in a child that another test starts, and then can't be run.
+    let mut copy = Command::new("cp");
+    let copy = copy.arg(common::COMMAND).arg(folder.path("command"));
+    assert!(copy.status().unwrap().success());
     for (mode, group, expected) in [
         (0o640, 0, 0o600),
         (0o644, 0, 0o644),

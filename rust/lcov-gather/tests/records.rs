@@ -18,7 +18,10 @@ fn by_library(line: &[u8]) -> Option<Record<'_>> {
     Some(match kind {
         1 => Record::TestName(text),
         2 => Record::SourceFile(text),
-        3 => Record::Function(text),
+        3 => Record::Function {
+            start: a as u32,
+            name: text,
+        },
         4 => Record::Calls {
             count: a,
             name: text,
@@ -30,6 +33,7 @@ fn by_library(line: &[u8]) -> Option<Record<'_>> {
         10 => Record::Line {
             line: a as u32,
             count: b,
+            checksum: (given == 1).then_some(text),
         },
         13 => Record::End,
         _ => Record::Found,
@@ -106,6 +110,29 @@ fn every_combination_of_fields() {
         }
     }
     assert!(taken > 20_000, "{taken}");
+}
+
+/// The audit must not add up what the library would refuse.
+#[test]
+fn no_number_has_a_plus_sign() {
+    for line in [
+        "DA:+1,1",
+        "DA:1,+1",
+        "DA:1,+",
+        "FN:+1,f",
+        "FNDA:+1,f",
+        "BRDA:+1,0,0,1",
+        "BRDA:1,+0,0,1",
+        "BRDA:1,0,+0,1",
+        "BRDA:1,0,0,+1",
+        "BRDA:1,0,0,+-",
+    ] {
+        assert_eq!(by_library(line.as_bytes()), None, "{line}");
+        assert_eq!(parse(line.as_bytes()), None, "{line}");
+    }
+    for line in ["TN:+1", "SF:+1", "FN:1,+f", "FNDA:1,+1,f", "DA:1,2,+5"] {
+        assert!(agrees(line.as_bytes()), "{line}");
+    }
 }
 
 #[test]

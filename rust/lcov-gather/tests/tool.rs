@@ -2,7 +2,7 @@
 
 mod common;
 
-use common::{missing, printed, said, say_loudly, section, Folder};
+use common::{missing, printed, said, said_in_short, say_loudly, section, Folder};
 use std::fs;
 use std::path::{Path, PathBuf};
 use std::process::Command;
@@ -44,7 +44,7 @@ fn a_refusal_names_file_line_and_field_and_leaves_the_output() {
     let output = folder.run(&["-o", "release", "good", "bad"]);
     assert_eq!(output.status.code(), Some(1));
     assert_eq!(
-        said(&output),
+        said_in_short(&output),
         "lcov-gather: bad:2: field 2: bad digit (refusal 5)\n"
     );
     assert_eq!(folder.text("release"), "the last release\n");
@@ -58,7 +58,7 @@ fn start_lines_that_differ_are_refused_unless_lossy() {
     let output = folder.run(&["a", "b"]);
     assert_eq!(output.status.code(), Some(1));
     assert_eq!(
-        said(&output),
+        said_in_short(&output),
         "lcov-gather: b: the start lines of a function differ (refusal 11)\n"
     );
     assert_eq!(
@@ -87,12 +87,52 @@ fn lines_of_one_file_are_kept() {
     let none = folder.run(&["--lines", "src/decoder.c:2-9,30-", "a"]);
     let emptied = "TN:\nSF:src/decoder.c\nend_of_record\n".to_owned();
     assert_eq!(printed(&none), emptied + &other);
-    let unknown = folder.run(&["--lines", "decoder.c:1-2", "a"]);
-    assert_eq!(unknown.status.code(), Some(2));
-    assert_eq!(
-        said(&unknown),
-        "lcov-gather: no section is of the file decoder.c\n"
-    );
+}
+
+/// FILE is the end of one path; of several, or of none, there is no output.
+#[test]
+fn lines_of_a_file_that_is_named_by_the_end_of_its_path() {
+    let decoder = |lines| section("/build/x/src/decoder.c", lines);
+    let other = |lines| section("/build/x/lib/decoder.c", lines);
+    let of_test = decoder(&[(1, 1), (2, 2)]).replace("TN:", "TN:t");
+    let all = decoder(&[(1, 1), (2, 2)]) + &other(&[(1, 1)]) + &of_test;
+    let folder = Folder::with(&[("a", &all), ("out", "old")]);
+    let cut = printed(&folder.run(&["--lines", "src/decoder.c:2", "a"]));
+    let of_test = decoder(&[(2, 2)]).replace("TN:", "TN:t");
+    assert_eq!(cut, other(&[(1, 1)]) + &decoder(&[(2, 2)]) + &of_test);
+    let twice = [
+        "--lines",
+        "src/decoder.c:2",
+        "--lines",
+        "/build/x/src/decoder.c:1",
+        "a",
+    ];
+    assert_eq!(printed(&folder.run(&twice)).matches("DA:").count(), 5);
+    for (file, told) in [
+        (
+            "decoder.c",
+            "the paths of 2 files end with decoder.c; name more of the one that is meant\n  \
+            /build/x/lib/decoder.c\n  /build/x/src/decoder.c\n",
+        ),
+        (
+            "rc/decoder.c",
+            "no section is of the file rc/decoder.c; the nearest are\n  \
+            /build/x/lib/decoder.c\n  /build/x/src/decoder.c\n",
+        ),
+        (
+            "rc/decode.c",
+            "no section is of the file rc/decode.c; the nearest are\n  \
+            /build/x/src/decoder.c\n  /build/x/lib/decoder.c\n",
+        ),
+    ] {
+        let output = folder.run(&["-o", "out", "--lines", &format!("{file}:1"), "a"]);
+        assert_eq!(output.status.code(), Some(2));
+        assert_eq!(said(&output), format!("lcov-gather: {told}"));
+        assert_eq!(folder.text("out"), "old");
+    }
+    fs::write(folder.path("empty"), "").unwrap();
+    let none = folder.run(&["-q", "--lines", "x:1", "empty"]);
+    assert_eq!(said(&none), "lcov-gather: no section is of the file x\n");
 }
 
 /// More files than a bundle names: the sums are those of all, in every place of the fold.
@@ -113,7 +153,7 @@ fn two_hundred_files_are_gathered() {
     let output = folder.run(&words);
     assert_eq!(output.status.code(), Some(1));
     assert_eq!(
-        said(&output),
+        said_in_short(&output),
         "lcov-gather: f150:2: field 2: number empty (refusal 4)\n"
     );
 }
@@ -146,8 +186,14 @@ fn help_tells_every_option() {
     let page = page.unwrap();
     for option in [
         "--lossy",
+        "--as-geninfo",
         "--as-written",
+        "--threads",
         "--lines",
+        "--test-name",
+        "--map-path",
+        "--check",
+        "--keep-going",
         "-o",
         "--output",
         "--files-from",
@@ -155,6 +201,7 @@ fn help_tells_every_option() {
         "--null",
         "-q",
         "--quiet",
+        "--stats",
         "--completions",
         "-h",
         "--help",
@@ -205,7 +252,7 @@ fn completion_scripts() {
 fn bash_completes_an_option() {
     let folder = Folder::new();
     let script = printed(&folder.run(&["--completions", "bash"]));
-    let ask = "COMP_WORDS=(lcov-gather --as); COMP_CWORD=1; _lcov-gather lcov-gather --as lcov-gather; echo ${COMPREPLY[@]}";
+    let ask = "COMP_WORDS=(lcov-gather --as-w); COMP_CWORD=1; _lcov-gather lcov-gather --as-w lcov-gather; echo ${COMPREPLY[@]}";
     let mut bash = Command::new("bash");
     match bash.args(["-c", &format!("{script}\n{ask}")]).output() {
         Ok(answer) => assert_eq!(printed(&answer), "--as-written\n"),

@@ -47,6 +47,8 @@ faults! {
     16 MalformedBundle "the bundle is not well formed" "",
     17 PartOutside "a record's text part is outside the lent text" "",
     18 MalformedRanges "the range list is not well formed" "",
+    19 SignedNumber "number with a plus sign" "text, line, field",
+    25 SecondSourceFile "second SF in a section" "text, line",
 }
 
 impl Fault {
@@ -69,11 +71,12 @@ mod tests {
 
     #[test]
     fn each_number_has_its_fault() {
-        for (place, &fault) in Fault::ALL.iter().enumerate() {
-            assert_eq!(fault.number() as usize, place + 1);
+        assert!(Fault::ALL.is_sorted_by_key(|fault| fault.number()));
+        for &fault in Fault::ALL {
             assert_eq!(Fault::of(fault.number()), Some(fault));
         }
-        assert_eq!(Fault::of(0), None);
-        assert_eq!(Fault::of(19), None);
+        for free in [0, 20, 24, 26] {
+            assert_eq!(Fault::of(free), None);
+        }
     }
 }

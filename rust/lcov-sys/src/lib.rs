@@ -5,6 +5,8 @@
 //! shorter slice stays. A refusal's words are text index from 0, line from 1, field from 1 and needed length, then zeros; what does not apply
 //! is 0. A call that is refused leaves the output and the range list as they were.
 
+#[macro_use]
+mod declare;
 mod fault;
 mod refusal;
 
@@ -37,250 +39,48 @@ pub const LESS: u32 = 0;
 pub const EQUAL: u32 = 1;
 pub const GREATER: u32 = 2;
 
-extern "C" {
-    fn lcov_read_line(line: *const u8, line_len: usize, answer: *mut u64, answer_len: usize)
-        -> u32;
+calls! {
+    /// Reads one line: kind, four numbers, given, and the text's start and length, as include/lcov.h tells.
+    fn read_line = lcov_read_line(line: &[u8], answer: &mut [u64]) -> u32;
 
-    fn lcov_print_line(
-        line: *const u8,
-        line_len: usize,
-        out: *mut u8,
-        out_len: usize,
-        answer: *mut u64,
-        answer_len: usize,
-    ) -> u32;
+    /// Reads one line and prints its record, with byte 10 after it, to `out`.
+    fn print_line = lcov_print_line(line: &[u8], out: &mut [u8], answer: &mut [u64]) -> u32;
 
-    fn lcov_read_text(
-        text: *const u8,
-        text_len: usize,
-        scratch: *mut u64,
-        scratch_len: usize,
-        out: *mut u8,
-        out_len: usize,
-        answer: *mut u64,
-        answer_len: usize,
-    ) -> u32;
+    /// Reads one number field, a number up to `max`: its value and how many digits were read are the first two words. Refuses with 4, 5, 6 and
+    /// 19, all words 0.
+    fn read_number = lcov_read_number(field: &[u8], max: u64, answer: &mut [u64]) -> u32;
 
-    fn lcov_gather(
-        bundle: *const u8,
-        bundle_len: usize,
-        out: *mut u8,
-        out_len: usize,
-        answer: *mut u64,
-        answer_len: usize,
-    ) -> u32;
+    /// Compares two paths by their components: [`LESS`], [`EQUAL`] or [`GREATER`].
+    fn compare_paths = lcov_compare_paths(a: &[u8], b: &[u8]) -> u32;
 
-    fn lcov_gather_with(
-        bundle: *const u8,
-        bundle_len: usize,
-        scratch: *mut u64,
-        scratch_len: usize,
-        out: *mut u8,
-        out_len: usize,
-        answer: *mut u64,
-        answer_len: usize,
-    ) -> u32;
+    /// Reads one text and prints its report. Refuses with 1 to 10, 14, 19 and 25.
+    fn read_text = lcov_read_text(text: &[u8], scratch: &mut [u64], out: &mut [u8], answer: &mut [u64]) -> u32;
 
-    fn lcov_gather_lossy(
-        bundle: *const u8,
-        bundle_len: usize,
-        scratch: *mut u64,
-        scratch_len: usize,
-        out: *mut u8,
-        out_len: usize,
-        answer: *mut u64,
-        answer_len: usize,
-    ) -> u32;
+    /// The checked gather. Refuses with 1 to 14, 16, 19 and 25.
+    fn gather_with = lcov_gather_with(bundle: &[u8], scratch: &mut [u64], out: &mut [u8], answer: &mut [u64]) -> u32;
 
-    fn lcov_filter(
-        text: *const u8,
-        text_len: usize,
-        pairs: *const [u32; 2],
-        pairs_len: usize,
+    /// The lossy gather: the later given start line or checksum wins. Refuses with 1 to 10, 13, 14, 16, 19 and 25.
+    fn gather_lossy = lcov_gather_lossy(bundle: &[u8], scratch: &mut [u64], out: &mut [u8], answer: &mut [u64]) -> u32;
+
+    /// The checked gather with 8,192 words of scratch inside, which allow 256 entries.
+    fn gather = lcov_gather(bundle: &[u8], out: &mut [u8], answer: &mut [u64]) -> u32;
+
+    /// Reads one text and prints what of its report the first `used` pairs hold. Refuses with 18, 1 to 10, 14, 19 and 25.
+    fn filter = lcov_filter(
+        text: &[u8],
+        pairs: &[[u32; 2]],
         used: usize,
-        scratch: *mut u64,
-        scratch_len: usize,
-        out: *mut u8,
-        out_len: usize,
-        answer: *mut u64,
-        answer_len: usize,
+        scratch: &mut [u64],
+        out: &mut [u8],
+        answer: &mut [u64]
     ) -> u32;
 
-    fn lcov_insert_range(
-        pairs: *mut [u32; 2],
-        pairs_len: usize,
-        used: usize,
-        start: u32,
-        end: u32,
-        answer: *mut u64,
-        answer_len: usize,
-    ) -> u32;
+    /// Puts a range, from start to end, among the first `used` pairs. The first word is the new number of pairs. Refuses with 15 and 18.
+    fn insert_range = lcov_insert_range(pairs: &mut [[u32; 2]], used: usize, start: u32, end: u32, answer: &mut [u64]) -> u32;
 
-    fn lcov_query_range(
-        pairs: *const [u32; 2],
-        pairs_len: usize,
-        used: usize,
-        start: u32,
-        end: u32,
-        answer: *mut u64,
-        answer_len: usize,
-    ) -> u32;
+    /// Whether one of the first `used` pairs shares a line with start to end: the first word is 1 or 0. Refuses with 18.
+    fn query_range = lcov_query_range(pairs: &[[u32; 2]], used: usize, start: u32, end: u32, answer: &mut [u64]) -> u32;
 
-    fn lcov_half_open(a: u32, b: u32, answer: *mut u64, answer_len: usize);
-
-    fn lcov_compare_paths(a: *const u8, a_len: usize, b: *const u8, b_len: usize) -> u32;
-}
-
-// SAFETY of all calls: each pointer is that of a slice, handed over with its length and lent for the call alone; the calls read and write
-// within the lengths, whatever the slices hold (proved), and keep no pointer.
-
-/// Reads one line: kind, four numbers, given, and the text's start and length, as include/lcov.h tells.
-pub fn read_line(line: &[u8], answer: &mut [u64]) -> u32 {
-    unsafe { lcov_read_line(line.as_ptr(), line.len(), answer.as_mut_ptr(), answer.len()) }
-}
-
-/// Reads one line and prints its record, with byte 10 after it, to `out`.
-pub fn print_line(line: &[u8], out: &mut [u8], answer: &mut [u64]) -> u32 {
-    unsafe {
-        lcov_print_line(
-            line.as_ptr(),
-            line.len(),
-            out.as_mut_ptr(),
-            out.len(),
-            answer.as_mut_ptr(),
-            answer.len(),
-        )
-    }
-}
-
-/// Compares two paths by their components: [`LESS`], [`EQUAL`] or [`GREATER`].
-pub fn compare_paths(a: &[u8], b: &[u8]) -> u32 {
-    unsafe { lcov_compare_paths(a.as_ptr(), a.len(), b.as_ptr(), b.len()) }
-}
-
-/// The calls that read bytes and write a report, in scratch.
-type Writing =
-    unsafe extern "C" fn(*const u8, usize, *mut u64, usize, *mut u8, usize, *mut u64, usize) -> u32;
-
-fn writing(
-    call: Writing,
-    bytes: &[u8],
-    scratch: &mut [u64],
-    out: &mut [u8],
-    answer: &mut [u64],
-) -> u32 {
-    unsafe {
-        call(
-            bytes.as_ptr(),
-            bytes.len(),
-            scratch.as_mut_ptr(),
-            scratch.len(),
-            out.as_mut_ptr(),
-            out.len(),
-            answer.as_mut_ptr(),
-            answer.len(),
-        )
-    }
-}
-
-/// Reads one text and prints its report. Refuses with 1 to 10 and 14.
-pub fn read_text(text: &[u8], scratch: &mut [u64], out: &mut [u8], answer: &mut [u64]) -> u32 {
-    writing(lcov_read_text, text, scratch, out, answer)
-}
-
-/// The checked gather. Refuses with 1 to 14 and 16.
-pub fn gather_with(bundle: &[u8], scratch: &mut [u64], out: &mut [u8], answer: &mut [u64]) -> u32 {
-    writing(lcov_gather_with, bundle, scratch, out, answer)
-}
-
-/// The lossy gather: the later given start line or checksum wins. Refuses with 1 to 10, 13, 14 and 16.
-pub fn gather_lossy(bundle: &[u8], scratch: &mut [u64], out: &mut [u8], answer: &mut [u64]) -> u32 {
-    writing(lcov_gather_lossy, bundle, scratch, out, answer)
-}
-
-/// The checked gather with 8,192 words of scratch inside, which allow 256 entries.
-pub fn gather(bundle: &[u8], out: &mut [u8], answer: &mut [u64]) -> u32 {
-    unsafe {
-        lcov_gather(
-            bundle.as_ptr(),
-            bundle.len(),
-            out.as_mut_ptr(),
-            out.len(),
-            answer.as_mut_ptr(),
-            answer.len(),
-        )
-    }
-}
-
-/// Reads one text and prints what of its report the first `used` pairs hold. Refuses with 18, 1 to 10 and 14.
-pub fn filter(
-    text: &[u8],
-    pairs: &[[u32; 2]],
-    used: usize,
-    scratch: &mut [u64],
-    out: &mut [u8],
-    answer: &mut [u64],
-) -> u32 {
-    unsafe {
-        lcov_filter(
-            text.as_ptr(),
-            text.len(),
-            pairs.as_ptr(),
-            pairs.len(),
-            used,
-            scratch.as_mut_ptr(),
-            scratch.len(),
-            out.as_mut_ptr(),
-            out.len(),
-            answer.as_mut_ptr(),
-            answer.len(),
-        )
-    }
-}
-
-/// Puts a range, from start to end, among the first `used` pairs. The first word is the new number of pairs. Refuses with 15 and 18.
-pub fn insert_range(
-    pairs: &mut [[u32; 2]],
-    used: usize,
-    start: u32,
-    end: u32,
-    answer: &mut [u64],
-) -> u32 {
-    unsafe {
-        lcov_insert_range(
-            pairs.as_mut_ptr(),
-            pairs.len(),
-            used,
-            start,
-            end,
-            answer.as_mut_ptr(),
-            answer.len(),
-        )
-    }
-}
-
-/// Whether one of the first `used` pairs shares a line with start to end: the first word is 1 or 0. Refuses with 18.
-pub fn query_range(
-    pairs: &[[u32; 2]],
-    used: usize,
-    start: u32,
-    end: u32,
-    answer: &mut [u64],
-) -> u32 {
-    unsafe {
-        lcov_query_range(
-            pairs.as_ptr(),
-            pairs.len(),
-            used,
-            start,
-            end,
-            answer.as_mut_ptr(),
-            answer.len(),
-        )
-    }
-}
-
-/// The range that the half-open `a..b` is: the first two words.
-pub fn half_open(a: u32, b: u32, answer: &mut [u64]) {
-    unsafe { lcov_half_open(a, b, answer.as_mut_ptr(), answer.len()) }
+    /// The range that the half-open `a..b` is: the first two words.
+    fn half_open = lcov_half_open(a: u32, b: u32, answer: &mut [u64]);
 }

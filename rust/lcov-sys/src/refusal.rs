@@ -37,8 +37,7 @@ impl Refusal {
     }
 
     pub fn meaning(&self) -> &'static str {
-        self.fault()
-            .map_or("an unknown refusal", Fault::meaning)
+        self.fault().map_or("an unknown refusal", Fault::meaning)
     }
 }
 
@@ -59,7 +58,7 @@ mod tests {
         };
         assert_eq!(last.meaning(), "the range list is not well formed");
         assert_eq!(
-            Refusal { number: 19, ..last }.meaning(),
+            Refusal { number: 20, ..last }.meaning(),
             "an unknown refusal"
         );
     }

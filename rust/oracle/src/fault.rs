@@ -3,6 +3,7 @@
 use crate::record::ParseRecordError;
 use crate::report::MergeError;
 use std::any::Any;
+use std::fmt;
 use std::num::IntErrorKind;
 use std::panic::{self, AssertUnwindSafe};
 
@@ -15,6 +16,30 @@ pub struct Refusal {
     pub field: u32,
 }
 
+impl Refusal {
+    /// With no place.
+    pub fn numbered(number: u32) -> Self {
+        Refusal {
+            number,
+            text: 0,
+            line: 0,
+            field: 0,
+        }
+    }
+}
+
+impl fmt::Display for Refusal {
+    fn fmt(&self, f: &mut fmt::Formatter) -> fmt::Result {
+        let Refusal {
+            number,
+            text,
+            line,
+            field,
+        } = self;
+        write!(f, "refused {number} {text} {line} {field}")
+    }
+}
+
 #[derive(Debug, Clone, Copy, PartialEq, Eq)]
 pub enum Fault {
     Refused(Refusal),
@@ -24,12 +49,7 @@ pub enum Fault {
 
 impl Fault {
     pub(crate) fn numbered(number: u32) -> Self {
-        Fault::Refused(Refusal {
-            number,
-            text: 0,
-            line: 0,
-            field: 0,
-        })
+        Fault::Refused(Refusal::numbered(number))
     }
 
     pub(crate) fn in_text(self, text: usize) -> Self {

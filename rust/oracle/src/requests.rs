@@ -55,7 +55,7 @@ pub fn answer_all(answer: impl Fn(Request) -> Result<String, Fault>) -> io::Resu
 fn shown(told: Result<String, Fault>) -> String {
     match told {
         Ok(value) => format!("ok {value}"),
-        Err(Fault::Refused(r)) => format!("refused {} {} {} {}", r.number, r.text, r.line, r.field),
+        Err(Fault::Refused(refusal)) => refusal.to_string(),
         Err(Fault::Outside) => "outside".to_owned(),
     }
 }

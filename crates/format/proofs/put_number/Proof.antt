@@ -1,7 +1,7 @@
 use borrow.Author.Needs.{needs}
 use native.Mathlib.Omega.{arith}
 use lib.ListN.{length-set}
-use Rattle.format.proofs.OverLaws.{next-len, next-fits, over-next, next-size}
+use Rattle.format.proofs.OverLaws.{after-room, first-fits, first-over, next-size}
 use Rattle.format.proofs.put_number.Statement.{statement}
 use Rattle.format.proofs.put_number.Tie as tie
 
@@ -13,7 +13,7 @@ put-number-spec =
     (λ c. simp length-set (omega arith))
     (λ c. simp length-set (omega arith))
     (λ c. search needs)
-    (λ c κs. search needs)
-    (λ c. search (next-fits, needs))
+    (λ c κs. search (after-room, needs))
+    (λ c. search (first-fits, needs))
     (λ c. search (next-size, needs))
-    (λ c. search (next-len, over-next, needs)))
+    (λ c. search (first-over, needs)))

@@ -6,7 +6,7 @@ use Prim.Native.Nat.{_+_, _≤_, _<_, _^_}
 use native.Mathlib.Omega.{arith}
 use Rattle.section_commit.specs.declared.KeptSizes.{KeptSizes}
 use Rattle.section_tail.specs.Tail.{rowsOf}
-use Rattle.section.proofs.StateLaws.{by-inside, next-as, open-as, held-as}
+use Rattle.section.proofs.StateLaws.{by-inside, path-inside, next-as, open-as, held-as}
 use Rattle.section.proofs.OtherLaws.{items-inside, end-empty, all-sections, main-open, end-kept}
 use borrow.Author.Needs.{needs}
 use Rattle.section.proofs.on_end_of_record.Statement.{statement}
@@ -46,13 +46,14 @@ on-end-of-record-spec =
     (λ c κs. search needs)
     (λ c κs. let p = c .before .kept-sizes .ensures in
     let w = all-in-main (c .before .before) in
-    let ζ = start (spare w .before) .pre in
+    let s = start (spare w .before) in
+    let ζ = s .pre in
     let ς = w .flush-all .ensures in
     let rows = spare w .capacity .ensures in (
       (held-as p (all-sections ζ ς), main-open ζ ς p),
       (
         (
-          record { test = ζ .test; path = ζ .path },
+          record { test = ζ .test; path = path-inside _ (s .args .state .«has_path») (s .args .state .path) (ζ .path) },
           refl,
           omega (arith, rows, ζ .space .most),
           omega

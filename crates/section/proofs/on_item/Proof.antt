@@ -13,7 +13,7 @@ use Rattle.section.proofs.on_item.Statement.{statement}
 use Rattle.section.proofs.on_item.Tie as tie
 
 abbrev start : tie.After-reserve-row → tie.Start
-start y = y .before .before .before .before .before .before .before .before
+start y = y .before .before .before .before .before .before .before
 
 -- room for the open section, as far as `omega` needs it
 record Places (y : tie.After-reserve-row) : Type 0 where
@@ -53,7 +53,7 @@ on-item-spec =
     (tie.spec
     (λ c. search needs)
     (λ c. let s = c .before .before .before .before in added-none (s .pre .0) (s .args .row) (s .args .accumulate) (c .if1 .taken))
-    (λ c κs. let ζ = c .before .before .before .before .before .before .before .pre .0 in (ζ .space .store, ζ .space .room, ζ .space .most, ζ .space .kept))
+    (λ c κs. let ζ = c .before .before .before .before .before .before .pre .0 in (ζ .space .store, ζ .space .room, ζ .space .most, ζ .space .kept))
     (λ c. search needs)
     (λ c. let p = places (c .before .before .before) in omega arith)
     (λ c. let p = places (c .before .before .before .before) in omega arith)

@@ -1,9 +1,10 @@
-//! Writes the recorded sample, tests/lines.in and tests/lines.out, from a fixed seed, and the recorded bundles, tests/bundles/NAME.in
-//! and NAME.out; see tests/README.md.
+//! Writes the recorded sample, tests/lines.in and tests/lines.out, from a fixed seed, the recorded calls on range structs,
+//! crates/test_line_num/stdin and stdout, and the recorded bundles, tests/bundles/NAME.in and NAME.out; see tests/README.md.
 //!
 //!     record             writes the files
-//!     record --check     writes nothing, and fails unless the files are what would be written and what the Rust answers
+//!     record --check     writes nothing, and fails unless the files are what would be written and what the Rust answers, or a refusal that it lacks
 
+use harness::ranges::recorded::{self as calls, Calls};
 use harness::reports::recorded::{self, Recorded};
 use harness::sample::{self, Sample};
 use std::collections::BTreeMap;
@@ -17,7 +18,9 @@ fn main() -> ExitCode {
     let words: Vec<&str> = words.iter().map(String::as_str).collect();
     let done = match words.as_slice() {
         [] => write_all().map_err(|error| error.to_string()),
-        ["--check"] => check().and_then(|()| check_bundles()),
+        ["--check"] => check()
+            .and_then(|()| check_ranges())
+            .and_then(|()| check_bundles()),
         _ => Err("usage: record [--check]".to_owned()),
     };
     match done {
@@ -37,6 +40,7 @@ fn file(name: &str) -> PathBuf {
 
 fn write_all() -> io::Result<()> {
     write(&sample::make())?;
+    write_ranges(&calls::make())?;
     write_bundles(&recorded::all())
 }
 
@@ -56,12 +60,12 @@ fn check() -> Result<(), String> {
     let lines = sample::decoded(&recorded.lines).ok_or("lines.in is cut within a case")?;
     // first, since it tells of the Rust, whatever made the lines
     if sample::answers(&lines) != recorded.answers {
-        return Err("lines.out is not what the Rust answers to lines.in".to_owned());
+        return Err("lines.out is not what the Rust answers to lines.in, or 19".to_owned());
     }
     if sample::make() != recorded {
         return Err("the seed makes another sample: run `record`".to_owned());
     }
-    println!("{} recorded answers are the Rust's", lines.len());
+    println!("{} recorded answers are the Rust's, or 19", lines.len());
     Ok(())
 }
 
@@ -70,6 +74,36 @@ fn recorded() -> io::Result<Sample> {
         lines: fs::read(file("lines.in"))?,
         answers: fs::read(file("lines.out"))?,
     })
+}
+
+// ---- ranges
+
+const ASKED: &str = "../crates/test_line_num/stdin";
+const ANSWERED: &str = "../crates/test_line_num/stdout";
+
+fn write_ranges(calls: &Calls) -> io::Result<()> {
+    fs::write(file(ASKED), &calls.asked)?;
+    fs::write(file(ANSWERED), &calls.answered)?;
+    println!("{} calls on range structs", calls.answered.lines().count());
+    Ok(())
+}
+
+fn check_ranges() -> Result<(), String> {
+    let written = || -> io::Result<Calls> {
+        Ok(Calls {
+            asked: fs::read(file(ASKED))?,
+            answered: fs::read_to_string(file(ANSWERED))?,
+        })
+    };
+    let written = written().map_err(|error| format!("no recorded calls: {error}"))?;
+    if written != calls::make() {
+        return Err("crates/test_line_num has other calls or answers: run `record`".to_owned());
+    }
+    println!(
+        "{} recorded calls on range structs are answered by the Rust",
+        written.answered.lines().count()
+    );
+    Ok(())
 }
 
 // ---- bundles

@@ -115,6 +115,7 @@ mod tests {
     use super::*;
     use crate::expected::Expected;
     use crate::interface::FIELD;
+    use crate::plus::SIGNED_NUMBER;
     use std::collections::HashSet;
 
     #[test]
@@ -131,7 +132,7 @@ mod tests {
         for layout in &LAYOUTS {
             for (field, &form) in (1..).zip(layout.fields) {
                 let missing = (field > 1 && form != Form::Checksum).then_some(2);
-                let number = (!form.is_text()).then_some([4, 5, 6]);
+                let number = (!form.is_text()).then_some([4, 5, 6, SIGNED_NUMBER]);
                 for fault in missing.into_iter().chain(number.into_iter().flatten()) {
                     wanted.insert((layout.tag.as_bytes().to_vec(), fault, field));
                 }

@@ -8,8 +8,11 @@ use crate::Rng;
 const LONG_ONE_IN: usize = 20_000;
 const LONGEST: usize = 70_000;
 
+/// Of how many numbers one has a plus sign: such a line is not compared with the Rust.
+const SIGN_ONE_IN: usize = 40;
+
 /// Bytes that mean something in a line, so that noise meets the reader's cases.
-const MEANINGFUL: &[u8] = b"::,,,--++00123456789\r\n aTNSFDABRHL_\0\x7f";
+const MEANINGFUL: &[u8] = b"::,,,--+00123456789\r\n aTNSFDABRHL_\0\x7f";
 
 pub fn line(rng: &mut Rng) -> Vec<u8> {
     if rng.one_in(LONG_ONE_IN) {
@@ -63,7 +66,7 @@ fn spelled(rng: &mut Rng, max: u64) -> String {
         2 => u128::from(rng.number()),
         _ => u128::from(rng.number() & max),
     };
-    let sign = if rng.one_in(8) { "+" } else { "" };
+    let sign = if rng.one_in(SIGN_ONE_IN) { "+" } else { "" };
     let zeros = if rng.one_in(8) { rng.below(24) } else { 0 };
     format!("{sign}{}{value}", "0".repeat(zeros))
 }

@@ -28,7 +28,7 @@ pub const FAULTS: [&str; 8] = [
     "x",
     "4294967296",
     "18446744073709551616",
-    "+2",
+    "02",
 ];
 
 /// Values at which a number's reading changes: 0, the ends of the types, and a digit more.
@@ -44,7 +44,7 @@ const TURNS: [u128; 8] = [
 ];
 const AROUND: u128 = 12;
 
-const BEFORE: [&str; 6] = ["", "+", "0", "+00", "-", "++"];
+const BEFORE: [&str; 5] = ["", "+", "0", "00", "-"];
 const AFTER: [&str; 4] = ["", "0", "x", "-"];
 
 /// Numbers around each turn, in several spellings and with a fault before or after them.

@@ -1,14 +1,14 @@
 //! The comparison: a list is filled by inserts, and each insert and each query on the way is held against what is expected.
 
 use super::{expected, random, List};
-use crate::compare::Difference;
+use crate::compare::MOST_WORDS;
+use crate::differences::{Difference, Differences};
 use crate::expected::Answer;
 use crate::guarded::LentWords;
-use crate::interface::{Ranges, WORDS};
+use crate::interface::{HalfOpen, Ranges, WORDS};
+use crate::tally::rows;
 use crate::Rng;
 use std::fmt;
-
-const MOST_WORDS: usize = WORDS + 2;
 
 /// Inserts into one list, and queries after each.
 const INSERTS: usize = 12;
@@ -16,8 +16,6 @@ const QUERIES: usize = 2;
 
 /// Of how many lists one is damaged on the way.
 const DAMAGED_ONE_IN: usize = 12;
-
-const SHOWN: usize = 10;
 
 /// Calls by what they were answered.
 #[derive(Default)]
@@ -39,26 +37,24 @@ impl Tally {
 
 impl fmt::Display for Tally {
     fn fmt(&self, f: &mut fmt::Formatter) -> fmt::Result {
-        for (what, count) in [
-            ("ranges inserted", self.inserted),
-            ("refused 15 list full", self.full),
-            ("queries held", self.held),
-            ("queries not held", self.not_held),
-            ("refused 18 list ill formed", self.ill_formed),
-            ("half-open ranges", self.half_open),
-        ] {
-            writeln!(f, "{what:<29}{count:>10}")?;
-        }
-        Ok(())
+        rows(
+            f,
+            &[
+                ("ranges inserted", self.inserted),
+                ("refused 15 list full", self.full),
+                ("queries held", self.held),
+                ("queries not held", self.not_held),
+                ("refused 18 list ill formed", self.ill_formed),
+                ("half-open ranges", self.half_open),
+            ],
+        )
     }
 }
 
 pub struct Comparison<P> {
     port: P,
     pub tally: Tally,
-    pub differences: u64,
-    /// The first ones.
-    pub shown: Vec<Difference>,
+    pub differences: Differences,
 }
 
 impl<P: Ranges> Comparison<P> {
@@ -66,14 +62,12 @@ impl<P: Ranges> Comparison<P> {
         Comparison {
             port,
             tally: Tally::default(),
-            differences: 0,
-            shown: Vec::new(),
+            differences: Differences::default(),
         }
     }
 
-    /// A list filled at random.
-    pub fn list(&mut self, rng: &mut Rng) {
-        let mut list = random::empty_list(rng);
+    /// A list, filled at random.
+    pub fn list(&mut self, mut list: List, rng: &mut Rng) {
         for _ in 0..INSERTS {
             let (start, end) = random::range(rng);
             self.insert(&mut list, start, end);
@@ -85,7 +79,6 @@ impl<P: Ranges> Comparison<P> {
                 random::damage(rng, &mut list);
             }
         }
-        self.half_open(random::line(rng), random::line(rng));
     }
 
     /// The list is then what is expected, whatever the port left.
@@ -96,17 +89,15 @@ impl<P: Ranges> Comparison<P> {
             expected::LIST_FULL => self.tally.full += 1,
             _ => self.tally.ill_formed += 1,
         }
-        let mut lent = list.pairs.clone();
+        let mut lent = list.clone();
         let mut words = LentWords::new(MOST_WORDS);
-        let number = self
-            .port
-            .insert_range(&mut lent, list.used, start, end, words.lend());
-        if !words.holds(number, &answer) || lent != pairs {
-            self.differ(
-                format!("insert {start} to {end} into {list:?}"),
-                format!("{answer:?}, pairs {pairs:?}"),
-                format!("{}, pairs {lent:?}", words.shown(number)),
-            );
+        let number = self.port.insert_range(&mut lent, start, end, words.lend());
+        if !words.holds(number, &answer) || lent.pairs != pairs {
+            self.differences.add(0, || Difference {
+                asked: format!("insert {start} to {end} into {list:?}"),
+                rust: format!("{answer:?}, pairs {pairs:?}"),
+                port: format!("{}, pairs {:?}", words.shown(number), lent.pairs),
+            });
         }
         list.pairs = pairs;
         if answer.number == 0 {
@@ -122,18 +113,18 @@ impl<P: Ranges> Comparison<P> {
             _ => self.tally.ill_formed += 1,
         }
         let mut words = LentWords::new(MOST_WORDS);
-        let number = self
-            .port
-            .query_range(&list.pairs, list.used, start, end, words.lend());
+        let number = self.port.query_range(list, start, end, words.lend());
         if !words.holds(number, &answer) {
-            self.differ(
-                format!("query {start} to {end} in {list:?}"),
-                format!("{answer:?}"),
-                words.shown(number),
-            );
+            self.differences.add(0, || Difference {
+                asked: format!("query {start} to {end} in {list:?}"),
+                rust: format!("{answer:?}"),
+                port: words.shown(number),
+            });
         }
     }
+}
 
+impl<P: HalfOpen> Comparison<P> {
     /// The Rust shows a half-open range by inserting it; so the port's is inserted too.
     pub fn half_open(&mut self, a: u32, b: u32) {
         self.tally.half_open += 1;
@@ -151,18 +142,11 @@ impl<P: Ranges> Comparison<P> {
         (answer.words[0], answer.words[1]) = (start, end);
         let wanted = expected::half_open(a, b);
         if kept != wanted || !words.holds(0, &answer) {
-            self.differ(
-                format!("half-open {a} to {b}"),
-                format!("pairs {wanted:?}"),
-                words.shown(0),
-            );
-        }
-    }
-
-    fn differ(&mut self, asked: String, wanted: String, port: String) {
-        self.differences += 1;
-        if self.shown.len() < SHOWN {
-            self.shown.push(Difference::new(asked, wanted, port));
+            self.differences.add(0, || Difference {
+                asked: format!("half-open {a} to {b}"),
+                rust: format!("pairs {wanted:?}"),
+                port: words.shown(0),
+            });
         }
     }
 }
@@ -194,19 +178,8 @@ mod tests {
     }
 
     impl Ranges for StandIn {
-        fn insert_range(
-            &self,
-            pairs: &mut [[u32; 2]],
-            used: usize,
-            start: u32,
-            end: u32,
-            words: &mut [u64],
-        ) -> u32 {
-            let list = List {
-                pairs: pairs.to_vec(),
-                used,
-            };
-            let (mut answer, mut after) = expected::insert(&list, start, end);
+        fn insert_range(&self, list: &mut List, start: u32, end: u32, words: &mut [u64]) -> u32 {
+            let (mut answer, mut after) = expected::insert(list, start, end);
             match self.0 {
                 Wrong::NeighboursApart if answer.number == 0 && after.len() > 1 => {
                     let joined = after.iter().position(|pair| pair[1] > pair[0]);
@@ -225,23 +198,12 @@ mod tests {
                 Wrong::Number => answer.number += 1,
                 _ => {}
             }
-            pairs.copy_from_slice(&after);
+            list.pairs = after;
             tell(&answer, words)
         }
 
-        fn query_range(
-            &self,
-            pairs: &[[u32; 2]],
-            used: usize,
-            start: u32,
-            end: u32,
-            words: &mut [u64],
-        ) -> u32 {
-            let list = List {
-                pairs: pairs.to_vec(),
-                used,
-            };
-            let mut answer = expected::query(&list, start, end);
+        fn query_range(&self, list: &List, start: u32, end: u32, words: &mut [u64]) -> u32 {
+            let mut answer = expected::query(list, start, end);
             let touches = list
                 .held()
                 .is_some_and(|held| held.iter().any(|pair| pair[1] == start));
@@ -252,7 +214,9 @@ mod tests {
             }
             tell(&answer, words)
         }
+    }
 
+    impl HalfOpen for StandIn {
         fn half_open(&self, a: u32, b: u32, words: &mut [u64]) {
             let end = match self.0 {
                 Wrong::HalfOpenAtZero => b.wrapping_sub(1),
@@ -267,7 +231,8 @@ mod tests {
         let mut comparison = Comparison::new(StandIn(wrong));
         let mut rng = Rng::new(3);
         for _ in 0..400 {
-            comparison.list(&mut rng);
+            comparison.list(random::empty_list(&mut rng), &mut rng);
+            comparison.half_open(random::line(&mut rng), random::line(&mut rng));
         }
         let tally = &comparison.tally;
         for met in [
@@ -279,7 +244,7 @@ mod tests {
         ] {
             assert!(met > 100);
         }
-        comparison.differences
+        comparison.differences.count
     }
 
     #[test]

@@ -1,26 +1,14 @@
 //! What a call on ranges must answer: the Rust's answer, and where SPEC 9.1 added a number, that.
 
 use super::List;
-use crate::expected::{refused, Answer};
-use crate::interface::WORDS;
+use crate::expected::{answered, refused, Answer};
 use oracle::Refusal;
 
 pub const LIST_FULL: u32 = 15;
 pub const NOT_WELL_FORMED: u32 = 18;
 
-fn only(first: u64) -> Answer {
-    let mut words = [0; WORDS];
-    words[0] = first;
-    Answer { number: 0, words }
-}
-
 fn refusal(number: u32) -> Answer {
-    refused(Refusal {
-        number,
-        text: 0,
-        line: 0,
-        field: 0,
-    })
+    refused(Refusal::numbered(number))
 }
 
 /// The Rust's pairs.
@@ -44,7 +32,7 @@ pub fn insert(list: &List, start: u32, end: u32) -> (Answer, Vec<[u32; 2]>) {
     };
     let mut pairs: Vec<[u32; 2]> = joined.iter().map(|&(start, end)| [start, end]).collect();
     pairs.extend(std::iter::repeat_n([0, 0], past));
-    (only(joined.len() as u64), pairs)
+    (answered(joined.len() as u64), pairs)
 }
 
 pub fn query(list: &List, start: u32, end: u32) -> Answer {
@@ -52,7 +40,7 @@ pub fn query(list: &List, start: u32, end: u32) -> Answer {
         None => refusal(NOT_WELL_FORMED),
         Some(held) => {
             let yes = oracle::query(&told(held), start, end).expect("the list is well formed");
-            only(yes.into())
+            answered(yes.into())
         }
     }
 }

@@ -1,8 +1,11 @@
 //! Ranges of lines: random lists, what SPEC 8 expects of an insert, a query and a half-open range, and the comparison with the port.
 
+pub mod cases;
 pub mod compare;
 pub mod expected;
+pub mod program;
 pub mod random;
+pub mod recorded;
 
 /// A lent list: a slice of pairs, each a start and an end, of which the first `used` count.
 #[derive(Clone, Debug, PartialEq, Eq)]

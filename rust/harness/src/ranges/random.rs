@@ -35,9 +35,25 @@ pub fn range(rng: &mut Rng) -> (u32, u32) {
 
 const MOST_PAIRS: usize = 9;
 
-/// A slice of some length, none of it used; what it holds is free.
+/// A slice of some length, none of it used.
 pub fn empty_list(rng: &mut Rng) -> List {
-    let mut list = List::of_room(rng.below(MOST_PAIRS));
+    let room = rng.below(MOST_PAIRS);
+    list_of_room(rng, room)
+}
+
+/// A slice for so many pairs, some of them used, with few lines between two.
+pub fn begun_list(rng: &mut Rng, room: usize) -> List {
+    let mut list = list_of_room(rng, room);
+    list.used = rng.below(room + 1);
+    for (place, pair) in (0..).zip(&mut list.pairs[..list.used]) {
+        *pair = [5 * place, 5 * place + rng.below(3) as u32];
+    }
+    list
+}
+
+/// A slice for so many pairs, none of them used; what it holds is free.
+fn list_of_room(rng: &mut Rng, room: usize) -> List {
+    let mut list = List::of_room(room);
     for pair in &mut list.pairs {
         *pair = [line(rng), line(rng)];
     }

@@ -4,31 +4,36 @@
 use super::expected::{may_refuse, Expected, Told};
 use super::tally::Tally;
 use super::Asked;
-use crate::compare::{shown, Difference};
-use crate::expected::{refused, too_short, written, Answer};
+use crate::compare::{shown, BYTES_PAST, MOST_WORDS, THOROUGH_AT_MOST};
+use crate::differences::{Difference, Differences};
+use crate::expected::{printing, refused, Answer};
 use crate::guarded::{LentBytes, LentScratch, LentWords};
-use crate::interface::{
-    Gatherer, INNER_WORDS, MAX_ENTRIES, OUTPUT_TOO_SHORT, WORDS, WORDS_PER_ENTRY, WRITTEN,
-};
+use crate::interface::{Gatherer, Lent, INNER_WORDS, MAX_ENTRIES, WORDS, WORDS_PER_ENTRY, WRITTEN};
 use crate::ranges::List;
+use crate::tally::NUMBERS;
 use crate::Rng;
 use oracle::Mode;
 
-const MOST_WORDS: usize = WORDS + 2;
-const BYTES_PAST: usize = 16;
-
 /// Of how many questions one is asked with every length; a prime.
 const THOROUGH_ONE_IN: u64 = 97;
-const THOROUGH_AT_MOST: usize = 300;
 
-const SHOWN: usize = 10;
-
-/// The slices that are lent for a call.
+/// The lengths of what is lent for a call.
 #[derive(Clone, Copy)]
-struct Lent {
+struct Lengths {
     scratch: Scratch,
     room: usize,
     words: usize,
+}
+
+impl Lengths {
+    fn shown(self) -> String {
+        format!(
+            "{}, output of {} bytes, answer of {} words",
+            self.scratch.shown(),
+            self.room,
+            self.words
+        )
+    }
 }
 
 #[derive(Clone, Copy)]
@@ -71,9 +76,7 @@ pub struct Comparison<P> {
     rng: Rng,
     scratch: LentScratch,
     pub tally: Tally,
-    pub differences: u64,
-    /// Those with the smallest questions, and how long these are.
-    pub shown: Vec<(usize, Difference)>,
+    pub differences: Differences,
 }
 
 impl<P: Gatherer> Comparison<P> {
@@ -83,8 +86,7 @@ impl<P: Gatherer> Comparison<P> {
             rng: Rng::new(seed),
             scratch: LentScratch::default(),
             tally: Tally::default(),
-            differences: 0,
-            shown: Vec::new(),
+            differences: Differences::default(),
         }
     }
 
@@ -106,7 +108,11 @@ impl<P: Gatherer> Comparison<P> {
             self.tally.count_outside(asked);
             return self.without_the_rust(asked);
         };
-        self.tally.count_question(asked, &expected.told);
+        if expected.apart {
+            self.tally.count_apart(asked);
+        } else {
+            self.tally.count_question(asked, &expected.told);
+        }
         self.usual_lengths(asked, &expected);
         if self.tally.questions().is_multiple_of(THOROUGH_ONE_IN) {
             self.every_length(asked, &expected);
@@ -132,12 +138,12 @@ impl<P: Gatherer> Comparison<P> {
             self.call(asked, expected, fewer, needed + BYTES_PAST, WORDS);
         }
         if let Asked::Bundle(Mode::Checked, _) = asked {
-            let lent = Lent {
+            let lengths = Lengths {
                 scratch: Scratch::Inside,
                 room: needed + BYTES_PAST,
                 words: WORDS,
             };
-            self.compare(asked, expected, lent);
+            self.compare(asked, expected, lengths);
         }
     }
 
@@ -168,27 +174,27 @@ impl<P: Gatherer> Comparison<P> {
         words: usize,
     ) {
         let scratch = Scratch::Words(scratch);
-        let lent = Lent {
+        let lengths = Lengths {
             scratch,
             room,
             words,
         };
-        self.compare(asked, expected, lent);
+        self.compare(asked, expected, lengths);
     }
 
-    fn compare(&mut self, asked: Asked, expected: &Expected, lent: Lent) {
-        let told = expected.limited(asked, lent.scratch.entries());
-        self.held_against(asked, &told, lent);
+    fn compare(&mut self, asked: Asked, expected: &Expected, lengths: Lengths) {
+        let told = expected.limited(asked, lengths.scratch.entries());
+        self.held_against(asked, &told, lengths);
     }
 
-    fn held_against(&mut self, asked: Asked, told: &Told, lent: Lent) {
-        let (answer, bytes) = answer_of(told, lent.room);
+    fn held_against(&mut self, asked: Asked, told: &Told, lengths: Lengths) {
+        let (answer, bytes) = printing(in_words(told), lengths.room);
         self.tally.count_call(asked, answer.number);
-        let left = self.asked_with(asked, lent);
+        let left = self.asked_with(asked, lengths);
         let same = left.answer.holds(left.number, &answer) && left.out.holds(bytes);
         if !(same && left.scratch_kept) {
             let wanted = format!("{answer:?}, output {}, then untouched", shown(bytes));
-            self.differ(asked, lent, wanted, &left);
+            self.differ(asked, lengths, wanted, &left);
         }
     }
 
@@ -199,97 +205,78 @@ impl<P: Gatherer> Comparison<P> {
             return;
         }
         self.tally.read_back += 1;
-        let lent = Lent {
+        let lengths = Lengths {
             scratch: Scratch::Words(words_for(entries)),
             room: printed.len(),
             words: WORDS,
         };
-        self.held_against(Asked::Text(printed), &Ok(printed.to_vec()), lent);
+        self.held_against(Asked::Text(printed), &Ok(printed.to_vec()), lengths);
     }
 
     /// The Rust can't be asked: still no number comes that the call does not have, no refused call writes, and what is written reads
     /// back as itself.
     fn without_the_rust(&mut self, asked: Asked) {
-        let lent = Lent {
+        let lengths = Lengths {
             scratch: Scratch::Words(words_for(asked.bytes().len())),
             room: 2 * asked.bytes().len() * 64,
             words: WORDS,
         };
-        let left = self.asked_with(asked, lent);
-        self.tally.count_call(asked, left.number.min(18));
+        let left = self.asked_with(asked, lengths);
+        self.tally
+            .count_call(asked, left.number.min(NUMBERS as u32 - 1));
         if left.number == 0 {
             let len = left.answer.word(WRITTEN) as usize;
             let printed = left.out.all()[..len].to_vec();
             self.reading_back(asked, &printed, asked.bytes().len());
         } else if !may_refuse(asked, left.number) || !left.out.holds(&[]) {
             let wanted = "a refusal of the call, nothing written".to_owned();
-            self.differ(asked, lent, wanted, &left);
+            self.differ(asked, lengths, wanted, &left);
         }
     }
 
-    fn asked_with(&mut self, asked: Asked, lent: Lent) -> Left {
-        let mut out = LentBytes::new(lent.room);
-        let mut answer = LentWords::new(lent.words);
-        let scratch = self.scratch.lend(lent.scratch.words(), &mut self.rng);
-        let number = match (asked, lent.scratch) {
-            (Asked::Text(text), _) => self
-                .port
-                .read_text(text, scratch, out.lend(), answer.lend()),
-            (Asked::Filter(text, list), _) => self.port.filter_text(
-                text,
-                &list.pairs,
-                list.used,
-                scratch,
-                out.lend(),
-                answer.lend(),
-            ),
+    fn asked_with(&mut self, asked: Asked, lengths: Lengths) -> Left {
+        let mut out = LentBytes::new(lengths.room);
+        let mut answer = LentWords::new(lengths.words);
+        let scratch = self.scratch.lend(lengths.scratch.words(), &mut self.rng);
+        let slices = Lent {
+            scratch,
+            out: out.lend(),
+            answer: answer.lend(),
+        };
+        let number = match (asked, lengths.scratch) {
+            (Asked::Text(text), _) => self.port.read_text(text, slices),
+            (Asked::Filter(text, list), _) => self.port.filter_text(text, list, slices),
             (Asked::Bundle(Mode::Checked, bundle), Scratch::Inside) => {
-                self.port.gather(bundle, out.lend(), answer.lend())
+                self.port.gather(bundle, slices.out, slices.answer)
             }
-            (Asked::Bundle(Mode::Checked, bundle), _) => {
-                self.port
-                    .gather_with(bundle, scratch, out.lend(), answer.lend())
-            }
-            (Asked::Bundle(Mode::Lossy, bundle), _) => {
-                self.port
-                    .gather_lossy(bundle, scratch, out.lend(), answer.lend())
-            }
+            (Asked::Bundle(Mode::Checked, bundle), _) => self.port.gather_with(bundle, slices),
+            (Asked::Bundle(Mode::Lossy, bundle), _) => self.port.gather_lossy(bundle, slices),
         };
         Left {
             number,
             answer,
             out,
-            scratch_kept: self.scratch.kept_behind(lent.scratch.words()),
+            scratch_kept: self.scratch.kept_behind(lengths.scratch.words()),
         }
     }
 
-    fn differ(&mut self, asked: Asked, lent: Lent, wanted: String, left: &Left) {
-        self.differences += 1;
-        let lengths = format!(
-            "{}, output of {} bytes, answer of {} words",
-            lent.scratch.shown(),
-            lent.room,
-            lent.words
-        );
+    fn differ(&mut self, asked: Asked, lengths: Lengths, wanted: String, left: &Left) {
         let call = match asked {
             Asked::Text(_) => "read text".to_owned(),
             Asked::Filter(_, list) => format!("filter by {list:?} text"),
             Asked::Bundle(Mode::Checked, _) => "gather".to_owned(),
             Asked::Bundle(Mode::Lossy, _) => "gather lossy".to_owned(),
         };
-        let difference = Difference::new(
-            format!("{call} {}, {lengths}", shown(asked.bytes())),
-            wanted,
-            format!(
+        self.differences.add(asked.bytes().len(), || Difference {
+            asked: format!("{call} {}, {}", shown(asked.bytes()), lengths.shown()),
+            rust: wanted,
+            port: format!(
                 "{}, output {}, scratch behind the slice kept: {}",
                 left.answer.shown(left.number),
                 shown(left.out.all()),
                 left.scratch_kept
             ),
-        );
-        self.shown.push((asked.bytes().len(), difference));
-        self.shown.sort_by_key(|&(len, _)| len);
-        self.shown.truncate(SHOWN);
+        });
     }
 }
 
@@ -298,152 +285,92 @@ fn words_for(entries: usize) -> usize {
     entries * WORDS_PER_ENTRY
 }
 
-/// The answer into an output of some length, and the bytes that the output then begins with.
-fn answer_of(told: &Told, room: usize) -> (Answer, &[u8]) {
-    match told {
-        Err(refusal) => (refused(*refusal), &[]),
-        Ok(printed) if printed.len() <= room => (written(printed.len()), printed),
-        Ok(printed) => {
-            let answer = too_short(printed.len());
-            assert_eq!(answer.number, OUTPUT_TOO_SHORT);
-            (answer, &[])
-        }
-    }
+fn in_words(told: &Told) -> Result<&[u8], Answer> {
+    told.as_deref().map_err(|refusal| refused(*refusal))
 }
 
 #[cfg(test)]
 mod tests {
     use super::*;
-    use crate::interface::NEEDED;
     use crate::reports::bundles;
+    use crate::stand_in::Wrong;
 
-    /// What a port could do wrong.
-    #[derive(Debug, Clone, Copy, PartialEq)]
-    enum Wrong {
-        Nothing,
-        Number,
-        Word(usize),
-        ShortAnswerBegun,
-        LastByte,
-        WrittenPastTheReport,
-        WrittenOnRefusal,
-        NeededLength,
-        ExactFitRefused,
-        OneEntryFewer,
-        OneEntryMore,
-        ScratchRead,
-        LossyIsChecked,
-        CheckedIsLossy,
-        InnerLimit,
-        FilterKeepsAll,
-    }
-
-    /// Answers as expected, save for what is wrong.
     struct StandIn(Wrong);
 
     impl StandIn {
-        fn tell(&self, asked: Asked, scratch: &[u64], out: &mut [u8], words: &mut [u64]) -> u32 {
-            let mut entries = Scratch::Words(scratch.len()).entries();
+        fn tell(&self, asked: Asked, lent: &mut Lent) -> u32 {
+            let mut entries = Scratch::Words(lent.scratch.len()).entries();
             match self.0 {
                 Wrong::OneEntryFewer => entries = entries.saturating_sub(1),
                 Wrong::OneEntryMore => entries += 1,
-                Wrong::ScratchRead if scratch.first().is_some_and(|word| word % 7 == 3) => {
+                Wrong::ScratchRead if lent.scratch.first().is_some_and(|word| word % 7 == 3) => {
                     entries = 0
                 }
                 _ => {}
             }
+            let unsigned: Vec<u8> = without_signs(asked.bytes());
+            let asked = match asked {
+                Asked::Text(_) if self.0 == Wrong::PlusTaken => Asked::Text(&unsigned),
+                asked => asked,
+            };
             let told = Expected::of(asked).unwrap().limited(asked, entries);
-            let room = out.len() - usize::from(self.0 == Wrong::ExactFitRefused && !out.is_empty());
-            let (mut answer, bytes) = answer_of(&told, room);
-            out[..bytes.len()].copy_from_slice(bytes);
-            match (self.0, answer.number) {
-                (Wrong::LastByte, 0) if !bytes.is_empty() => out[bytes.len() - 1] ^= 1,
-                (Wrong::WrittenPastTheReport, 0) if bytes.len() < out.len() => out[bytes.len()] = 0,
-                (Wrong::WrittenOnRefusal, 1..) if !out.is_empty() => out[0] = 0,
-                (Wrong::NeededLength, OUTPUT_TOO_SHORT) => answer.words[NEEDED] += 1,
-                (Wrong::Number, _) => answer.number += 1,
-                (Wrong::Word(place), _) => answer.words[place] += 1,
-                _ => {}
-            }
-            let told = words.len().min(WORDS);
-            if told == WORDS || self.0 == Wrong::ShortAnswerBegun {
-                words[..told].copy_from_slice(&answer.words[..told]);
-            }
-            answer.number
+            self.0.print(in_words(&told), lent.out, lent.answer)
+        }
+
+        fn tell_bundle(&self, mode: Mode, bundle: &[u8], mut lent: Lent) -> u32 {
+            let mode = match self.0 {
+                Wrong::CheckedIsLossy => Mode::Lossy,
+                Wrong::LossyIsChecked => Mode::Checked,
+                _ => mode,
+            };
+            self.tell(Asked::Bundle(mode, bundle), &mut lent)
         }
     }
 
+    fn without_signs(bytes: &[u8]) -> Vec<u8> {
+        let others = bytes.iter().filter(|&&byte| byte != b'+');
+        others.copied().collect()
+    }
+
     impl Gatherer for StandIn {
-        fn read_text(
-            &self,
-            text: &[u8],
-            scratch: &mut [u64],
-            out: &mut [u8],
-            answer: &mut [u64],
-        ) -> u32 {
-            let number = self.tell(Asked::Text(text), scratch, out, answer);
-            scratch.fill(3);
+        fn read_text(&self, text: &[u8], mut lent: Lent) -> u32 {
+            let number = self.tell(Asked::Text(text), &mut lent);
+            lent.scratch.fill(3);
             number
         }
 
         fn gather(&self, bundle: &[u8], out: &mut [u8], answer: &mut [u64]) -> u32 {
             let entries = 256 - usize::from(self.0 == Wrong::InnerLimit);
-            let scratch = vec![0; words_for(entries)];
-            self.tell(Asked::Bundle(Mode::Checked, bundle), &scratch, out, answer)
-        }
-
-        fn gather_with(
-            &self,
-            bundle: &[u8],
-            scratch: &mut [u64],
-            out: &mut [u8],
-            answer: &mut [u64],
-        ) -> u32 {
-            let mode = if self.0 == Wrong::CheckedIsLossy {
-                Mode::Lossy
-            } else {
-                Mode::Checked
+            let mut lent = Lent {
+                scratch: &mut vec![0; words_for(entries)],
+                out,
+                answer,
             };
-            self.tell(Asked::Bundle(mode, bundle), scratch, out, answer)
+            self.tell(Asked::Bundle(Mode::Checked, bundle), &mut lent)
         }
 
-        fn gather_lossy(
-            &self,
-            bundle: &[u8],
-            scratch: &mut [u64],
-            out: &mut [u8],
-            answer: &mut [u64],
-        ) -> u32 {
-            let mode = if self.0 == Wrong::LossyIsChecked {
-                Mode::Checked
-            } else {
-                Mode::Lossy
-            };
-            self.tell(Asked::Bundle(mode, bundle), scratch, out, answer)
+        fn gather_with(&self, bundle: &[u8], lent: Lent) -> u32 {
+            self.tell_bundle(Mode::Checked, bundle, lent)
         }
 
-        fn filter_text(
-            &self,
-            text: &[u8],
-            pairs: &[[u32; 2]],
-            used: usize,
-            scratch: &mut [u64],
-            out: &mut [u8],
-            answer: &mut [u64],
-        ) -> u32 {
-            let list = lines(pairs, used);
+        fn gather_lossy(&self, bundle: &[u8], lent: Lent) -> u32 {
+            self.tell_bundle(Mode::Lossy, bundle, lent)
+        }
+
+        fn filter_text(&self, text: &[u8], list: &List, mut lent: Lent) -> u32 {
             let asked = if self.0 == Wrong::FilterKeepsAll && list.held().is_some() {
                 Asked::Text(text)
             } else {
-                Asked::Filter(text, &list)
+                Asked::Filter(text, list)
             };
-            self.tell(asked, scratch, out, answer)
+            self.tell(asked, &mut lent)
         }
     }
 
-    fn lines(pairs: &[[u32; 2]], used: usize) -> List {
+    /// A list of line 2 that says that so many of its pairs count.
+    fn line_two(used: usize) -> List {
         List {
-            pairs: pairs.to_vec(),
+            pairs: vec![[2, 2]],
             used,
         }
     }
@@ -453,6 +380,7 @@ mod tests {
             "SF:a//b\nFN:1,f\nDA:1,1,c\nend_of_record\n",
             "SF:a/b\nFN:2,f\nDA:2,1\nend_of_record\n",
             "DA:1,1\n",
+            "SF:a\nBRDA:1,0,0,+1\nend_of_record\n",
         ];
         let wide = crate::reports::systematic::ascending(256);
         let mut comparison = Comparison::new(StandIn(wrong), 1);
@@ -461,8 +389,8 @@ mod tests {
             for text in texts {
                 comparison.text(text.as_bytes());
             }
-            comparison.filter(texts[0].as_bytes(), &lines(&[[2, 2]], 1));
-            comparison.filter(texts[0].as_bytes(), &lines(&[[2, 2]], 2));
+            comparison.filter(texts[0].as_bytes(), &line_two(1));
+            comparison.filter(texts[0].as_bytes(), &line_two(2));
             comparison.bundle(&bundles::of(&texts[..2]));
             comparison.bundle(&bundles::of(&[texts[0], texts[0]]));
             comparison.bundle(b"");
@@ -473,23 +401,15 @@ mod tests {
     #[test]
     fn a_port_that_answers_as_expected_has_no_differences() {
         let comparison = compared(Wrong::Nothing);
-        assert_eq!(comparison.differences, 0);
-        for number in [0, 8, 10, 11, 14, 16, 18] {
+        assert_eq!(comparison.differences.count, 0);
+        for number in [0, 8, 10, 11, 14, 16, 18, 19] {
             assert!(comparison.tally.calls_refused(number) > 0, "{number}");
         }
     }
 
     #[test]
     fn whatever_a_port_does_wrong_is_seen() {
-        let words = (0..WORDS).map(Wrong::Word);
         let others = [
-            Wrong::Number,
-            Wrong::ShortAnswerBegun,
-            Wrong::LastByte,
-            Wrong::WrittenPastTheReport,
-            Wrong::WrittenOnRefusal,
-            Wrong::NeededLength,
-            Wrong::ExactFitRefused,
             Wrong::OneEntryFewer,
             Wrong::OneEntryMore,
             Wrong::ScratchRead,
@@ -497,17 +417,20 @@ mod tests {
             Wrong::CheckedIsLossy,
             Wrong::InnerLimit,
             Wrong::FilterKeepsAll,
+            Wrong::PlusTaken,
         ];
-        for wrong in words.chain(others) {
-            assert!(compared(wrong).differences > 0, "{wrong:?} is not seen");
+        for wrong in Wrong::of_printing().chain(others) {
+            assert!(
+                compared(wrong).differences.count > 0,
+                "{wrong:?} is not seen"
+            );
         }
     }
 
     #[test]
-    fn the_smallest_differences_are_shown() {
+    fn the_smallest_difference_is_shown_first() {
         let comparison = compared(Wrong::Number);
-        assert_eq!(comparison.shown.len(), SHOWN);
-        assert!(comparison.shown.is_sorted_by_key(|&(len, _)| len));
-        assert_eq!(comparison.shown[0].0, 0);
+        let first = comparison.differences.shown().next().unwrap().to_string();
+        assert!(first.starts_with("gather b\"\" (hex )"), "{first}");
     }
 }

@@ -1,7 +1,8 @@
 //! What a reading, a filter or a gather must answer: the Rust's answer, and where SPEC 9.1 added a number, the count's.
 
-use super::reference::{self, Entries, SUM_OF_CALLS, SUM_OF_RUNS, TOO_MANY_ENTRIES};
+use super::reference::{self, Entries, SECOND_PATH, SUM_OF_CALLS, SUM_OF_RUNS, TOO_MANY_ENTRIES};
 use super::{bundles, Asked};
+use crate::plus::SIGNED_NUMBER;
 use crate::ranges::expected::told;
 use oracle::{Fault, Mode, Refusal, Report};
 
@@ -16,6 +17,9 @@ pub struct Expected {
     pub told: Told,
     /// The most entries that there were at a time.
     pub entries: usize,
+    /// The Rust answers otherwise, as was asked for: a section has a second SF, or a number a plus sign. It is still asked about all that
+    /// comes before.
+    pub apart: bool,
 }
 
 impl Expected {
@@ -25,8 +29,9 @@ impl Expected {
             Ok(texts) => texts,
             Err(number) => {
                 return Some(Expected {
-                    told: Err(not_well_formed(number)),
+                    told: Err(Refusal::numbered(number)),
                     entries: 0,
+                    apart: false,
                 })
             }
         };
@@ -35,9 +40,18 @@ impl Expected {
         }
         let mut entries = Entries::limited(usize::MAX);
         let counted = reference(asked, &texts, &mut entries);
+        let apart = matches!(&counted, Err(refusal) if is_asked_for(refusal.number));
+        let told = match counted {
+            Err(refusal) if apart => {
+                assert_taken_before(asked, &texts, refusal);
+                Err(refusal)
+            }
+            counted => agreed(counted, rust(asked, &texts)),
+        };
         Some(Expected {
-            told: agreed(counted, rust(asked, &texts)),
+            told,
             entries: entries.most,
+            apart,
         })
     }
 
@@ -48,15 +62,6 @@ impl Expected {
         }
         let texts = texts_of(asked).expect("entries were read");
         reference(asked, &texts, &mut Entries::limited(limit)).map(oracle::print_report)
-    }
-}
-
-fn not_well_formed(number: u32) -> Refusal {
-    Refusal {
-        number,
-        text: 0,
-        line: 0,
-        field: 0,
     }
 }
 
@@ -112,18 +117,40 @@ fn agreed(counted: Result<Report, Refusal>, rust: Result<Vec<u8>, Fault>) -> Tol
     }
 }
 
+/// The Rust takes the texts before the refused one, and the lines before the refused one.
+fn assert_taken_before(asked: Asked, texts: &[&[u8]], refusal: Refusal) {
+    let lines = reference::lines(texts[refusal.text]);
+    let mut before = Vec::new();
+    for line in lines.take(refusal.line - 1) {
+        before.extend_from_slice(line);
+        before.push(b'\n');
+    }
+    before.extend_from_slice(b"end_of_record\n");
+    assert!(
+        oracle::read_text(&before).is_ok(),
+        "the Rust refuses an earlier line"
+    );
+    if let Asked::Bundle(mode, _) = asked {
+        let earlier = oracle::gather(mode, &texts[..refusal.text]);
+        assert!(earlier.is_ok(), "the Rust refuses an earlier text");
+    }
+}
+
+/// Whether a refusal was asked for where the Rust gives none.
+fn is_asked_for(number: u32) -> bool {
+    matches!(number, SIGNED_NUMBER | SECOND_PATH)
+}
+
 /// Whether a number is one that the mode can give.
 pub fn may_refuse(asked: Asked, number: u32) -> bool {
-    match asked {
-        Asked::Text(_) => (1..=TOO_MANY_ENTRIES).contains(&number) || number == 14,
-        Asked::Filter(..) => {
-            matches!(number, 1..=TOO_MANY_ENTRIES | 14 | RANGES_NOT_WELL_FORMED)
+    let of_any = matches!(number, 1..=TOO_MANY_ENTRIES | 14) || is_asked_for(number);
+    of_any
+        || match asked {
+            Asked::Text(_) => false,
+            Asked::Filter(..) => number == RANGES_NOT_WELL_FORMED,
+            Asked::Bundle(Mode::Checked, _) => matches!(number, 11..=13 | NOT_WELL_FORMED),
+            Asked::Bundle(Mode::Lossy, _) => matches!(number, 13 | NOT_WELL_FORMED),
         }
-        Asked::Bundle(Mode::Checked, _) => (1..=14).contains(&number) || number == NOT_WELL_FORMED,
-        Asked::Bundle(Mode::Lossy, _) => {
-            matches!(number, 1..=10 | 13 | 14 | NOT_WELL_FORMED)
-        }
-    }
 }
 
 #[cfg(test)]
@@ -171,6 +198,50 @@ mod tests {
         assert_eq!(expected.entries, 3);
         let refused = expected.limited(asked, 2).unwrap_err();
         assert_eq!((refused.number, refused.text, refused.line), (10, 1, 0));
+    }
+
+    #[test]
+    fn a_second_path_is_kept_apart() {
+        let told = |text: &str| {
+            let expected = Expected::of(Asked::Text(text.as_bytes())).unwrap();
+            let place = expected.told.as_ref().err();
+            (
+                expected.apart,
+                place.map(|refusal| (refusal.number, refusal.line)),
+            )
+        };
+        assert_eq!(
+            told("SF:\nDA:1,1\nSF:a\nend_of_record\n"),
+            (true, Some((25, 3)))
+        );
+        assert_eq!(told("SF:a\nSF:a\n"), (true, Some((25, 2))));
+        assert_eq!(told("SF:a\nTN:b\nSF:a\n"), (false, Some((7, 2))));
+        assert_eq!(
+            told("SF:a\nend_of_record\nSF:b\nend_of_record\n"),
+            (false, None)
+        );
+        let second = gathered(Mode::Lossy, &[MAX, b"SF:a\nSF:b\n"])
+            .told
+            .unwrap_err();
+        assert_eq!((second.number, second.text, second.line), (25, 1, 2));
+    }
+
+    #[test]
+    fn a_plus_sign_is_kept_apart() {
+        let told = |text: &str| {
+            let expected = Expected::of(Asked::Text(text.as_bytes())).unwrap();
+            let place = expected.told.as_ref().err();
+            let place = place.map(|refusal| (refusal.number, refusal.line, refusal.field));
+            (expected.apart, place)
+        };
+        assert_eq!(told("SF:a\nBRDA:1,0,0,+5\n"), (true, Some((19, 2, 4))));
+        assert_eq!(told("LF:+\nXX\n"), (true, Some((19, 1, 1))));
+        assert_eq!(told("SF:a\nDA:x,+1\n"), (false, Some((5, 2, 1))));
+        assert_eq!(told("SF:a\nTN:b\nDA:+1,1\n"), (false, Some((7, 2, 0))));
+        assert_eq!(told("TN:+5\nFN:1,+f\nend_of_record:+1\n"), (false, None));
+        let plus = gathered(Mode::Checked, &[MAX, b"SF:a\nDA:+1,1\n"]);
+        let refused = plus.told.unwrap_err();
+        assert_eq!((refused.number, refused.text, refused.line), (19, 1, 2));
     }
 
     #[test]

@@ -12,8 +12,8 @@ const PATHS: [&str; 14] = [
     "a/b", "a//b", "a/./b", "a/b/", "a", "a/", "./a", "a-b", "/a", "//a/.", "", "..", ".", "名/x",
 ];
 const NAMES: [&str; 8] = ["f", "g", "fg", "f,1", "", "-", "né", "G"];
-const LINES: [&str; 8] = ["1", "2", "3", "0", "007", "+10", "4294967295", "20"];
-const COUNTS: [&str; 6] = ["0", "1", "2", "+7", "0012", "99"];
+const LINES: [&str; 8] = ["1", "2", "3", "0", "007", "10", "4294967295", "20"];
+const COUNTS: [&str; 6] = ["0", "1", "2", "7", "0012", "99"];
 const LARGE: [&str; 5] = [
     "18446744073709551615",
     "18446744073709551614",
@@ -23,6 +23,9 @@ const LARGE: [&str; 5] = [
 ];
 const CHECKSUMS: [&str; 4] = ["c1", "c2", "", "-"];
 const OTHER_TAGS: [&str; 6] = ["FNF", "FNH", "BRF", "BRH", "LF", "LH"];
+
+/// Of how many texts one gets a plus sign: it then leaves the comparison with the Rust.
+const SIGN_ONE_IN: usize = 40;
 
 /// How texts of one question are made: what is rare in all is common in some.
 #[derive(Clone, Copy)]
@@ -70,6 +73,9 @@ pub fn text(rng: &mut Rng, habit: Habit) -> Vec<u8> {
     if rng.one_in(6) {
         damage(rng, &mut lines);
     }
+    if rng.one_in(SIGN_ONE_IN) {
+        put_sign(rng, &mut lines);
+    }
     let mut text = joined(rng, &lines);
     if rng.one_in(24) {
         change_a_byte(rng, &mut text);
@@ -92,7 +98,7 @@ fn section(rng: &mut Rng, habit: Habit, lines: &mut Vec<String>) {
     for _ in 0..items {
         lines.push(item(rng, habit));
     }
-    if rng.one_in(8) {
+    if rng.one_in(40) {
         lines.push(source_file(rng, habit));
     }
     lines.push("end_of_record".to_owned());
@@ -227,6 +233,21 @@ fn damage_line(rng: &mut Rng, line: &mut String) {
             line.insert_str(colon, rng.pick(&[",", "x", "-", "+", "4294967296"]));
         }
         _ => line.push_str("99999999999999999999"),
+    }
+}
+
+/// A plus sign before a field: most are numbers, some are texts.
+fn put_sign(rng: &mut Rng, lines: &mut [String]) {
+    if lines.is_empty() {
+        return;
+    }
+    let line = rng.below(lines.len());
+    let fields: Vec<usize> = lines[line]
+        .match_indices([':', ','])
+        .map(|(place, _)| place + 1)
+        .collect();
+    if !fields.is_empty() {
+        lines[line].insert(rng.pick(&fields), '+');
     }
 }
 
@@ -370,7 +391,9 @@ fn many(rng: &mut Rng) -> Vec<u8> {
 #[cfg(test)]
 mod tests {
     use super::*;
+    use crate::plus::SIGNED_NUMBER;
     use crate::reports::expected::{Expected, NOT_WELL_FORMED, RANGES_NOT_WELL_FORMED};
+    use crate::reports::reference::SECOND_PATH;
     use crate::reports::Asked;
     use oracle::Mode;
     use std::collections::HashSet;
@@ -391,7 +414,21 @@ mod tests {
             let habit = Habit::random(rng);
             Expected::of(Asked::Text(&text(rng, habit)))
         });
-        assert_eq!(met, HashSet::from_iter(0..=9));
+        let others = [SIGNED_NUMBER, SECOND_PATH];
+        assert_eq!(met, HashSet::from_iter((0..=9).chain(others)));
+    }
+
+    #[test]
+    fn few_texts_leave_the_comparison() {
+        oracle::hush_overflow();
+        let mut rng = Rng::new(5);
+        let is_apart = |_: &i32| {
+            let habit = Habit::random(&mut rng);
+            let text = text(&mut rng, habit);
+            Expected::of(Asked::Text(&text)).is_some_and(|expected| expected.apart)
+        };
+        let apart = (0..10_000).filter(is_apart).count();
+        assert!((200..1_000).contains(&apart), "{apart}");
     }
 
     #[test]
@@ -401,16 +438,14 @@ mod tests {
             let text = text(rng, habit);
             Expected::of(Asked::Filter(&text, &lines_kept(rng)))
         });
-        let mut all = HashSet::from_iter(0..=9);
-        all.insert(RANGES_NOT_WELL_FORMED);
-        assert_eq!(met, all);
+        let others = [RANGES_NOT_WELL_FORMED, SIGNED_NUMBER, SECOND_PATH];
+        assert_eq!(met, HashSet::from_iter((0..=9).chain(others)));
     }
 
     #[test]
     fn bundles_meet_every_refusal_of_a_gather() {
         let met = numbers(|rng| Expected::of(Asked::Bundle(Mode::Checked, &bundle(rng))));
-        let mut all = HashSet::from_iter((0..=9).chain(11..=13));
-        all.insert(NOT_WELL_FORMED);
-        assert_eq!(met, all);
+        let others = (11..=13).chain([NOT_WELL_FORMED, SIGNED_NUMBER, SECOND_PATH]);
+        assert_eq!(met, HashSet::from_iter((0..=9).chain(others)));
     }
 }

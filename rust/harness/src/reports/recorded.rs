@@ -1,6 +1,6 @@
 //! Recorded bundles and what the program `gather` prints for them, for a run without Rust.
 //!
-//! The answers are the Rust's; where SPEC 9.1 added a number (9, 10, 13, 14 and 16) they are the count's.
+//! The answers are the Rust's; where SPEC 9.1 added a number (9, 10, 13, 14, 16, 19 and 25) they are the count's.
 
 use super::expected::{Expected, NOT_WELL_FORMED};
 use super::systematic::ascending;
@@ -22,35 +22,22 @@ impl Recorded {
     /// What the program prints.
     pub fn answer(&self) -> Vec<u8> {
         if self.bundle.len() > MAX_INPUT {
-            return refused(numbered(NOT_WELL_FORMED));
+            return refused(Refusal::numbered(NOT_WELL_FORMED));
         }
         let asked = Asked::Bundle(Mode::Checked, &self.bundle);
         let expected = Expected::of(asked).expect("recorded bundles are UTF-8");
         match expected.limited(asked, INNER_WORDS / WORDS_PER_ENTRY) {
-            Ok(printed) if printed.len() > MAX_OUTPUT => refused(numbered(OUTPUT_TOO_SHORT)),
+            Ok(printed) if printed.len() > MAX_OUTPUT => {
+                refused(Refusal::numbered(OUTPUT_TOO_SHORT))
+            }
             Ok(printed) => printed,
             Err(refusal) => refused(refusal),
         }
     }
 }
 
-fn numbered(number: u32) -> Refusal {
-    Refusal {
-        number,
-        text: 0,
-        line: 0,
-        field: 0,
-    }
-}
-
 fn refused(refusal: Refusal) -> Vec<u8> {
-    let Refusal {
-        number,
-        text,
-        line,
-        field,
-    } = refusal;
-    format!("refused {number} {text} {line} {field}\n").into_bytes()
+    format!("{refusal}\n").into_bytes()
 }
 
 const FIRST: &str = "TN:a\nSF:m.c\nFN:3,f\nFNDA:2,f\nDA:3,2\nDA:4,0,c1\nend_of_record\n";
@@ -116,6 +103,20 @@ fn of_texts() -> Vec<(&'static str, Vec<&'static str>)> {
             vec![MAX, "DA:1,1\nend_of_record\n", MAX],
         ),
         ("refused-13-line", vec![LINE_MAX, MAX]),
+        ("refused-19", vec![FIRST, "SF:b\nDA:1,1\nBRDA:1,0,0,+5\n"]),
+        ("refused-19-alone", vec!["LF:+\n"]),
+        ("refused-19-then-02", vec!["SF:a\nFN:+1\n"]),
+        ("refused-05-then-19", vec!["SF:a\nDA:x,+1\n"]),
+        (
+            "plus-in-texts",
+            vec!["TN:+5\nSF:+a\nFN:1,+2,f\nFNDA:2,+2,f\nDA:1,2,+5\nend_of_record:+1\n"],
+        ),
+        ("refused-25", vec![FIRST, "SF:\nDA:1,1\nSF:a\n"]),
+        ("refused-25-same", vec!["SF:a\nSF:a\nend_of_record\n"]),
+        (
+            "one-path-each",
+            vec!["SF:a\nDA:1,1\nend_of_record\nDA:1,1\nSF:b\nDA:2,1\nend_of_record\n"],
+        ),
         (
             "calls-stop",
             vec!["FNDA:18446744073709551615,f\nend_of_record\n"; 2],
@@ -197,7 +198,7 @@ mod tests {
                     .ok()
             })
             .collect();
-        assert_eq!(numbers, HashSet::from_iter((1..=14).chain([16])));
+        assert_eq!(numbers, HashSet::from_iter((1..=14).chain([16, 19, 25])));
     }
 
     #[test]

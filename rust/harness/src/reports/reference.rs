@@ -2,6 +2,7 @@
 //!
 //! The maps are the Rust's, so that keys are its keys; what is done with them is written here from SPEC 3 alone.
 
+use crate::plus;
 use oracle::report::section::{branch, function, line, Key, Sections, Value};
 use oracle::{Fault, Mode, Record, Refusal, Report};
 use std::collections::btree_map::{BTreeMap, Entry};
@@ -11,6 +12,7 @@ pub const TOO_MANY_ENTRIES: u32 = 10;
 const STARTS_DIFFER: u32 = 11;
 const CHECKSUMS_DIFFER: u32 = 12;
 pub const SUM_OF_RUNS: u32 = 13;
+pub const SECOND_PATH: u32 = 25;
 
 /// How many entries there may be, and the most that there were.
 pub struct Entries {
@@ -55,10 +57,8 @@ pub fn gather(mode: Mode, texts: &[&[u8]], entries: &mut Entries) -> Told {
 
 fn refusal(number: u32, line: usize) -> Refusal {
     Refusal {
-        number,
-        text: 0,
         line,
-        field: 0,
+        ..Refusal::numbered(number)
     }
 }
 
@@ -69,7 +69,7 @@ pub fn read(text: &[u8], entries: &mut Entries) -> Told {
     let mut number = 0;
     for line in lines(text) {
         number += 1;
-        let record = oracle::read_line(line).map_err(|fault| on_line(fault, number))?;
+        let record = plus::read_line(line).map_err(|fault| on_line(fault, number))?;
         reading
             .take(record)
             .and_then(|()| entries.count(reading.entries()))
@@ -84,7 +84,7 @@ pub fn read(text: &[u8], entries: &mut Entries) -> Told {
 }
 
 /// Cut at each byte 10; an empty last piece is no line.
-fn lines(text: &[u8]) -> impl Iterator<Item = &[u8]> {
+pub fn lines(text: &[u8]) -> impl Iterator<Item = &[u8]> {
     let whole = text.strip_suffix(b"\n").unwrap_or(text);
     let none = usize::from(text.is_empty());
     whole.split(|&byte| byte == b'\n').skip(none)
@@ -103,7 +103,8 @@ struct Reading {
     kept: Sections,
     kept_entries: usize,
     name: String,
-    path: std::path::PathBuf,
+    /// The open section's SF.
+    path: Option<std::path::PathBuf>,
     /// The section from its first line other than TN.
     open: Option<Value>,
 }
@@ -123,17 +124,25 @@ impl Reading {
         }
         let open = self.open.get_or_insert_default();
         match record {
-            Record::SourceFile { path } => self.path = path,
+            Record::SourceFile { path } => self.name_section(path)?,
             Record::EndOfRecord => self.close(),
             record => take_item(open, record)?,
         }
         Ok(())
     }
 
+    /// A section has one SF, which the Rust does not ask for.
+    fn name_section(&mut self, path: std::path::PathBuf) -> Result<(), u32> {
+        match self.path.replace(path) {
+            None => Ok(()),
+            Some(_) => Err(SECOND_PATH),
+        }
+    }
+
     fn close(&mut self) {
         let key = Key {
             test_name: std::mem::take(&mut self.name),
-            source_file: std::mem::take(&mut self.path),
+            source_file: self.path.take().unwrap_or_default(),
         };
         let closed = self.open.take().unwrap_or_default();
         if entries_in(&closed) == 1 {

@@ -5,7 +5,7 @@ use super::workloads;
 use crate::Rng;
 
 /// Each meets some of the others: in a path spelled otherwise, a start or checksum given or not, a sum near 2^64, or a fault.
-const TEXTS: [&str; 12] = [
+const TEXTS: [&str; 14] = [
     "",
     "TN:a\n",
     "TN:a\nSF:a//b\nFN:3,f\nFNDA:2,f\nDA:3,2,c1\nDA:4,0\nend_of_record\n",
@@ -16,6 +16,8 @@ const TEXTS: [&str; 12] = [
     "TN:a\nSF:a/b\nBRDA:3,0,0,18446744073709551612\nend_of_record\n",
     "SF:b\nDA:1,1\nend_of_record\nSF:./b\nDA:1,1\nend_of_record\nSF:b\nDA:2,2\nend_of_record\nTN:z",
     "SF:a-b\nDA:1,1\nend_of_record\nSF:a/b\nDA:1,1\nend_of_record\nSF:c\nend_of_record\n",
+    "TN:a\nSF:\nDA:1,1\nSF:a/b\nend_of_record\n",
+    "TN:a\nSF:a/b\nFN:1,+g\nBRDA:3,0,0,+4\nend_of_record\n",
     "DA:1,1\nTN:a\n",
     "DA:1,1\n",
 ];

@@ -2,36 +2,11 @@
 
 use super::expected::Told;
 use super::Asked;
+use crate::tally::{row, rows, NAMES, NUMBERS};
 use oracle::Mode;
 use std::fmt;
 
 const QUESTIONS: usize = 4;
-
-/// Numbers of SPEC 9.1, and 0 for an answer.
-const NUMBERS: usize = 19;
-
-/// What each number says; those that no text or bundle can give are empty.
-const NAMES: [&str; NUMBERS] = [
-    "answered",
-    "tag unknown",
-    "field missing",
-    "too many fields",
-    "number empty",
-    "bad digit",
-    "number too large",
-    "TN in a section",
-    "ends in a section",
-    "sum of calls",
-    "too many entries",
-    "starts differ",
-    "checksums differ",
-    "sum of runs",
-    "output too short",
-    "",
-    "bundle ill formed",
-    "",
-    "ranges ill formed",
-];
 
 #[derive(Default)]
 pub struct Tally {
@@ -41,6 +16,8 @@ pub struct Tally {
     calls: [[u64; QUESTIONS]; NUMBERS],
     /// Questions that are not UTF-8.
     pub outside: [u64; QUESTIONS],
+    /// Questions that the Rust answers otherwise: a section has a second SF, or a number a plus sign.
+    pub apart: [u64; QUESTIONS],
     /// Questions asked with every length of scratch, output and answer.
     pub thorough: u64,
     /// Written texts that were read back.
@@ -56,18 +33,22 @@ fn column(asked: Asked) -> usize {
     }
 }
 
-fn row(told: &Told) -> usize {
+fn number(told: &Told) -> usize {
     told.as_ref()
         .map_or_else(|refusal| refusal.number as usize, |_| 0)
 }
 
 impl Tally {
     pub fn count_question(&mut self, asked: Asked, told: &Told) {
-        self.asked[row(told)][column(asked)] += 1;
+        self.asked[number(told)][column(asked)] += 1;
     }
 
     pub fn count_outside(&mut self, asked: Asked) {
         self.outside[column(asked)] += 1;
+    }
+
+    pub fn count_apart(&mut self, asked: Asked) {
+        self.apart[column(asked)] += 1;
     }
 
     pub fn count_call(&mut self, asked: Asked, number: u32) {
@@ -88,28 +69,14 @@ impl Tally {
     }
 }
 
-fn columns(f: &mut fmt::Formatter, of: &str) -> fmt::Result {
-    writeln!(
-        f,
-        "{of:<29}{:>10}{:>10}{:>10}{:>10}",
-        "texts", "filters", "checked", "lossy"
-    )
-}
-
-fn line(f: &mut fmt::Formatter, what: &str, counts: [u64; QUESTIONS]) -> fmt::Result {
-    let [text, filter, checked, lossy] = counts;
-    writeln!(
-        f,
-        "{what:<29}{text:>10}{filter:>10}{checked:>10}{lossy:>10}"
-    )
-}
-
-fn rows(f: &mut fmt::Formatter, counts: &[[u64; QUESTIONS]; NUMBERS]) -> fmt::Result {
-    for (number, (name, &counts)) in NAMES.iter().zip(counts).enumerate() {
+/// A row for each number, under the names of the columns.
+fn table(f: &mut fmt::Formatter, what: &str, counts: &[[u64; QUESTIONS]; NUMBERS]) -> fmt::Result {
+    row(f, what, &["texts", "filters", "checked", "lossy"])?;
+    for (number, (name, counts)) in NAMES.iter().zip(counts).enumerate() {
         if number == 0 {
-            line(f, name, counts)?;
+            row(f, name, counts)?;
         } else if !name.is_empty() {
-            line(f, &format!("refused {number:>2} {name}"), counts)?;
+            row(f, &format!("refused {number:>2} {name}"), counts)?;
         }
     }
     Ok(())
@@ -117,14 +84,23 @@ fn rows(f: &mut fmt::Formatter, counts: &[[u64; QUESTIONS]; NUMBERS]) -> fmt::Re
 
 impl fmt::Display for Tally {
     fn fmt(&self, f: &mut fmt::Formatter) -> fmt::Result {
-        columns(f, "questions")?;
-        rows(f, &self.asked)?;
-        line(f, "outside", self.outside)?;
-        writeln!(f, "questions                    {:>10}", self.questions())?;
-        writeln!(f, "  of them with every length  {:>10}", self.thorough)?;
-        columns(f, "calls")?;
-        rows(f, &self.calls)?;
-        writeln!(f, "calls                        {:>10}", self.calls())?;
-        writeln!(f, "  of them reading back       {:>10}", self.read_back)
+        table(f, "questions", &self.asked)?;
+        row(f, "outside", &self.outside)?;
+        row(f, "apart, not compared", &self.apart)?;
+        rows(
+            f,
+            &[
+                ("questions", self.questions()),
+                ("  of them with every length", self.thorough),
+            ],
+        )?;
+        table(f, "calls", &self.calls)?;
+        rows(
+            f,
+            &[
+                ("calls", self.calls()),
+                ("  of them reading back", self.read_back),
+            ],
+        )
     }
 }

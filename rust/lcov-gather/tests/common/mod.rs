@@ -89,6 +89,13 @@ pub fn said(output: &Output) -> String {
     String::from_utf8(output.stderr.clone()).unwrap()
 }
 
+/// What is said without the indented lines, which explain a refusal; explain.rs is about those.
+pub fn said_in_short(output: &Output) -> String {
+    let said = said(output);
+    let lines = said.split_inclusive('\n');
+    lines.filter(|line| !line.starts_with("  ")).collect()
+}
+
 pub fn section(path: &str, lines: &[(u32, u64)]) -> String {
     let mut text = format!("TN:\nSF:{path}\n");
     for (line, count) in lines {
@@ -142,4 +149,20 @@ pub fn unpacked(archive: &str, folder: &Folder) -> Option<Vec<PathBuf>> {
     let mut files: Vec<PathBuf> = entries.map(|entry| entry.unwrap().path()).collect();
     files.sort();
     Some(files)
+}
+
+/// A generator of numbers below a bound (xorshift), the same in each run.
+pub struct Random(pub u64);
+
+impl Random {
+    pub fn below(&mut self, bound: usize) -> usize {
+        self.0 ^= self.0 << 13;
+        self.0 ^= self.0 >> 7;
+        self.0 ^= self.0 << 17;
+        (self.0 >> 11) as usize % bound
+    }
+
+    pub fn of<'a>(&mut self, words: &[&'a str]) -> &'a str {
+        words[self.below(words.len())]
+    }
 }

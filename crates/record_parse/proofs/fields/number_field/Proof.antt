@@ -1,5 +1,5 @@
 use borrow.Author.Needs.{needs}
-use Rattle.record_parse.proofs.FieldLaws.{short-last, short-more, short-fits}
+use Rattle.record_parse.proofs.FieldLaws.{short-last, short-more, short-comma, short-fits}
 use Rattle.record_parse.proofs.fields.number_field.Statement.{statement}
 use Rattle.record_parse.proofs.fields.number_field.Tie as tie
 
@@ -9,6 +9,7 @@ number-field-spec =
     (tie.spec
     (λ c. search needs)
     (λ c. search needs)
+    (λ c. search (short-comma, needs))
     (λ c. search (short-fits, needs))
     (λ c. search needs)
     (λ c κs. search needs)

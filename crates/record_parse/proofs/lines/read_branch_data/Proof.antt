@@ -2,23 +2,21 @@
 use Prim.Native.Nat.{ℕ}
 use borrow.Author.Needs.{needs}
 use Rattle.model.specs.Line.{readBody}
-use mathlib.Core.Path.{ap}
 use native.Mathlib.Omega.{arith}
-use Rattle.scan.specs.Scan.{nextOf}
 use lib.ListN.{length-take, length-drop, drop}
-use Rattle.record_parse.proofs.FieldLaws.{FieldAt, first-field, short-part}
+use Rattle.record_parse.proofs.FieldLaws.{FieldAt, first-field, part-end}
 use Rattle.record_parse.proofs.LineLaws.{second-field, third-field, fourth-field, more-fits, more-then, more-up, asks-number, asks-taken, taken-read}
 use Rattle.record_parse.proofs.lines.read_branch_data.Statement.{statement}
 use Rattle.record_parse.proofs.lines.read_branch_data.Tie as tie
 
 abbrev start : tie.After-known-told → tie.Start
-start c = c .before .before .before .before .before .before .before
+start c = c .before .before .before .before .before .before .before .before
 
 abbrev one : tie.After-known-told2 → tie.After-known-told
-one c = c .before .before .before .before .before .before
+one c = c .before .before .before .before .before .before .before
 
 abbrev two : tie.After-known-told3 → tie.After-known-told2
-two c = c .before .before .before .before .before .before
+two c = c .before .before .before .before .before .before .before
 
 -- field k of the body starts at n
 abbrev Starts : tie.Start → ℕ → ℕ → Type 0
@@ -41,47 +39,59 @@ unfolding readBody
 read-branch-data-spec =
     tie.close
     (tie.spec
+    (λ c. search needs)
+    (λ c. search needs)
+    (λ c. search needs)
+    (λ c κs. search (part-end, needs))
+    (λ c. search needs)
+    (λ c. search needs)
+    (λ c. search needs)
     (λ c κs. search needs)
-    (λ c. search needs)
-    (λ c. search needs)
-    (λ c. search needs)
-    (λ c κs. (simp (length-take, length-drop) (omega arith), (search (short-part, needs), omega arith)))
     (λ c. search needs)
     (λ c κs. search needs)
     (λ c. more-up (search (first-field, needs)) (c .before .before .number-field .ensures) _ _ (search needs) (search needs) (asks-number _ _ _ _))
-    (λ c κs. second c .within)
-    (λ c. second (c .before) .within)
-    (λ c. omega (arith, second (c .before) .within))
+    (λ c. second c .within)
+    (λ c. omega (arith, second c .within))
     (λ c. search needs)
-    (λ c κs. (simp (length-take, length-drop) (omega (arith, second (c .before .before) .within)), (search (short-part, needs), omega arith)))
+    (λ c κs. part-end _ _ (second (c .before) .within))
+    (λ c. second (c .before .before) .within)
+    (λ c. omega (arith, second (c .before .before) .within))
+    (λ c. search needs)
+    (λ c κs. search needs)
     (λ c. search needs)
     (λ c κs. search needs)
     (λ c.
-    let at = c .before .before .before .before .before in
+    let at = c .before .before .before .before .before .before in
     more-then (first (start at)) (at .before .before .before .number-field .ensures) _ _ _ _ (at .before .first .given .1)
     (more-up (second at) (c .before .before .number-field2 .ensures) _ _ (search needs) (search needs) (asks-number _ _ _ _)))
-    (λ c κs. third c .within)
-    (λ c. third (c .before) .within)
-    (λ c. omega (arith, third (c .before) .within))
+    (λ c. third c .within)
+    (λ c. omega (arith, third c .within))
     (λ c. search needs)
-    (λ c κs. (simp (length-take, length-drop) (omega (arith, third (c .before .before) .within)), (search (short-part, needs), omega arith)))
+    (λ c κs. part-end _ _ (third (c .before) .within))
+    (λ c. third (c .before .before) .within)
+    (λ c. omega (arith, third (c .before .before) .within))
+    (λ c. search needs)
+    (λ c κs. (simp (length-take, length-drop) (omega (arith, third (c .before .before .before) .within)), (search needs, omega arith)))
     (λ c. search needs)
     (λ c κs. search needs)
     (λ c.
-    let at = c .before .before .before .before .before in
+    let at = c .before .before .before .before .before .before in
     more-then (first (start (one at))) (one at .before .before .before .number-field .ensures) _ _ _ _ (one at .before .first .given .1)
     (more-then (second (one at)) (at .before .before .before .number-field2 .ensures) _ _ _ _ (at .before .second .given .1)
     (more-up (third at) (c .before .before .number-field3 .ensures) _ _ (search needs) (search needs) (asks-taken _ _ _ _))))
-    (λ c κs. fourth c .within)
-    (λ c. search (more-fits, needs))
-    (λ c. search (more-fits, needs))
-    (λ c. search (more-fits, needs))
-    (λ c. fourth (c .before) .within)
-    (λ c. omega (arith, fourth (c .before) .within))
+    (λ c. fourth c .within)
+    (λ c. omega (arith, fourth c .within))
     (λ c. search needs)
-    (λ c κs. search (short-part, needs))
+    (λ c κs. part-end _ _ (fourth (c .before) .within))
+    (λ c. search (more-fits, needs))
+    (λ c. search (more-fits, needs))
+    (λ c. search (more-fits, needs))
+    (λ c. fourth (c .before .before) .within)
+    (λ c. omega (arith, fourth (c .before .before) .within))
+    (λ c. search needs)
+    (λ c κs. search needs)
     (λ c.
-    let at = c .before .before .before in
+    let at = c .before .before .before .before in
     more-then (first (start (one (two at)))) (one (two at) .before .before .before .number-field .ensures) _ _ _ _ (one (two at) .before .first .given .1)
     (more-then (second (one (two at))) (two at .before .before .before .number-field2 .ensures) _ _ _ _ (two at .before .second .given .1)
     (more-then (third (two at)) (at .before .before .before .number-field3 .ensures) _ _ _ _ (at .before .third .given .1)

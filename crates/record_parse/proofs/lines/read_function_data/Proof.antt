@@ -2,9 +2,8 @@ use borrow.Author.Needs.{needs}
 use Rattle.model.specs.Line.{readBody}
 use mathlib.Core.Path.{ap}
 use native.Mathlib.Omega.{arith}
-use Rattle.scan.specs.Scan.{nextOf}
-use lib.ListN.{length-take, length-drop}
-use Rattle.record_parse.proofs.FieldLaws.{first-field, short-part}
+use Rattle.record_parse.specs.Fields.{nextOf}
+use Rattle.record_parse.proofs.FieldLaws.{first-field, part-end}
 use Rattle.record_parse.proofs.LineLaws.{line-laws, more-up, asks-text}
 use Rattle.record_parse.proofs.lines.read_function_data.Statement.{statement}
 use Rattle.record_parse.proofs.lines.read_function_data.Tie as tie
@@ -14,11 +13,14 @@ unfolding readBody
 read-function-data-spec =
     tie.close
     (tie.spec
+    (λ c. search needs)
+    (λ c. search needs)
+    (λ c. search needs)
+    (λ c κs. search (part-end, needs))
+    (λ c. search needs)
+    (λ c. search needs)
+    (λ c. search needs)
     (λ c κs. search needs)
-    (λ c. search needs)
-    (λ c. search needs)
-    (λ c. search needs)
-    (λ c κs. (simp (length-take, length-drop) (omega arith), (search (short-part, needs), omega arith)))
     (λ c. search needs)
     (λ c κs. search needs)
     (λ c. more-up (search (first-field, needs)) (c .before .before .number-field .ensures) _ _ (search needs) (search needs) (asks-text _ _ _))

@@ -2,9 +2,8 @@ use borrow.Author.Needs.{needs}
 use Rattle.model.specs.Line.{readBody}
 use mathlib.Core.Path.{ap}
 use native.Mathlib.Omega.{arith}
-use Rattle.scan.specs.Scan.{nextOf}
-use lib.ListN.{length-take, length-drop}
-use Rattle.record_parse.proofs.FieldLaws.{first-field, short-part}
+use Rattle.record_parse.specs.Fields.{nextOf}
+use Rattle.record_parse.proofs.FieldLaws.{first-field, part-end}
 use Rattle.record_parse.proofs.LineLaws.{line-laws, more-fits, more-up, asks-number}
 use Rattle.record_parse.proofs.lines.read_line_data.Statement.{statement}
 use Rattle.record_parse.proofs.lines.read_line_data.Tie as tie
@@ -14,24 +13,30 @@ unfolding readBody
 read-line-data-spec =
     tie.close
     (tie.spec
+    (λ c. search needs)
+    (λ c. search needs)
+    (λ c. search needs)
+    (λ c κs. search (part-end, needs))
+    (λ c. search needs)
+    (λ c. search needs)
+    (λ c. search needs)
     (λ c κs. search needs)
-    (λ c. search needs)
-    (λ c. search needs)
-    (λ c. search needs)
-    (λ c κs. (simp (length-take, length-drop) (omega arith), (search (short-part, needs), omega arith)))
     (λ c. search needs)
     (λ c κs. search needs)
     (λ c. more-up (search (first-field, needs)) (c .before .before .number-field .ensures) _ _ (search needs) (search needs) (asks-number _ _ _ _))
     (λ c. search (more-fits, needs))
-    (λ c κs. omega (arith, ap nextOf (c .before .first .given .1)))
-    (λ c. omega (arith, ap nextOf (c .before .before .first .given .1)))
-    (λ c. omega (arith, ap nextOf (c .before .before .first .given .1)))
+    (λ c. omega (arith, ap nextOf (c .before .first .given .1)))
+    (λ c. omega (arith, ap nextOf (c .before .first .given .1)))
     (λ c. search needs)
-    (λ c κs. (simp (length-take, length-drop) (omega (arith, ap nextOf (c .before .before .before .first .given .1))), (search (short-part, needs), omega arith)))
+    (λ c κs. part-end _ _ (omega (arith, ap nextOf (c .before .before .first .given .1))))
+    (λ c. omega (arith, ap nextOf (c .before .before .before .first .given .1)))
+    (λ c. omega (arith, ap nextOf (c .before .before .before .first .given .1)))
+    (λ c. search needs)
+    (λ c κs. search needs)
     (λ c. search needs)
     (λ c. search needs)
-    (λ c. omega (arith, ap nextOf (c .before .second2 .given .1), ap nextOf (c .before .before .before .before .before .before .before .first .given .1)))
-    (λ c. omega (arith, ap nextOf (c .before .second2 .given .1), ap nextOf (c .before .before .before .before .before .before .before .first .given .1)))
+    (λ c. omega (arith, ap nextOf (c .before .second2 .given .1), ap nextOf (c .before .before .before .before .before .before .before .before .first .given .1)))
+    (λ c. omega (arith, ap nextOf (c .before .second2 .given .1), ap nextOf (c .before .before .before .before .before .before .before .before .first .given .1)))
     (λ c. search needs)
     (λ c κs. search needs)
     (λ c. search needs)

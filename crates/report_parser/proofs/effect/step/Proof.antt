@@ -46,10 +46,9 @@ step-spec =
     (λ c. let o = c .before .before in
     let j = o .before .before in
     let y = j .before .before .before in
-    let ζ = start y .pre .0 in
     ignores (y .kind-number .ensures)
     (⊎-elim (λ w. foundFunctions (omega arith) (omega arith)) (λ v. ⊎-elim (λ w. foundBranches (omega arith) (omega arith)) (λ w. foundLines (omega arith) (omega arith)) v) (j .if2 .came))
-    (o .on-source-file2 .ensures _ ζ (ζ .path)))
+    (o .open-section .ensures _ (start y .pre .0)))
     (λ c κs. let y = c .before .before in
     let s = start y in
     (omega arith, within-line (s .pre .2), added-item (y .kind-number .ensures) (λ most. entered c most) (s .pre .2)))

@@ -1,0 +1,217 @@
+//! The order in which the library reads a section fastest: functions by name, branches, lines (SPEC 4.3). geninfo and llvm-cov write others.
+//!
+//! A record acts on its own key alone (SPEC 3.2), so that a section means the same in each order that keeps the records of one key in
+//! theirs. Functions are sorted by name and keep their order where names are equal; branches and lines keep theirs.
+
+use crate::record::Record;
+use std::ops::Range;
+
+/// A part of a text. Texts are shorter than 4 GiB.
+#[derive(Debug, Clone, Copy, PartialEq, Eq)]
+pub struct Run {
+    pub start: u32,
+    pub end: u32,
+}
+
+impl Run {
+    pub fn new(start: usize, end: usize) -> Self {
+        Run {
+            start: start as u32,
+            end: end as u32,
+        }
+    }
+
+    pub fn range(self) -> Range<usize> {
+        self.start as usize..self.end as usize
+    }
+}
+
+/// The groups of a section's lines, in the library's order.
+#[derive(Debug, Clone, Copy, PartialEq, Eq, PartialOrd, Ord)]
+enum Kind {
+    Head,
+    Function,
+    Branch,
+    Line,
+    End,
+}
+
+/// An FN or FNDA line.
+struct Function<'t> {
+    name: &'t [u8],
+    run: Run,
+    is_start: bool,
+}
+
+/// The lines of the section that is read, by kind.
+pub struct Order<'t> {
+    head: Vec<Run>,
+    functions: Vec<Function<'t>>,
+    are_functions_sorted: bool,
+    branches: Vec<Run>,
+    lines: Vec<Run>,
+    end: Vec<Run>,
+    last: Kind,
+    is_ordered: bool,
+    /// A line that is no record or is out of place: the library is to refuse the section as it is.
+    is_odd: bool,
+}
+
+impl Default for Order<'_> {
+    fn default() -> Self {
+        Order {
+            head: Vec::new(),
+            functions: Vec::new(),
+            are_functions_sorted: true,
+            branches: Vec::new(),
+            lines: Vec::new(),
+            end: Vec::new(),
+            last: Kind::Head,
+            is_ordered: true,
+            is_odd: false,
+        }
+    }
+}
+
+impl<'t> Order<'t> {
+    /// The next line of the section and where it is.
+    #[inline]
+    pub fn add(&mut self, record: Option<&Record<'t>>, start: usize, end: usize) {
+        let run = Run::new(start, end);
+        let kind = match record {
+            Some(Record::Line { .. }) => extend(&mut self.lines, run, Kind::Line),
+            Some(Record::Branch { .. }) => extend(&mut self.branches, run, Kind::Branch),
+            Some(Record::Function { name, .. }) => self.add_function(name, run, true),
+            Some(Record::Calls { name, .. }) => self.add_function(name, run, false),
+            Some(Record::SourceFile(_)) => extend(&mut self.head, run, Kind::Head),
+            Some(Record::End) => extend(&mut self.end, run, Kind::End),
+            // Totals act on nothing.
+            Some(Record::Found) => {
+                extend(&mut self.head, run, Kind::Head);
+                return;
+            }
+            Some(Record::TestName(_)) | None => {
+                self.is_odd = true;
+                return;
+            }
+        };
+        self.follow(kind);
+    }
+
+    /// The next lines of the section, all DA or all BRDA.
+    #[inline]
+    pub fn add_lines(&mut self, start: usize, end: usize) {
+        let kind = extend(&mut self.lines, Run::new(start, end), Kind::Line);
+        self.follow(kind);
+    }
+
+    #[inline]
+    pub fn add_branches(&mut self, start: usize, end: usize) {
+        let kind = extend(&mut self.branches, Run::new(start, end), Kind::Branch);
+        self.follow(kind);
+    }
+
+    #[inline]
+    fn follow(&mut self, kind: Kind) {
+        self.is_ordered &= self.last <= kind;
+        self.last = kind;
+    }
+
+    fn add_function(&mut self, name: &'t [u8], run: Run, is_start: bool) -> Kind {
+        let last = self.functions.last();
+        self.are_functions_sorted &= last.is_none_or(|last| last.name <= name);
+        self.functions.push(Function {
+            name,
+            run,
+            is_start,
+        });
+        Kind::Function
+    }
+
+    /// Functions of one name keep their order.
+    fn sort_functions(&mut self) {
+        if !self.are_functions_sorted {
+            self.functions.sort_by_key(|function| function.name);
+            self.are_functions_sorted = true;
+            self.is_ordered = false;
+        }
+    }
+
+    /// Whether a function has more lines than one FN and then one FNDA, so that one would replace or add to another.
+    pub fn has_function_again(&mut self) -> bool {
+        self.sort_functions();
+        let mut pairs = self.functions.windows(2);
+        pairs.any(|pair| pair[0].name == pair[1].name && (!pair[0].is_start || pair[1].is_start))
+    }
+
+    /// The section's lines in the library's order; none if they are in that order, or if they are to stay. No line is left.
+    pub fn take(&mut self) -> Vec<Run> {
+        let mut runs = Vec::new();
+        if !self.is_odd {
+            self.sort_functions();
+        }
+        if !self.is_ordered && !self.is_odd {
+            runs.extend_from_slice(&self.head);
+            runs.extend(self.functions.iter().map(|function| function.run));
+            runs.extend_from_slice(&self.branches);
+            runs.extend_from_slice(&self.lines);
+            runs.extend_from_slice(&self.end);
+        }
+        self.head.clear();
+        self.functions.clear();
+        self.are_functions_sorted = true;
+        self.branches.clear();
+        self.lines.clear();
+        self.end.clear();
+        self.last = Kind::Head;
+        self.is_ordered = true;
+        self.is_odd = false;
+        runs
+    }
+}
+
+/// Lines that follow each other are one run.
+#[inline]
+fn extend(runs: &mut Vec<Run>, run: Run, kind: Kind) -> Kind {
+    match runs.last_mut() {
+        Some(last) if last.end == run.start => last.end = run.end,
+        _ => runs.push(run),
+    }
+    kind
+}
+
+#[cfg(test)]
+mod tests {
+    use super::*;
+    use crate::record::lines;
+
+    fn ordered(text: &str) -> Option<String> {
+        let mut order = Order::default();
+        for line in lines(text.as_bytes()) {
+            order.add(line.record.as_ref(), line.start, line.end);
+        }
+        let runs = order.take();
+        assert_eq!(order.take(), []);
+        let parts = runs.iter().map(|run| &text[run.range()]);
+        (!runs.is_empty()).then(|| parts.collect())
+    }
+
+    #[test]
+    fn functions_by_name_then_branches_then_lines() {
+        let text = "SF:x\nFN:1,g\nFNDA:1,g\nFNDA:2,g\nFN:3,f\nFNDA:4,f\nFNF:2\nDA:2,1\nBRDA:9,0,0,-\nDA:1,1\nBRDA:1,0,0,-\nLF:1\nend_of_record\n";
+        let expected = "SF:x\nFNF:2\nLF:1\nFN:3,f\nFNDA:4,f\nFN:1,g\nFNDA:1,g\nFNDA:2,g\nBRDA:9,0,0,-\nBRDA:1,0,0,-\nDA:2,1\nDA:1,1\nend_of_record\n";
+        assert_eq!(ordered(text).as_deref(), Some(expected));
+    }
+
+    #[test]
+    fn what_is_in_order_or_odd_stays() {
+        for text in [
+            "",
+            "SF:x\nFN:1,f\nFNDA:1,f\nFNF:1\nBRDA:1,0,0,-\nBRF:1\nDA:2,1\nDA:1,1\nLF:2\nend_of_record\n",
+            "DA:1,1\nTN:x\nBRDA:1,0,0,1\nend_of_record\n",
+            "DA:1,1\nVER:x\nBRDA:1,0,0,1\nend_of_record\n",
+        ] {
+            assert_eq!(ordered(text), None, "{text}");
+        }
+    }
+}

@@ -1,0 +1,89 @@
+//! The sections of what the library wrote.
+
+use crate::order::{Order, Run};
+use crate::pieces::{range_of, Body, Origin, Piece, Text};
+use crate::record::{lines, Line, Record};
+
+const END: &[u8] = b"\nend_of_record\n";
+
+/// Each as it is printed (SPEC 6.1): TN, SF, records, end_of_record. No other line begins with those letters.
+pub fn printed_sections(report: &[u8]) -> impl Iterator<Item = &[u8]> {
+    let mut rest = report;
+    let finder = memchr::memmem::Finder::new(END);
+    std::iter::from_fn(move || {
+        let len = finder.find(rest).map_or(rest.len(), |at| at + END.len());
+        let (section, later) = rest.split_at(len);
+        rest = later;
+        (len > 0).then_some(section)
+    })
+}
+
+/// The same as pieces, to be gathered with others.
+pub fn pieces(report: &[u8]) -> Vec<Piece> {
+    let sections = printed_sections(report).map(|section| {
+        let (test, body) = first_line(section);
+        Piece {
+            test: Some(range_of(after(b"TN:", test), report)),
+            path: range_of(path_of(section), report),
+            entries: memchr::memchr_iter(b'\n', body).count(),
+            body: Body::Lines(range_of(body, report), 0),
+            runs: ordered(body, range_of(body, report).start),
+        }
+    });
+    sections.collect()
+}
+
+/// One of them as a text that was gathered before.
+pub fn joined_text(section: &[u8], lines: usize) -> Text<'_> {
+    let (test, path) = key_of(section);
+    Text {
+        origin: Origin::Joined,
+        test: Some(test),
+        path,
+        body: first_line(section).1,
+        runs: (b"", &[]),
+        entries: lines,
+    }
+}
+
+/// Functions are printed by start line, and read faster by name. They come right after SF.
+pub fn ordered(body: &[u8], at: usize) -> Vec<Run> {
+    let mut order = Order::default();
+    let is_function = |line: &Line| {
+        use Record::{Calls, Function, SourceFile};
+        let record = line.record;
+        matches!(record, Some(SourceFile(_) | Function { .. } | Calls { .. }))
+    };
+    let mut rest = 0;
+    for line in lines(body).take_while(is_function) {
+        order.add(line.record.as_ref(), at + line.start, at + line.end);
+        rest = line.end;
+    }
+    let mut runs = order.take();
+    if !runs.is_empty() {
+        runs.push(Run::new(at + rest, at + body.len()));
+    }
+    runs
+}
+
+/// Test name and path.
+pub fn key_of(section: &[u8]) -> (&[u8], &[u8]) {
+    let (test, body) = first_line(section);
+    (after(b"TN:", test), after(b"SF:", first_line(body).0))
+}
+
+/// The second line of a printed section is its SF.
+pub fn path_of(section: &[u8]) -> &[u8] {
+    key_of(section).1
+}
+
+fn first_line(text: &[u8]) -> (&[u8], &[u8]) {
+    match memchr::memchr(b'\n', text) {
+        Some(end) => (&text[..end], &text[end + 1..]),
+        None => (text, &[]),
+    }
+}
+
+fn after<'a>(tag: &[u8], line: &'a [u8]) -> &'a [u8] {
+    line.strip_prefix(tag).unwrap_or(&[])
+}
