@@ -4,7 +4,7 @@ use Prim.Native.Nat.{ℕ, _+_, _*_}
 use mathlib.Core.Path.{_≡_, refl}
 use mathlib.Core.Bool.{true, false}
 use mathlib.Core.List.{List, [], _∷_, _++_}
-use mathlib.Core.Option.{some}
+use mathlib.Core.Option.{none, some}
 use lib.ListN.{length, replicate}
 use Rattle.model.specs.declared.Mode.{Mode}
 use Rattle.model.specs.declared.Mode.the-variants.{Checked, Lossy}
@@ -16,7 +16,7 @@ use Rattle.model.specs.Bytes.{Bytes, ascii}
 use Rattle.model.specs.Path.{root, current, name, components}
 use Rattle.model.specs.Answer.{accepted, refused, withValues}
 use Rattle.model.specs.Number.{Counted, readField}
-use Rattle.model.specs.Record.{Record, testName, functionName, lineData, endOfRecord}
+use Rattle.model.specs.Record.{Record, testName, functionName, branchData, lineData, endOfRecord}
 use Rattle.model.specs.Tags.{defaultTag}
 use Rattle.model.specs.Line.{readLine}
 use Rattle.model.specs.Parts.{printLine}
@@ -98,6 +98,8 @@ pub record Lines : Type 0 where
       × (number 9 (ascii "+") ≡ refuses 19 0 0)
       × (number 9 [] ≡ refuses 4 0 0)
       × (number 9 (ascii "10x") ≡ refuses 6 0 0)
+  -- a record keeps the values alone
+  pub values-kept : line (ascii "BRDA:10,2,003,-") ≡ gives (branchData 10 2 3 none)
   -- only exactly "-" is no checksum
   pub dash-comma : line (ascii "DA:1,2,-,") ≡ gives (lineData 1 2 (some (ascii "-,")))
   -- byte 10 is written, and counted in the needed length; the output stays where it is too short
@@ -137,10 +139,11 @@ pub record Texts : Type 0 where
       (text 8 (ascii "SF:\nSF:a\nend_of_record\n") ≡ refuses 25 2 0)
       × (text 8 (ascii "SF\nSF\n") ≡ refuses 25 2 0)
       × (text 8 (ascii "SF:a\nSF:a\n") ≡ refuses 25 2 0)
-      × (text 1 (ascii "SF:a\nSF:b\nDA:1,1\n") ≡ refuses 25 2 0)
+      × (text 1 (ascii "SF:a\nSF:b\n") ≡ refuses 25 2 0)
   -- they are counted anew in each section, and one may stand anywhere in it
   pub one-path-each :
       (text 8 (ascii "SF:a\nend_of_record\nSF:b\nend_of_record\n") ≡ gives [])
+      × (text 8 (ascii "SF:a\nSF:b\nend_of_record\n") ≡ refuses 25 2 0)
       × (text 8 (ascii "DA:1,1\nSF:a\nDA:2,1\nend_of_record\n") ≡ gives (ascii "TN:\nSF:a\nDA:1,1\nDA:2,1\nLF:2\nLH:2\nend_of_record\n"))
   -- 9 is met at the FNDA line
   pub calls-past : text 8 (ascii "FNDA:" ++ most ++ ascii ",f\nFNDA:1,f\nend_of_record\n") ≡ refuses 9 2 0
@@ -222,6 +225,7 @@ lines =
       plus-order = (refl, refl, refl);
       plus-elsewhere = (refl, refl, refl, refl);
       digits-read = (refl, refl, refl, refl, refl, refl);
+      values-kept = refl;
       dash-comma = refl;
       newline-counted = (refl, refl);
       part-outside = (refl, refl, refl, refl);
@@ -238,7 +242,7 @@ texts =
       dropped = refl;
       ended = (refl, refl);
       second-path = (refl, refl, refl, refl);
-      one-path-each = (refl, refl);
+      one-path-each = (refl, refl, refl);
       calls-past = refl;
     }
 

@@ -1,7 +1,7 @@
-// A table: rows in a lent slice of words, sorted through an order index ("`BTreeMap` becomes sorted entries in scratch", document
-// 01). Row j starts at word j * ROW_WORDS. The index starts at word `index`, behind the rows; its first `used` words are the row
-// numbers below `used`, each once. A row changes its position by moving words of the index; rows never move. The words behind the
-// index are spare: `push_row`, `put` and `move_row` leave them unchanged.
+// A table: rows in a lent slice of words, sorted through an order index. It takes the place of the Rust's `BTreeMap`
+// (docs/ARCHITECTURE.md, "The scratch"). Row j starts at word j * ROW_WORDS. The index starts at word `index`, behind the rows; its
+// first `used` words are the row numbers below `used`, each once. A row changes its position by moving words of the index; rows never
+// move. The words behind the index are spare: `push_row`, `put` and `move_row` leave them unchanged.
 ghost use mathlib.Core.Path.{_≡_};
 ghost use mathlib.Core.Logic.{_⊎_};
 ghost use Prim.Native.Nat.{_+_, _*_, _≤_, _<_};
