@@ -7,8 +7,10 @@ use crate::advice;
 use crate::audit::Sums;
 use crate::explain::{explained, help, Rules};
 use crate::failure::Failure;
+use crate::faults::line_faults;
 use crate::gathering::{gather, Reading};
 use crate::joined::{Conflict, Joined};
+use crate::pieces::Meaning;
 use crate::reporter::Reporter;
 use crate::scan::replacements;
 use crate::source::Sources;
@@ -55,15 +57,54 @@ impl<'a> Check<'a> {
             threads: 1,
             ..self.reading
         };
-        let gathered = gather(alone, reading, Sums::default(), &Reporter::new(true, 1))
-            .map_err(|failure| explained(failure, alone, self.reading))?;
-        if gathered.replaced.is_empty() {
-            return Ok(());
-        }
+        let gathered = gather(alone, reading, Sums::default(), &Reporter::new(true, 1));
+        let replaced = match gathered {
+            Ok(gathered) if gathered.replaced.is_empty() => return Ok(()),
+            Ok(gathered) => gathered.replaced,
+            Err(Failure::Replaced(replaced)) => replaced,
+            Err(failure) => {
+                let first = explained(failure, alone, self.reading);
+                return Err(self.with_others(place, first)?);
+            }
+        };
         match self.detail {
-            Detail::Some => Err(Failure::Replaced(gathered.replaced)),
+            Detail::Some => Err(Failure::Replaced(replaced)),
             Detail::All => Err(self.replacements(place)?),
         }
+    }
+
+    /// A failure of a file, and the refusals and replacements that come after it.
+    fn with_others(&self, place: usize, first: Failure) -> Result<Failure, Failure> {
+        if self.detail != Detail::All {
+            return Ok(first);
+        }
+        let text = self.rules().in_words(self.sources.text(place)?);
+        let Some(line) = first.line() else {
+            return Ok(self.own_conflicts(place, &text).unwrap_or(first));
+        };
+        let source = &self.sources.files[place];
+        let mut all = vec![first];
+        for fault in line_faults(&text, place, self.rules().taking) {
+            if fault.refusal.line > line {
+                let refused = Failure::Refused(source.path().to_owned(), fault.refusal);
+                let words = fault.words(self.sources);
+                all.push(Failure::Explained(Box::new(refused), words));
+            }
+        }
+        if self.reading.meaning == Meaning::Guarded {
+            let replaced = replacements(&text, &source.name(), self.sources.guard());
+            all.extend((!replaced.is_empty()).then_some(Failure::Replaced(replaced)));
+        }
+        Ok(Failure::Several(all))
+    }
+
+    /// A file may be in conflict with itself where what comes again adds. The text is in the library's words.
+    fn own_conflicts(&self, place: usize, text: &[u8]) -> Option<Failure> {
+        let own = self
+            .rules()
+            .joined()
+            .take(place, &self.rules().sections(text));
+        own.err().map(|conflicts| self.conflict(place, &conflicts))
     }
 
     fn replacements(&self, place: usize) -> Result<Failure, Failure> {

@@ -46,6 +46,14 @@ impl Rules {
         }
     }
 
+    /// A file with the lines of other producers as the records that they are read as.
+    pub fn in_words(&self, text: Vec<u8>) -> Vec<u8> {
+        match self.taking {
+            Taking::AsWritten => text,
+            Taking::AsGeninfo => forms::in_place(&text),
+        }
+    }
+
     pub fn joined(&self) -> Joined {
         Joined::new(self.mode == Mode::Lossy)
     }
@@ -104,14 +112,7 @@ impl Case<'_> {
     }
 
     fn of_line(&self) -> Option<String> {
-        let (refusal, line) = (&self.refusal, self.line()?);
-        let part = match refusal.number {
-            1 => tag_of(line),
-            3 => excess_of(line),
-            _ => field_of(line, refusal.field),
-        };
-        let advice = advice::for_line(refusal, line, &line[part.clone()]);
-        Some(excerpt(refusal.line, line, part) + &help(&advice))
+        Some(line_words(&self.refusal, self.line()?))
     }
 
     fn open(&self) -> OpenSection<'_> {
@@ -119,21 +120,16 @@ impl Case<'_> {
     }
 
     fn open_words(&self) -> String {
-        let open = self.open();
-        let section = section_words(open.test, open.path, self.sources);
-        format!("{section}, which began on line {},", open.start)
+        open_words(&self.open(), self.sources)
     }
 
-    /// TN, or a second SF, inside a section.
     fn of_unended(&self) -> Option<String> {
         let line = self.line()?;
-        let open = format!("\n  {} is still open", self.open_words());
-        Some(excerpt(self.refusal.line, line, tag_of(line)) + &open + &help(advice::UNENDED))
+        Some(unended_words(self.refusal.line, line, &self.open_words()))
     }
 
     fn of_end(&self) -> String {
-        let open = self.open_words();
-        format!("\n  {open} is still open{}", help(advice::CUT))
+        ended_words(&self.open_words())
     }
 
     fn of_calls(&self) -> Option<String> {
@@ -180,6 +176,33 @@ impl Case<'_> {
         let text = self.sources.text(place).ok()?;
         Some(self.rules.sections(&text))
     }
+}
+
+/// Of a line that is refused by itself.
+pub fn line_words(refusal: &Refusal, line: &[u8]) -> String {
+    let part = match refusal.number {
+        1 => tag_of(line),
+        3 => excess_of(line),
+        _ => field_of(line, refusal.field),
+    };
+    let advice = advice::for_line(refusal, line, &line[part.clone()]);
+    excerpt(refusal.line, line, part) + &help(&advice)
+}
+
+pub fn open_words(open: &OpenSection, sources: Sources) -> String {
+    let section = section_words(open.test, open.path, sources);
+    format!("{section}, which began on line {},", open.start)
+}
+
+/// TN, or a second SF, inside a section.
+pub fn unended_words(number: u64, line: &[u8], open: &str) -> String {
+    let open = format!("\n  {open} is still open");
+    excerpt(number, line, tag_of(line)) + &open + &help(advice::UNENDED)
+}
+
+/// A file that ends inside a section.
+pub fn ended_words(open: &str) -> String {
+    format!("\n  {open} is still open{}", help(advice::CUT))
 }
 
 fn need_words(what: &str, need: usize) -> String {

@@ -3,9 +3,11 @@
 use crate::audit::Difference;
 use crate::choice::ChoiceError;
 use crate::guard::Replacements;
+use crate::shown::shown;
 use lcov_sys::Refusal;
 use std::fmt;
 use std::io;
+use std::os::unix::ffi::OsStrExt;
 use std::path::{Path, PathBuf};
 
 #[derive(Debug)]
@@ -22,6 +24,8 @@ pub enum Failure {
     Refused(PathBuf, Refusal),
     /// A refusal, and the lines that follow it.
     Explained(Box<Failure>, String),
+    /// All that is told of one file, the first refusal first.
+    Several(Vec<Failure>),
     /// Every file is refused, so there is nothing to write.
     NothingLeft,
     /// A line of a tracefile is refused by this command: its number, and what is wrong.
@@ -40,6 +44,16 @@ impl Failure {
         matches!(self, Failure::Damaged(..) | Failure::TooLong(_)) || self.status() == 1
     }
 
+    /// The line that is refused; none where it is not a line.
+    pub fn line(&self) -> Option<u64> {
+        match self {
+            Failure::Explained(failure, _) => failure.line(),
+            Failure::Refused(_, refusal) => Some(refusal.line).filter(|&line| line > 0),
+            Failure::Unread(_, line, _) => Some(*line),
+            _ => None,
+        }
+    }
+
     pub fn status(&self) -> u8 {
         match self {
             Failure::Refused(..)
@@ -47,6 +61,7 @@ impl Failure {
             | Failure::Replaced(_)
             | Failure::NothingLeft => 1,
             Failure::Explained(failure, _) => failure.status(),
+            Failure::Several(all) => all.iter().map(Failure::status).max().unwrap_or(1),
             Failure::Audit(_) => 3,
             _ => 2,
         }
@@ -58,7 +73,7 @@ pub fn name(path: &Path) -> String {
     if path == Path::new("-") {
         "standard input".to_owned()
     } else {
-        path.display().to_string()
+        shown(path.as_os_str().as_bytes())
     }
 }
 
@@ -80,6 +95,10 @@ impl fmt::Display for Failure {
             Failure::Unread(path, line, what) => write!(f, "{}:{line}: {what}", name(path)),
             Failure::NothingLeft => write!(f, "every file is refused; nothing is written"),
             Failure::Explained(failure, lines) => write!(f, "{failure}{lines}"),
+            Failure::Several(all) => {
+                let all: Vec<String> = all.iter().map(Failure::to_string).collect();
+                write!(f, "{}", all.join("\nlcov-gather: "))
+            }
             Failure::Choice(error) => write!(f, "{error}"),
             Failure::Replaced(replaced) => write!(f, "{replaced}"),
             Failure::Audit(difference) => write!(f, "{difference}; nothing is written"),

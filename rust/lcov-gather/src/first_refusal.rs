@@ -112,10 +112,23 @@ impl Round<'_> {
             let stage = stage_of(stop);
             let is_first = first.as_ref().is_none_or(|(rank, _)| (file, stage) < *rank);
             if file < before && stage != Stage::Reading && is_first {
-                first = Some(((file, stage), self.failure(stop, file)));
+                first = Some(((file, stage), self.in_group(stop, group, file)));
             }
         }
         first.map(|(_, failure)| failure)
+    }
+
+    /// A section that comes twice in a file adds here, and the library would replace it. So what is refused of it is told as the guard found
+    /// it.
+    fn in_group(&self, stop: Stop, group: &Group, file: usize) -> Failure {
+        let replaced = &self.sources[file].scanned.replaced;
+        let is_own =
+            |text: &&Text| matches!(text.origin, Origin::Piece { file: of, .. } if of == file);
+        let comes_again = group.texts.iter().filter(is_own).count() > 1;
+        if comes_again && !replaced.is_empty() {
+            return Failure::Replaced(replaced.clone());
+        }
+        self.failure(stop, file)
     }
 
     fn failure(&self, stop: Stop, file: usize) -> Failure {

@@ -6,6 +6,7 @@
 
 use crate::path::canonical;
 use crate::record::{records, ItemRun, Record};
+use crate::shown::shown;
 use std::collections::HashMap;
 use std::fmt;
 
@@ -13,7 +14,7 @@ use std::fmt;
 const SHOWN: usize = 10;
 
 /// The replacements in all files.
-#[derive(Debug)]
+#[derive(Debug, Clone)]
 pub struct Replacements {
     /// So many are told one by one; of the others the number is told.
     most: usize,
@@ -116,7 +117,7 @@ impl<'a> Found<'a> {
                 )
             }
             What::Function(name) => {
-                let name = String::from_utf8_lossy(name);
+                let name = shown(name);
                 format!("FN sets the count of {name}, given at {earlier}, to 0")
             }
             What::Branch([line, block, branch]) => {
@@ -132,7 +133,7 @@ fn section_of(path: &[u8]) -> String {
     if path.is_empty() {
         "the section without a path".to_owned()
     } else {
-        format!("the section of {}", String::from_utf8_lossy(path))
+        format!("the section of {}", shown(path))
     }
 }
 

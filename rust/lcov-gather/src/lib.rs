@@ -1,5 +1,6 @@
 //! `lcov-gather`: joins LCOV tracefiles into one. lcov-gather.1 beside this package is its page.
 
+pub mod access;
 pub mod advice;
 pub mod audit;
 pub mod bundle;
@@ -9,6 +10,7 @@ pub mod entries;
 pub mod excerpt;
 pub mod explain;
 pub mod failure;
+pub mod faults;
 pub mod first_refusal;
 pub mod form;
 pub mod forms;

@@ -70,11 +70,17 @@ impl List {
 /// `7`, `10-20` or `100-`; none where it ends before it starts.
 fn range_of(range: &str) -> Option<[u32; 2]> {
     let pair = match range.split_once('-') {
-        None => [range.parse().ok()?; 2],
-        Some((start, "")) => [start.parse().ok()?, u32::MAX],
-        Some((start, end)) => [start.parse().ok()?, end.parse().ok()?],
+        None => [line_of(range)?; 2],
+        Some((start, "")) => [line_of(start)?, u32::MAX],
+        Some((start, end)) => [line_of(start)?, line_of(end)?],
     };
     (pair[0] <= pair[1]).then_some(pair)
+}
+
+/// A line number has digits alone, as in a tracefile.
+fn line_of(digits: &str) -> Option<u32> {
+    let number = digits.parse().ok()?;
+    (!digits.starts_with('+')).then_some(number)
 }
 
 /// The tracefile with each section of a file that is to be cut cut to all lines that are named for it.

@@ -3,7 +3,7 @@
 use crate::items::Taking;
 use crate::record::{records, Record};
 
-#[derive(Debug, Default, PartialEq, Eq)]
+#[derive(Debug, Clone, Copy, Default, PartialEq, Eq)]
 pub struct OpenSection<'a> {
     pub test: &'a [u8],
     pub path: &'a [u8],
@@ -19,32 +19,37 @@ impl<'a> OpenSection<'a> {
             if u64::from(number) >= line {
                 break;
             }
-            match record {
-                Record::End => open = open.next(taking),
-                Record::TestName(name) => open.test = name,
-                _ => {
-                    if open.start == 0 {
-                        open.start = number;
-                    }
-                    if let Record::SourceFile(path) = record {
-                        open.path = path;
-                    }
-                }
-            }
+            open.take(number, record, taking);
         }
         open
     }
 
+    /// The section after a line more.
+    pub fn take(&mut self, number: u32, record: Record<'a>, taking: Taking) {
+        match record {
+            Record::End => self.end(taking),
+            Record::TestName(name) => self.test = name,
+            _ => {
+                if self.start == 0 {
+                    self.start = number;
+                }
+                if let Record::SourceFile(path) = record {
+                    self.path = path;
+                }
+            }
+        }
+    }
+
     /// No section is open, after the end of this one.
-    fn next(self, taking: Taking) -> Self {
+    fn end(&mut self, taking: Taking) {
         let test = match taking {
             Taking::AsWritten => b"",
             Taking::AsGeninfo => self.test,
         };
-        OpenSection {
+        *self = OpenSection {
             test,
             ..OpenSection::default()
-        }
+        };
     }
 
     /// The calls of a function in the section before a line. FN sets them to 0.

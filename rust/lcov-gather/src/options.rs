@@ -16,6 +16,9 @@ use std::thread;
 
 const NAME: &str = "lcov-gather";
 
+/// More are used only where they are asked for: each takes some 4 MB.
+const THREADS: usize = 4;
+
 const ABOUT: &str = "\
 Joins LCOV tracefiles into one and prints it: every count is the sum over all
 files, or nothing is written. '-' is standard input.";
@@ -130,7 +133,7 @@ fn meaning(matches: &ArgMatches) -> Meaning {
 fn threads(matches: &ArgMatches) -> usize {
     let processors = || thread::available_parallelism().map_or(1, NonZeroUsize::get);
     let named = matches.get_one::<u16>("threads");
-    named.map_or_else(processors, |&named| usize::from(named))
+    named.map_or_else(|| processors().min(THREADS), |&named| usize::from(named))
 }
 
 fn command() -> Command {
@@ -169,7 +172,7 @@ fn reading_arguments() -> [Arg; 5] {
         flag("as-geninfo", as_geninfo).conflicts_with("as-written"),
         flag("as-written", as_written),
         value("threads", "N", value_parser!(u16).range(1..).into())
-            .help("Use N threads; without it, as many as there are processors"),
+            .help("Use N threads; without it, as many as there are processors, at most 4"),
         value("lines", "FILE:RANGES", value_parser!(OsString))
             .action(ArgAction::Append)
             .help(lines),

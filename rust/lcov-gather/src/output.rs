@@ -16,10 +16,13 @@ const LINKS: usize = 40;
 
 /// Slices of a text, one after the other.
 pub fn print(slices: &[&[u8]]) -> Result<(), Failure> {
+    print_to_output(slices).map_err(|error| Failure::File(PathBuf::from("standard output"), error))
+}
+
+fn print_to_output(slices: &[&[u8]]) -> io::Result<()> {
     let mut out = io::stdout().lock();
-    write_slices(&mut out, slices)
-        .and_then(|()| out.flush())
-        .map_err(|error| Failure::File(PathBuf::from("standard output"), error))
+    write_slices(&mut out, slices)?;
+    out.flush()
 }
 
 /// A file is replaced, also where symbolic links lead to it. A device, a fifo or a socket is written to.
@@ -39,7 +42,9 @@ fn write_to(path: &Path, slices: &[&[u8]]) -> io::Result<()> {
         }
         Some(old) if !old.is_file() => write_into(path, slices),
         old => {
-            let target = target(path)?;
+            let Some(target) = target(path)? else {
+                return print_to_output(slices);
+            };
             if old.as_ref().is_some_and(|old| !is_at(&target, old)) {
                 // A link of /proc leads to an open file that has lost its name: there is nothing to replace.
                 return write_into(path, slices);
@@ -66,20 +71,28 @@ fn is_at(path: &Path, file: &Metadata) -> bool {
     fs::symlink_metadata(path).is_ok_and(|found| identity(&found) == identity(file))
 }
 
-/// Where the links lead that begin at a path. `fs::canonicalize` does not tell that of a link to a file that is yet to be made, so the links
-/// are followed here.
-fn target(path: &Path) -> io::Result<PathBuf> {
+/// Where the links lead that begin at a path; none where that is standard output, as by /dev/stdout. `fs::canonicalize` does not tell that
+/// of a link to a file that is yet to be made, so the links are followed here.
+fn target(path: &Path) -> io::Result<Option<PathBuf>> {
     let mut target = path.to_owned();
     for _ in 0..LINKS {
         match fs::symlink_metadata(&target) {
+            Ok(data) if data.is_symlink() && is_standard_output(&target) => return Ok(None),
             Ok(data) if data.is_symlink() => {
                 let next = fs::read_link(&target)?;
                 target = folder_of(&target).join(next);
             }
-            _ => return Ok(target),
+            _ => return Ok(Some(target)),
         }
     }
     Err(io::Error::from_raw_os_error(libc::ELOOP))
+}
+
+/// Whether a link is that of /proc for standard output. What was written to that file before stays there, and so does the file.
+fn is_standard_output(link: &Path) -> bool {
+    let is_first = link.file_name().is_some_and(|name| name == "1");
+    let open_files = fs::canonicalize("/proc/self/fd").ok();
+    is_first && open_files.is_some() && fs::canonicalize(folder_of(link)).ok() == open_files
 }
 
 pub fn folder_of(path: &Path) -> &Path {

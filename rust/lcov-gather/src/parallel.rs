@@ -25,9 +25,15 @@ pub fn map<S: Send, R: Send>(
     let others = &mut others[..spare];
     let mut all = thread::scope(|scope| {
         let work_on_next = &work_on_next;
+        // Where the system gives no more threads, those that there are do the work.
         let threads: Vec<_> = others
             .iter_mut()
-            .map(|worker| scope.spawn(move || work_on_next(worker)))
+            .map_while(|worker| {
+                let thread = thread::Builder::new();
+                thread
+                    .spawn_scoped(scope, move || work_on_next(worker))
+                    .ok()
+            })
             .collect();
         let mut all = work_on_next(first);
         for thread in threads {

@@ -564,10 +564,13 @@ pub fn group<'a>(texts: impl Iterator<Item = Text<'a>>) -> Vec<Group<'a>> {
         let is_one = compare_keys(later.key(), earlier.key()) == Ordering::Equal;
         if is_one {
             earlier.texts.append(&mut later.texts);
-            earlier.texts.sort_by_key(|text| text.origin);
         }
         is_one
     });
+    // Once, since a path may have many spellings; texts that are in order are left as they are.
+    for group in &mut groups {
+        group.texts.sort_by_key(|text| text.origin);
+    }
     groups
 }
 

@@ -1,5 +1,6 @@
 //! A file replaced by a new one beside it, which takes its name: a reader sees the old file or the new one, whatever happens on the way.
 
+use crate::access::{list_of, remove_list, set_list};
 use crate::output::{folder_of, write_slices};
 use std::fs::{File, Metadata, Permissions};
 use std::io::{self, ErrorKind};
@@ -20,7 +21,7 @@ pub fn replace(path: &Path, old: Option<&Metadata>, slices: &[&[u8]]) -> io::Res
         .tempfile_in(folder)?;
     write_slices(&mut new, slices)?;
     let mode = match old {
-        Some(old) => kept_mode(old.mode(), keep_owner(new.as_file(), old)),
+        Some(old) => keep_rights(new.as_file(), path, old)?,
         None => 0o666 & !umask(),
     };
     new.as_file()
@@ -36,6 +37,24 @@ enum Kept {
     Both,
     Group,
     Neither,
+}
+
+/// Gives the new file the owner, group and access list of the old one, as far as that is allowed: the mode that it may have. The group's
+/// rights in the mode of a file with a list are those that the list gives to anybody, so without its list only the owner has rights.
+fn keep_rights(new: &File, path: &Path, old: &Metadata) -> io::Result<u32> {
+    let kept = keep_owner(new, old);
+    let mode = kept_mode(old.mode(), kept);
+    let list = list_of(path)?;
+    if let Some(list) = &list {
+        if kept != Kept::Neither && set_list(new, list).is_ok() {
+            return Ok(mode);
+        }
+    }
+    remove_list(new)?;
+    Ok(match list {
+        Some(_) => mode & 0o700,
+        None => mode,
+    })
 }
 
 /// Only a superuser gives files away, and others give them to groups of their own. A replacement that must not do so is still one.

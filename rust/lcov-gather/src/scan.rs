@@ -4,7 +4,7 @@ use crate::audit::Sums;
 use crate::forms;
 use crate::guard::{Guard, Replacements};
 use crate::pieces::{Cutter, Meaning, Pieces};
-use crate::record::{lines, parse, records, ItemRun, Line};
+use crate::record::{lines, parse, ItemRun, Line};
 
 /// What a file says.
 #[derive(Debug, Default)]
@@ -114,11 +114,13 @@ impl<'t> Scan<'t, '_> {
     }
 }
 
-/// Every replacement of a file.
+/// Every replacement of a file. Lines that are no records are left out.
 pub fn replacements<'t>(text: &'t [u8], file: &str, mut guard: Guard<'t>) -> Replacements {
     let mut all = Replacements::all();
-    for (place, record) in records(text) {
-        guard.take(place, record, file, &mut all);
+    for line in lines(text) {
+        if let Some(record) = line.record {
+            guard.take(line.number, record, file, &mut all);
+        }
     }
     all
 }

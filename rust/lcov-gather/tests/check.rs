@@ -94,6 +94,49 @@ fn more_than_ten_replacements_and_every_conflict_are_told() {
     );
 }
 
+/// Not the first alone: each line is read, and those that are refused are left out when the lines after them are looked at.
+#[test]
+fn every_line_that_is_refused_is_told() {
+    let bad = "TN:t SF:a DA:1,x DA:1,1 SF:b TN:u FNL:1 DA:2,+1 DA:1,2 BRDA:1,0,0,-5 end_of_record SF:c DA:,1";
+    let folder = Folder::with(&[("bad", &text(bad))]);
+    let told = |options: &[&str]| {
+        let output = run(&folder, &[&["--check"], options].concat(), &["bad"]);
+        assert_eq!(output.status.code(), Some(1));
+        let lines = said_in_short(&output);
+        lines.lines().map(str::to_owned).collect::<Vec<_>>()
+    };
+    let expected = [
+        "lcov-gather: bad:3: field 2: bad digit (refusal 5)",
+        "lcov-gather: bad:5: second SF in a section (refusal 25)",
+        "lcov-gather: bad:6: TN inside a section (refusal 7)",
+        "lcov-gather: bad:7: tag unknown (refusal 1)",
+        "lcov-gather: bad:8: field 2: number with a plus sign (refusal 19)",
+        "lcov-gather: bad:10: field 4: bad digit (refusal 5)",
+        "lcov-gather: bad:13: field 1: number empty (refusal 4)",
+        "lcov-gather: bad:14: the text ends inside a section (refusal 8)",
+        "lcov-gather: bad:9: DA:1 replaces the one at bad:4",
+        "lcov-gather: refused, since counts or test names may be lost; --as-geninfo adds them up, --as-written takes the file as it is",
+        "lcov-gather: 1 of 1 files are refused",
+    ];
+    assert_eq!(told(&[]), expected);
+    let taken = |line: &&&str| !line.contains("DA:1 ") && !line.contains("counts or");
+    let written: Vec<&str> = expected.iter().filter(taken).copied().collect();
+    assert_eq!(told(&["--as-written"]), written);
+    let read = |line: &&&str| !line.contains("bad:10:");
+    let geninfo: Vec<&str> = written.iter().filter(read).copied().collect();
+    assert_eq!(told(&["--as-geninfo"]), geninfo);
+}
+
+#[test]
+fn every_conflict_of_a_file_with_itself_is_told() {
+    let own = "SF:a FN:1,f FN:2,f FN:3,g FN:4,g DA:1,1,x DA:1,1,y end_of_record";
+    let folder = Folder::with(&[("own", &text(own))]);
+    let told = said(&run(&folder, &["--check", "--as-geninfo"], &["own"]));
+    for what in ["  function f in", "  function g in", "  line 1 in"] {
+        assert_eq!(told.matches(what).count(), 1, "{told}");
+    }
+}
+
 #[test]
 fn files_that_fit_have_status_0_and_nothing_is_written() {
     let folder = folder();

@@ -38,6 +38,37 @@ fn takes(lines: &str) {
     assert_eq!(said(&output), "", "{lines}");
 }
 
+/// The sections are added before the guard speaks: start lines, checksums or sums that the library would never compare are no refusal of
+/// their own, and neither is the number of entries.
+#[test]
+fn a_section_that_came_before_and_does_not_fit() {
+    let greatest = "DA:1,18446744073709551615";
+    let lines = |from: u32| -> String {
+        let lines = from..from + 40_000;
+        lines.map(|line| format!("DA:{line},1 ")).collect()
+    };
+    for (earlier, later) in [
+        ("FN:1,f", "FN:2,f"),
+        ("DA:1,1,x", "DA:1,1,y"),
+        (greatest, greatest),
+        (lines(0).trim_end(), lines(40_000).trim_end()),
+    ] {
+        let place = 2 + earlier.split(' ').count();
+        let file = format!("SF:a {earlier} end_of_record SF:a {later} end_of_record");
+        let expected = format!("a:{}: the section of a replaces the one at a:1", place + 1);
+        let folder = Folder::with(&[
+            ("a", &text(&file)),
+            ("b", &text("SF:a FN:2,f end_of_record")),
+        ]);
+        let told = format!("lcov-gather: {expected}\n{ADVICE}");
+        for words in [&["a"][..], &["b", "a"], &["--lossy", "a"]] {
+            assert_eq!(said(&folder.run(words)), told, "{words:?}");
+        }
+        let checked = said(&folder.run(&["--check", "a"]));
+        assert_eq!(checked, told + "lcov-gather: 1 of 1 files are refused\n");
+    }
+}
+
 #[test]
 fn a_section_that_came_before() {
     refuses(
@@ -59,6 +90,18 @@ fn a_section_that_came_before() {
     takes("TN:t DA:1,1 SF:b end_of_record TN:t SF:a DA:2,1 end_of_record");
     takes("TN:t SF:a DA:1,1 end_of_record TN:u SF:a DA:1,1 end_of_record");
     takes("SF:a DA:1,1 end_of_record SF:./a DA:1,1 end_of_record SF:/a DA:1,1 end_of_record");
+}
+
+/// A terminal would act on them.
+#[test]
+fn control_bytes_are_escaped() {
+    refuses(
+        "SF:a\x1b[2J FNDA:1,f\x07 FN:1,f\x07 end_of_record SF:a\x1b[2J DA:1,1 end_of_record",
+        &[
+            "a:3: FN sets the count of f\\x07, given at a:2, to 0",
+            "a:5: the section of a\\x1b[2J replaces the one at a:1",
+        ],
+    );
 }
 
 #[test]

@@ -3,7 +3,8 @@
 mod common;
 
 use common::{printed, said, say_not_permitted, section, Folder};
-use std::ffi::CString;
+use lcov_gather::access::list_of;
+use std::ffi::{CStr, CString};
 use std::fs::{self, Permissions};
 use std::io::Read;
 use std::os::fd::FromRawFd;
@@ -149,7 +150,7 @@ fn a_terminal_is_written_to() {
 }
 
 /// As /dev/stdout and /dev/fd/3, but links of this test's own: a command that replaces links must not harm the system's. They lead to
-/// open files: a pipe is written to, a file that has a name is replaced, one without is written to.
+/// open files: standard output and a pipe are written to, another file that has a name is replaced, one without is written to.
 #[test]
 fn links_to_open_files() {
     let folder = folder();
@@ -158,6 +159,7 @@ fn links_to_open_files() {
     assert_eq!(printed(&folder.run(&["-o", "stdout", "a"])), result());
     let script = [
         r#""$0" -o stdout a > out"#,
+        r#"echo before > more; "$0" -o stdout a >> more; "$0" -o /dev/fd/1 a >> more; { "$0" -o stdout a; echo after; } >> more"#,
         r#"exec 3<> gone; rm gone; "$0" -o three a; cat three > found"#,
     ];
     for line in script {
@@ -169,7 +171,12 @@ fn links_to_open_files() {
     }
     assert_eq!(folder.text("out"), result());
     assert_eq!(folder.text("found"), result());
-    assert_eq!(folder.names(), ["a", "found", "out", "stdout", "three"]);
+    let more = format!("before\n{}after\n", result().repeat(3));
+    assert_eq!(folder.text("more"), more);
+    assert_eq!(
+        folder.names(),
+        ["a", "found", "more", "out", "stdout", "three"]
+    );
 }
 
 #[test]
@@ -290,6 +297,65 @@ fn a_file_of_somebody_else_is_not_more_readable_after() {
         assert_eq!(mode_of(&out), expected, "{mode:o} {group}");
         fs::remove_file(out).unwrap();
     }
+}
+
+/// An access list as the system takes it: the owner reads and writes, user 12,345 reads, the group and others have no right.
+fn access_list() -> Vec<u8> {
+    let entries = [
+        (0x01, 6, u32::MAX),
+        (0x02, 4, 12_345),
+        (0x04, 0, u32::MAX),
+        (0x10, 4, u32::MAX),
+        (0x20, 0, u32::MAX),
+    ];
+    let mut list = 2_u32.to_le_bytes().to_vec();
+    for (tag, rights, id) in entries {
+        list.extend(u16::to_le_bytes(tag));
+        list.extend(u16::to_le_bytes(rights));
+        list.extend(u32::to_le_bytes(id));
+    }
+    list
+}
+
+/// Whether the file system has access lists.
+fn give_list(path: &Path, attribute: &CStr, list: &[u8]) -> bool {
+    let (path, from, len) = (c_path(path), list.as_ptr().cast(), list.len());
+    // SAFETY: both names end with byte 0, and the list is lent with its length.
+    let failed = unsafe { libc::setxattr(path.as_ptr(), attribute.as_ptr(), from, len, 0) };
+    if failed != 0 {
+        say_not_permitted("access lists; -o over a file with one is not tested");
+    }
+    failed == 0
+}
+
+#[test]
+fn a_replaced_file_keeps_its_access_list() {
+    let folder = folder();
+    let out = folder.path("out");
+    fs::write(&out, "old").unwrap();
+    if !give_list(&out, c"system.posix_acl_access", &access_list()) {
+        return;
+    }
+    assert_eq!(mode_of(&out), 0o640);
+    assert_eq!(printed(&folder.run(&["-o", "out", "a"])), "");
+    assert_eq!(list_of(&out).unwrap(), Some(access_list()));
+    assert_eq!(mode_of(&out), 0o640);
+    assert_eq!(folder.text("out"), result());
+}
+
+/// The new file is made in a folder that gives each new file a list, which the old one did not have.
+#[test]
+fn a_replaced_file_gets_no_access_list() {
+    let folder = folder();
+    let out = folder.path("out");
+    fs::write(&out, "old").unwrap();
+    fs::set_permissions(&out, Permissions::from_mode(0o640)).unwrap();
+    if !give_list(&folder.0, c"system.posix_acl_default", &access_list()) {
+        return;
+    }
+    assert_eq!(printed(&folder.run(&["-o", "out", "a"])), "");
+    assert_eq!(list_of(&out).unwrap(), None);
+    assert_eq!(mode_of(&out), 0o640);
 }
 
 #[test]
