@@ -53,19 +53,22 @@ enum lcov_refusal {
     LCOV_PART_OUTSIDE = 17,            /* record's text part outside the lent text */
     LCOV_MALFORMED_RANGES = 18,        /* range list not well formed */
     LCOV_SIGNED_NUMBER = 19,           /* number with a plus sign: text, line, field */
+    LCOV_END_BEFORE_START = 23,        /* end line below the start line: text, line */
     LCOV_SECOND_SOURCE_FILE = 25       /* second SF in a section: text, line */
 };
 
 /* Reads one line, with or without its end. The words are
  *    kind, four numbers, given, start, length
  * kind: 1 TN, 2 SF, 3 FN, 4 FNDA, 5 FNF, 6 FNH, 7 BRDA, 8 BRF, 9 BRH, 10 DA, 11 LF, 12 LH, 13 end_of_record;
- * numbers, in the order of the line's fields; for BRDA the fourth is the taken count where given is 1, and given is 0 for "-";
+ * numbers, in the order of the line's fields; for FN the second is the end line where given is 1, and given is 0 where FN gives none; for
+ * BRDA the fourth is the taken count where given is 1, and given is 0 for "-";
  * start and length: the text (TN, SF), name (FN, FNDA) or checksum (DA, where given is 1) in the line. What a kind does not have is 0.
- * Refuses with 1 to 6 and 19. */
+ * FN gives an end line where digits alone, one or more, stand between its first two commas; otherwise all after the first comma is the name.
+ * Refuses with 1 to 6, 19 and 23. */
 uint32_t lcov_read_line(const uint8_t *line, size_t line_len, uint64_t *answer, size_t answer_len);
 
 /* Reads one line and prints its record, with byte 10 after it, to out. The first word is the written length. Bytes past it stay, and all of
- * out stays on a refusal. Refuses with 1 to 6, 14 and 19. */
+ * out stays on a refusal. Refuses with 1 to 6, 14, 19 and 23. */
 uint32_t lcov_print_line(const uint8_t *line, size_t line_len, uint8_t *out, size_t out_len, uint64_t *answer, size_t answer_len);
 
 /* Reads one number field, all of it, as the fields of a line are read: a number up to max. The first two words are its value and how many
@@ -86,20 +89,21 @@ uint32_t lcov_read_number(const uint8_t *field, size_t field_len, uint64_t max, 
  * exactly 8 + 8n + T long, and each start + length is at most T. Texts may overlap; a text named twice counts twice. With n = 0 nothing is
  * written. */
 
-/* Reads one text and prints its report. Refuses with 1 to 10, 14, 19 and 25. */
+/* Reads one text and prints its report. Refuses with 1 to 10, 14, 19, 23 and 25. */
 uint32_t lcov_read_text(const uint8_t *text, size_t text_len, uint64_t *scratch, size_t scratch_len, uint8_t *out, size_t out_len,
                         uint64_t *answer, size_t answer_len);
 
 /* Reads each text of the bundle in turn, adds it to what is joined so far, and prints the joined report. Two start lines that are given for
- * a function must agree (11), and so must two checksums of a line (12). Has 8,192 words of scratch inside, which allow 256 entries. Refuses
- * with 1 to 14, 16, 19 and 25; a refusal 10 at line 0 is one of the joined report. */
+ * a function must agree (11), and so must two checksums of a line (12); of two end lines the larger is kept. Has 8,192 words of scratch
+ * inside, which allow 256 entries. Refuses with 1 to 14, 16, 19, 23 and 25; a refusal 10 at line 0 is one of the joined report. */
 uint32_t lcov_gather(const uint8_t *bundle, size_t bundle_len, uint8_t *out, size_t out_len, uint64_t *answer, size_t answer_len);
 
 /* The same in lent scratch. */
 uint32_t lcov_gather_with(const uint8_t *bundle, size_t bundle_len, uint64_t *scratch, size_t scratch_len, uint8_t *out, size_t out_len,
                           uint64_t *answer, size_t answer_len);
 
-/* The lossy gather: the later given start line or checksum wins. Refuses with 1 to 10, 13, 14, 16, 19 and 25. */
+/* The lossy gather: the later given start line or checksum wins, a start line with its end line or none. Refuses with 1 to 10, 13, 14, 16,
+ * 19, 23 and 25. */
 uint32_t lcov_gather_lossy(const uint8_t *bundle, size_t bundle_len, uint64_t *scratch, size_t scratch_len, uint8_t *out, size_t out_len,
                            uint64_t *answer, size_t answer_len);
 
@@ -121,8 +125,8 @@ uint32_t lcov_query_range(const uint32_t (*pairs)[2], size_t pairs_len, size_t u
 void lcov_half_open(uint32_t a, uint32_t b, uint64_t *answer, size_t answer_len);
 
 /* Reads one text and prints what of its report the pairs hold: branches and lines whose line is held; functions that have a start line s
- * and for which a pair starts at e or before and ends at s or later, where e is one before the next function's start (0 stays 0), and 2^32 - 1
- * for the last function. A section that is emptied is printed as TN, SF and
+ * and for which a pair starts at e or before and ends at s or later, where e is the function's end line, and where it gives none, one before
+ * the next function's start (0 stays 0), and 2^32 - 1 for the last function. A section that is emptied is printed as TN, SF and
  * end_of_record. Refuses with 18, then as lcov_read_text does. */
 uint32_t lcov_filter(const uint8_t *text, size_t text_len, const uint32_t (*pairs)[2], size_t pairs_len, size_t used, uint64_t *scratch,
                      size_t scratch_len, uint8_t *out, size_t out_len, uint64_t *answer, size_t answer_len);

@@ -177,7 +177,7 @@ enum {
 
 #define BIT(number) (1u << (number))
 #define UP_TO(number) (2 * BIT(number) - 1)
-#define OF_LINE (UP_TO(6) | BIT(19))
+#define OF_LINE (UP_TO(6) | BIT(19) | BIT(23))
 #define OF_TEXT (OF_LINE | UP_TO(10) | BIT(25))
 
 static const struct call CALLS[] = {
@@ -490,8 +490,10 @@ static void put_field(struct text *line)
 
 static void ask_lines(void)
 {
-    static const char *const TAGS[] = { "TN", "SF", "FN", "FNDA", "FNF", "FNH", "BRDA", "BRF", "BRH", "DA", "LF", "LH", "end_of_record" };
-    static const size_t FIELDS[] = { 1, 1, 2, 2, 1, 1, 4, 1, 1, 2, 1, 1, 1 };
+    static const char *const TAGS[] = {
+        "TN", "SF", "FN", "FN", "FNDA", "FNF", "FNH", "BRDA", "BRF", "BRH", "DA", "LF", "LH", "end_of_record",
+    };
+    static const size_t FIELDS[] = { 1, 1, 2, 3, 2, 1, 1, 4, 1, 1, 2, 1, 1, 1 };
     for (size_t k = 0; k < RECORDS; k++) {
         size_t kind = below(COUNT(TAGS)), fields = FIELDS[kind] + one_in(5) - one_in(10);
         struct text line = { NULL, 0 };

@@ -99,15 +99,28 @@ static const char *count(void)
     return COUNTS[below(one_in(60) ? COUNT(COUNTS) : COUNT(COUNTS) - 1)];
 }
 
+/* An end line and the comma behind it, or none. Most are near the start line, few before it. */
+static void put_end(struct text *text, size_t start)
+{
+    if (one_in(2))
+        return;
+    if (one_in(20))
+        put(text, "%s,", one_in(2) ? "4294967295" : "000000000000000000000000000000000000009");
+    else
+        put(text, "%zu,", one_in(60) && start > 0 ? start - 1 : start + below(9));
+}
+
 /* Start lines and checksums of a key mostly agree. */
 static void put_item(struct text *text, size_t lines)
 {
     static const char *const OTHERS[] = { "FNF", "FNH", "BRF", "BRH", "LF", "LH" };
     const char *name = PICK(NAMES);
-    size_t line = below(lines), number = lines > 10 ? line : 0;
+    size_t line = below(lines), number = lines > 10 ? line : 0, start = one_in(20) ? line : strlen(name);
     switch (below(8)) {
     case 0:
-        put(text, "FN:%zu,%s%zu\n", one_in(20) ? line : strlen(name), name, number);
+        put(text, "FN:%zu,", start);
+        put_end(text, start);
+        put(text, "%s%zu\n", name, number);
         break;
     case 1:
         put(text, "FNDA:%s,%s%zu\n", count(), name, number);
@@ -175,10 +188,10 @@ static void double_line(struct text *text)
     free(line);
 }
 
-/* Lines that are refused with 1 to 9, 19 and 25 in a text, with 1 to 6 and 19 alone; `SF:a` only at the text's end. */
+/* Lines that are refused with 1 to 9, 19, 23 and 25 in a text, with 1 to 6, 19 and 23 alone; `SF:a` only at the text's end. */
 static const char *const FAULTS[] = {
     "VER:1\n", "FN:5\n", "LF:1,2\n", "DA:,1\n", "DA:1,-3\n", "DA:4294967296,1\n", "SF:a\nTN:b\n", "SF:a\n",
-    "FNDA:18446744073709551615,f\nFNDA:1,f\n", "SF:a\nSF:b\n", "DA:1,+1\n",
+    "FNDA:18446744073709551615,f\nFNDA:1,f\n", "SF:a\nSF:b\n", "DA:1,+1\n", "FN:5,4,f\n", "FN:1,4294967296,f\n",
 };
 
 static void put_fault(struct text *text)

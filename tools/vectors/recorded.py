@@ -4,8 +4,8 @@
     recorded.py             writes crates/test_texts/stdin and stdout
     recorded.py --check     writes nothing, and fails if a file is not what would be written
 
-The texts are those of cases.py and chosen ones whose refusals no Rust gives: at the entry limit, where line k brings the k-th entry, so
-that a limit of E is passed at line E + 1; with a second SF in a section; and with a plus sign before a number.
+The texts are those of cases.py and chosen ones that the Rust answers otherwise: at the entry limit, where line k brings the k-th entry, so
+that a limit of E is passed at line E + 1; with a second SF in a section; with a plus sign before a number; and with an end line in FN.
 """
 
 import argparse
@@ -75,6 +75,59 @@ def signed_numbers():
         yield text, 256, f"refused 19 0 {line} {field}\n".encode()
 
 
+# The lines of a section, and the FN and FNDA lines of its report; blanks stand for line ends.
+END_LINES = [
+    ("FN:1,2,f", "FN:1,2,f FNDA:0,f"),
+    ("FN:1,2,", "FN:1,2, FNDA:0,"),
+    ("FN:1,2,3,f", "FN:1,2,3,f FNDA:0,3,f"),
+    ("FN:5,5,f", "FN:5,5,f FNDA:0,f"),
+    ("FN:0,4294967295,f", "FN:0,4294967295,f FNDA:0,f"),
+    ("FN:01," + "0" * 30 + "2,f", "FN:1,2,f FNDA:0,f"),
+    # the later FN gives the end line or none, and FNDA leaves it
+    ("FN:1,9,f FN:1,f", "FN:1,f FNDA:0,f"),
+    ("FN:1,f FN:1,9,f", "FN:1,9,f FNDA:0,f"),
+    ("FN:1,9,f FN:2,5,f", "FN:2,5,f FNDA:0,f"),
+    ("FN:1,9,f FNDA:3,f", "FN:1,9,f FNDA:3,f"),
+    ("FNDA:3,f FN:1,9,f", "FN:1,9,f FNDA:0,f"),
+    # by start line, then by name, whatever the end lines are
+    ("FN:2,2,a FN:1,9,b FN:1,8,c FNDA:1,d", "FN:1,9,b FN:1,8,c FN:2,2,a FNDA:1,d FNDA:0,b FNDA:0,c FNDA:0,a"),
+    # a name that begins as an end line does
+    ("FNDA:1,2,f FN:1,3,2,f FN:1,4,f", "FN:1,3,2,f FN:1,4,f FNDA:0,2,f FNDA:0,f"),
+    # what was replaced leaves no end line
+    ("FN:1,9,f end_of_record SF:a FN:1,f", "FN:1,f FNDA:0,f"),
+]
+
+# A text, and number, line and field of its refusal.
+REFUSED_ENDS = [
+    ("SF:a FN:5,4,f end_of_record", 23, 2, 0),
+    ("FN:5,4,", 23, 1, 0),
+    ("FN:5,4,f TN:a", 23, 1, 0),
+    ("FN:4294967295,4294967294,f", 23, 1, 0),
+    ("SF:a FN:1,4294967296,f", 6, 2, 2),
+    ("FN:+9,1,f", 19, 1, 1),
+    ("FN:x,1,f", 5, 1, 1),
+    ("FN:9999999999,1,f", 6, 1, 1),
+    ("SF:a DA:1,1 FN:,1,f", 4, 3, 1),
+    ("FN:5,9,f TN:a", 7, 2, 0),
+]
+
+
+def end_lines():
+    """Texts with an end line in FN, and what they give."""
+    for section, functions in END_LINES:
+        found, hit = functions.count("FNDA:"), functions.count("FNDA:") - functions.count("FNDA:0,")
+        report = f"TN: SF:a {functions} FNF:{found} FNH:{hit} end_of_record "
+        yield lines_of(f"SF:a {section} end_of_record "), 256, lines_of(report).encode()
+    for text, number, line, field in REFUSED_ENDS:
+        yield lines_of(text + " "), 256, f"refused {number} 0 {line} {field}\n".encode()
+    # an end line is no entry
+    yield "SF:a\nFN:1,9,f\nend_of_record\n", 2, b"TN:\nSF:a\nFN:1,9,f\nFNDA:0,f\nFNF:1\nFNH:0\nend_of_record\n"
+
+
+def lines_of(blanks):
+    return blanks.replace(" ", "\n")
+
+
 def make_report(text):
     return told(make.ask([f"text {make.hexed(text)}"])[0])
 
@@ -98,7 +151,7 @@ def recorded_texts():
     asked = list(dict.fromkeys(CHOSEN_TEXTS + [text for text in cases.texts()]))
     answers = make.ask([f"text {make.hexed(text)}" for text in asked])
     recorded = [(text, 256, told(answer)) for text, answer in zip(asked, answers) if answer != "outside"]
-    recorded += [*limited(), *second_paths(), *signed_numbers()]
+    recorded += [*limited(), *second_paths(), *signed_numbers(), *end_lines()]
     stdin = b"".join(struct.pack("<HH", entries, len(text.encode())) + text.encode() for text, entries, _ in recorded)
     return stdin, b"".join(out for _, _, out in recorded)
 

@@ -6,26 +6,30 @@ use mathlib.Core.Path.{_≡_, refl, sym, ap, ap₂, _∙_}
 use mathlib.Core.Logic.{_≢_}
 use mathlib.Core.Bool.{Bool}
 use mathlib.Core.List.{List}
-use lib.Dec.{eqb}
+use mathlib.Core.Option.{Option, none, some}
+use lib.Dec.{ltb}
 use lib.ListN.{length}
-use borrow.Author.Tests.{ne-eqb}
+use borrow.Author.Tests.{lt-ltb}
 use mir.Val as Val
 use mir.Syntax.{w32}
 use Rattle.table.specs.declared.Row.{Row}
 use Rattle.table.specs.Places.{tabulate}
 use Rattle.table.specs.Rows.{row-words, word, rowAt}
-use Rattle.table.proofs.PlaceLaws.{by-eq}
 use Rattle.model.specs.Bytes.{Bytes}
 use Rattle.model.specs.Limits.{u32-max}
-use Rattle.model.specs.Report.{sectionItem, startOf}
+use Rattle.model.specs.declared.EndLine.{EndLine}
+use Rattle.model.specs.declared.EndLine.the-variants as El
+use Rattle.model.specs.Parts.{endIn}
+use Rattle.model.specs.Report.{Extent, extentOf, givenStart, endOf}
 use Rattle.model.specs.declared.Range.{Range}
 use Rattle.model.specs.Ranges.{holds}
-use Rattle.model.specs.Filter.{lineOf, isHeld, startLine, hasStart, endBefore}
+use Rattle.model.specs.Filter.{lineOf, isHeld, startLine, hasStart, endBefore, endLine}
 use Rattle.model.specs.Valid.{ItemFits}
-use Rattle.table_item.specs.Items.{itemOf}
+use Rattle.table_item.specs.Items.{startKey, itemOf}
 use Rattle.print_sort.specs.Sorting.{itemsBy}
 use Rattle.print_rows.specs.Emit.{Printable}
 use Rattle.print_rows.proofs.LentLaws.{item}
+use Rattle.print_rows.proofs.LentLaws.{start-fits as line-start-fits}
 use Rattle.print_rows.proofs.PassLaws.{part-printable}
 use Rattle.filter.specs.declared.Rule.{Rule}
 use Rattle.filter.specs.declared.Rule.the-variants.{Started, Held, UntilNext}
@@ -34,28 +38,31 @@ use Rattle.filter.specs.Keeping.{keeps}
 module _ (text : Bytes) (row : Row) where
   -- ---- starts
 
-  no-start : row .tag ≢ 3 → startOf (itemOf text row) ≡ startOf (sectionItem text)
-  unfolding itemOf startOf
-  no-start h = go (row .tag / 2) (row .tag % 2) (λ e. omega arith)
-    where
-      go : (k m : ℕ) → (k ≡ 1 → m ≡ 0) → startOf (item text row k m) ≡ startOf (sectionItem text)
-      go zero m f = refl
-      go (suc zero) zero f = refl
-      go (suc zero) (suc m) f = absurd (omega (arith, f refl))
-      go (suc (suc zero)) m f = refl
-      go (suc (suc (suc k))) m f = refl
+  abbrev key : ℕ
+  key = startKey (extentOf (itemOf text row))
 
-  pub start-given : eqb (row .tag) 3 ≡ hasStart (itemOf text row)
-  unfolding itemOf hasStart startOf
-  start-given = by-eq (row .tag) 3 (λ e. rw e) (λ e. ne-eqb (row .tag) 3 e ∙ sym (rw (no-start e, hasStart)))
+  -- what a start line is compared by says whether there is one, and which
+  by-key : (x : Option Extent) → (startKey x ≡ 0 → givenStart x ≡ none) × ((start : ℕ) → startKey x ≡ suc start → givenStart x ≡ some start)
+  by-key none = (λ e. refl, λ start e. absurd (omega arith))
+  by-key (some x) = (λ e. absurd (omega arith), λ start e. let q : x .start ≡ start = omega arith in ap (λ (s : ℕ). some s) q)
 
-  pub start-none : row .tag ≢ 3 → 0 ≡ startLine (itemOf text row)
-  unfolding startLine startOf
-  start-none e = sym (rw (no-start e, startLine))
+  pub start-given : (k : ℕ) → k ≡ key → ltb 0 k ≡ hasStart (itemOf text row)
+  unfolding hasStart
+  start-given zero e = sym (rw (by-key (extentOf (itemOf text row)) .0 (sym e), hasStart))
+  start-given (suc k) e = lt-ltb 0 (suc k) (omega arith) ∙ sym (rw (by-key (extentOf (itemOf text row)) .1 k (sym e), hasStart))
 
-  pub start-is : row .tag ≡ 3 → row .k3 ≡ startLine (itemOf text row)
-  unfolding itemOf startLine startOf
-  start-is e = rw e
+  pub start-none : (k : ℕ) → k ≡ key → k ≡ 0 → 0 ≡ startLine (itemOf text row)
+  unfolding startLine
+  start-none k e z = sym (rw (by-key (extentOf (itemOf text row)) .0 (sym e ∙ z), startLine))
+
+  pub start-is : (k : ℕ) → k ≡ key → k ≢ 0 → k - 1 ≡ startLine (itemOf text row)
+  unfolding startLine
+  start-is zero e n = absurd (n refl)
+  start-is (suc k) e n = let z : suc k - 1 ≡ k = omega arith in z ∙ sym (rw (by-key (extentOf (itemOf text row)) .1 k (sym e), startLine))
+
+  pub start-fits : (k : ℕ) → k ≡ key → k ≢ 0 → ItemFits (itemOf text row) → Val.Fits w32 (k - 1)
+  start-fits zero e n f = absurd (n refl)
+  start-fits (suc k) e n f = let g = line-start-fits text row k (sym e) f .fits in record { fits = omega (arith, g) }
 
   -- ---- lines
 
@@ -113,6 +120,16 @@ module _ (text ws : List ℕ) (next n : ℕ) where
     pub end-one : s - 1 ≡ endBefore (itemsBy text ws next n)
     end-one = sym (end-first some ∙ ap (λ (k : ℕ). k - 1) (sym start-next))
 
+-- a function's own end goes first
+module _ (row : Row) (ws : List ℕ) (next n : ℕ) (end : EndLine) (own : (text : Bytes) → endIn end ≡ endOf (itemOf text row)) where
+  pub end-own : (line : ℕ) → end ≡ El.Given line → (text : Bytes) → line ≡ endLine (itemOf text row) (itemsBy text ws next n)
+  unfolding endLine endIn
+  end-own line e text = sym (rw (sym (own text) ∙ ap endIn e, endLine))
+
+  pub end-reckoned : (r : ℕ) → end ≡ El.Absent → ((text : Bytes) → r ≡ endBefore (itemsBy text ws next n)) → (text : Bytes) → r ≡ endLine (itemOf text row) (itemsBy text ws next n)
+  unfolding endLine endIn
+  end-reckoned r e h text = h text ∙ sym (rw (sym (own text) ∙ ap endIn e, endLine))
+
 -- ---- the first of some rows
 
 module _ {text ws : List ℕ} {at n : ℕ} (π : Printable text ws at n) (some : 0 < n) where
@@ -138,5 +155,5 @@ module _ (ranges : List Range) (ws : List ℕ) (at n : ℕ) (rule : Rule) (row :
   stays-held e line h q text = rw (e, ← is) (q ∙ ap (λ (l : ℕ). holds ranges l l) (h text))
 
   pub stays-until : rule ≡ UntilNext → (start end : ℕ) → ((text : Bytes) → start ≡ startLine (itemOf text row))
-      → ((text : Bytes) → end ≡ endBefore (itemsBy text ws (at + 1) (n - 1))) → t ≡ holds ranges start end → Stays
+      → ((text : Bytes) → end ≡ endLine (itemOf text row) (itemsBy text ws (at + 1) (n - 1))) → t ≡ holds ranges start end → Stays
   stays-until e start end h i q text = rw (e, ← is) (q ∙ ap₂ (holds ranges) (h text) (i text))

@@ -12,7 +12,7 @@ use Rattle.model.specs.Ranges.{holds}
 use Rattle.model.specs.Report.{Item, Report, compareItems}
 use Rattle.model.specs.Tags.{defaultTag}
 use Rattle.model.specs.Printing.{isFunction, isBranch, isLine, functionsOf, comparePrinted, sections, printSections}
-use Rattle.model.specs.Filter.{isHeld, startLine, hasStart, endBefore, heldFunctions, filterItems, filterSection}
+use Rattle.model.specs.Filter.{isHeld, startLine, hasStart, endLine, heldFunctions, filterItems, filterSection}
 use Rattle.model.proofs.ListLaws.{each-append}
 use Rattle.table_section.specs.Sections.{entriesAt}
 use Rattle.print_bound.specs.Bound.{itemLines, reportMost}
@@ -26,7 +26,7 @@ use Rattle.filter.specs.Filtered.{filteredFrom}
 held-each-most : {B : Type 0} (f : Item → List B) (ranges : List Range) (l : List Item) → length (concatMap f (heldFunctions ranges l)) ≤ length (concatMap f l)
 unfolding concatMap heldFunctions
 held-each-most f ranges [] = omega arith
-held-each-most f ranges (x ∷ xs) = go (holds ranges (startLine x) (endBefore xs)) (held-each-most f ranges xs)
+held-each-most f ranges (x ∷ xs) = go (holds ranges (startLine x) (endLine x xs)) (held-each-most f ranges xs)
   where
     go : (b : Bool) → length (concatMap f (heldFunctions ranges xs)) ≤ length (concatMap f xs)
         → length (concatMap f (if b then x ∷ heldFunctions ranges xs else heldFunctions ranges xs)) ≤ length (f x ++ concatMap f xs)

@@ -9,7 +9,7 @@ use Rattle.model.specs.Bytes.{Bytes}
 use Rattle.model.specs.Lists.{filter}
 use Rattle.model.specs.Report.{Item}
 use Rattle.model.specs.Ranges.{holds}
-use Rattle.model.specs.Filter.{isHeld, hasStart, startLine, endBefore, heldFunctions}
+use Rattle.model.specs.Filter.{isHeld, hasStart, startLine, endLine, heldFunctions}
 use Rattle.print_sort.specs.Sorting.{itemsBy}
 use Rattle.print_rows.specs.Emit.{Printable}
 use Rattle.print_report.specs.Printing.{UnchangedBefore}
@@ -26,7 +26,7 @@ chosen UntilNext ranges items = heldFunctions ranges items
 abbrev pub keeps : Rule → List Range → Item → List Item → Bool
 keeps Started ranges item behind = hasStart item
 keeps Held ranges item behind = isHeld ranges item
-keeps UntilNext ranges item behind = holds ranges (startLine item) (endBefore behind)
+keeps UntilNext ranges item behind = holds ranges (startLine item) (endLine item behind)
 
 -- the n rows whose numbers are at word `numbers` on can be printed, and are before that word
 pub record Behind (text ws : List ℕ) (numbers n : ℕ) : Type 0 where

@@ -1,5 +1,6 @@
 // A filtered report printed: `LineNum::apply` (SPEC 8.5). Rows and index stay: of each section, the row numbers of what stays
 // are put into the spare words, and the section is printed from there.
+use model::EndLine;
 use model::WriteAnswer;
 use print_report::KindRanges;
 use print_report::Printed;
@@ -12,7 +13,7 @@ ghost use lib.ListN.{length, take};
 ghost use Rattle.table.specs.Rows.{word, rowAt};
 ghost use Rattle.table.specs.Store.{row};
 ghost use Rattle.model.specs.Calls.{writeAnswer};
-ghost use Rattle.model.specs.Filter.{lineOf, isHeld, startLine, hasStart, endBefore, filterSection};
+ghost use Rattle.model.specs.Filter.{lineOf, isHeld, startLine, hasStart, endBefore, endLine, filterSection};
 ghost use Rattle.model.specs.Limits.{max-entries};
 ghost use Rattle.model.specs.Lists.{filter};
 ghost use Rattle.model.specs.Output.{written, outputAfter};
@@ -31,8 +32,8 @@ ghost use Rattle.line_num_pairs.specs.Pairs.{rangesIn};
 ghost use Rattle.filter.specs.Keeping.{chosen, keeps, Behind, Chosen};
 ghost use Rattle.filter.specs.Filtered.{filteredFrom, Holding, functionsLeft, KeptRows, SectionPrintable, keptLines};
 
-// What a row must meet to stay: a function that has a start; a branch or line whose line is held; a function whose range, up to the next
-// one's start, queries yes.
+// What a row must meet to stay: a function that has a start; a branch or line whose line is held; a function whose range, up to its end
+// or the next one's start, queries yes.
 enum Rule {
     Started,
     Held,
@@ -42,17 +43,18 @@ enum Rule {
 fn has_start(row: Row) -> bool
     ensures { λ r. ⌜ ((text : List ℕ) → r ≡ hasStart (itemOf text row)) ⌝ }
 {
-    row.tag == table_item::FUNCTION * 2 + 1
+    0 < table_item::start_key(row)
 }
 
 fn start_line(row: Row) -> u32
     requires { ⌜ ((text : List ℕ) × ItemFits (itemOf text row)) ⌝ }
     ensures { λ r. ⌜ ((text : List ℕ) → r ≡ startLine (itemOf text row)) ⌝ }
 {
-    if row.tag != table_item::FUNCTION * 2 + 1 {
+    let key = table_item::start_key(row);
+    if key == 0 {
         return 0;
     }
-    row.k3 as u32
+    (key - 1) as u32
 }
 
 // The line of a branch or line.
@@ -83,6 +85,18 @@ fn end_before(words: &[u64], next: usize, n: usize) -> u32
     start - 1
 }
 
+// The end of a function: as FN says, or else as the n rows behind it say, whose numbers are at word `next` on.
+fn end_of(words: &[u64], row: Row, next: usize, n: usize) -> u32
+    requires { ⌜ ((text : List ℕ) × Printable text (now words) next n) ⌝ }
+    ensures { λ r. ⌜ ((text : List ℕ) → r ≡ endLine (itemOf text row) (itemsBy text (now (words .entry)) next n)) ⌝ }
+{
+    let reckoned = end_before(words, next, n);
+    match table_item::end_line(row) {
+        EndLine::Given(line) => line,
+        EndLine::Absent => reckoned,
+    }
+}
+
 // Whether the first of the n rows whose numbers are at word `at` on stays.
 fn stays(words: &[u64], pairs: &[[u32; 2]], count: usize, at: usize, n: usize, rule: Rule) -> bool
     requires { ⌜ ((text : List ℕ) × Printable text (now words) at n) ⌝ }
@@ -98,7 +112,7 @@ fn stays(words: &[u64], pairs: &[[u32; 2]], count: usize, at: usize, n: usize, r
             line_num_pairs::holds_at(pairs, count, line, line)
         }
         Rule::UntilNext => {
-            let end = end_before(words, at + 1, n - 1);
+            let end = end_of(words, row, at + 1, n - 1);
             line_num_pairs::holds_at(pairs, count, start_line(row), end)
         }
     }

@@ -4,6 +4,8 @@ use native.Mathlib.Omega.{arith}
 use mathlib.Core.Path.{_≡_}
 use mathlib.Core.List.{List}
 use lib.ListN.{length, getD, set}
+use Rattle.model.specs.declared.EndLine.{EndLine}
+use Rattle.model.specs.declared.Part.{Part}
 use Rattle.model.specs.declared.Taken.{Taken}
 use Rattle.model.specs.declared.Checksum.{Checksum}
 use Rattle.model.specs.declared.Record.{Record}
@@ -13,9 +15,12 @@ use Rattle.model.specs.declared.WriteAnswer.{WriteAnswer}
 use Rattle.model.specs.declared.InsertAnswer.{InsertAnswer}
 use Rattle.model.specs.declared.QueryAnswer.{QueryAnswer}
 use Rattle.format.proofs.PutLaws.{Putting, put-next, put-out}
-use Rattle.lcov_c_words.specs.Words.{branchWords, lineDataWords, recordWords, lineWords, countedWords, writeWords, insertWords, queryWords, withPrefix}
+use Rattle.lcov_c_words.specs.Words.{functionWords, branchWords, lineDataWords, recordWords, lineWords, countedWords, writeWords, insertWords, queryWords, withPrefix}
 
 module _ (words : List ℕ) where
+  pub function-is : (start : ℕ) (a b : EndLine) (p : Part) → a ≡ b → words ≡ functionWords start b p → words ≡ functionWords start a p
+  function-is start a b p e h = rw e h
+
   pub branch-is : (line block branch : ℕ) (a b : Taken) → a ≡ b → words ≡ branchWords line block branch b → words ≡ branchWords line block branch a
   branch-is line block branch a b e h = rw e h
 

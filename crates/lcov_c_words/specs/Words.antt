@@ -4,6 +4,9 @@ use mathlib.Core.Bool.{Bool, true, false}
 use mathlib.Core.List.{List, [], _∷_}
 use lib.ListN.{length}
 use Rattle.model.specs.declared.Refusal.{Refusal}
+use Rattle.model.specs.declared.EndLine.{EndLine}
+use Rattle.model.specs.declared.EndLine.the-variants as El
+use Rattle.model.specs.declared.Part.{Part}
 use Rattle.model.specs.declared.Taken.{Taken}
 use Rattle.model.specs.declared.Taken.the-variants as Tk
 use Rattle.model.specs.declared.Checksum.{Checksum}
@@ -37,9 +40,13 @@ use Rattle.model.specs.declared.QueryAnswer.the-variants as Query
 use Rattle.model.specs.Answer.{accepted, numberOf}
 use Rattle.model.specs.Output.{written, outputAfter}
 
--- kind, four numbers, whether a taken count or checksum is given, and the text's start and length
+-- kind, four numbers, whether an end line, taken count or checksum is given, and the text's start and length
 abbrev pub eight : ℕ → ℕ → ℕ → ℕ → ℕ → ℕ → ℕ → ℕ → List ℕ
 eight a b c d e f g h = a ∷ b ∷ c ∷ d ∷ e ∷ f ∷ g ∷ h ∷ []
+
+abbrev pub functionWords : ℕ → EndLine → Part → List ℕ
+functionWords start (El.Given line) p = eight 3 start line 0 0 1 (p .start) (p .len)
+functionWords start El.Absent p = eight 3 start 0 0 0 0 (p .start) (p .len)
 
 abbrev pub branchWords : ℕ → ℕ → ℕ → Taken → List ℕ
 branchWords line block branch (Tk.Given count) = eight 7 line block branch count 1 0 0
@@ -53,7 +60,7 @@ lineDataWords line count Ck.Absent = eight 10 line count 0 0 0 0 0
 abbrev pub recordWords : Record → List ℕ
 recordWords (TestName p) = eight 1 0 0 0 0 0 (p .start) (p .len)
 recordWords (SourceFile p) = eight 2 0 0 0 0 0 (p .start) (p .len)
-recordWords (FunctionName start p) = eight 3 start 0 0 0 0 (p .start) (p .len)
+recordWords (FunctionName start end p) = functionWords start end p
 recordWords (FunctionData count p) = eight 4 count 0 0 0 0 (p .start) (p .len)
 recordWords (FunctionsFound found) = eight 5 found 0 0 0 0 0 0
 recordWords (FunctionsHit hit) = eight 6 hit 0 0 0 0 0 0

@@ -2,16 +2,45 @@
 ghost use mathlib.Core.Path.{_≡_};
 ghost use lib.ListN.{length};
 ghost use Rattle.model.specs.Answer.{numberOf};
-ghost use Rattle.lcov_c_words.specs.Words.{branchWords, lineDataWords, recordWords, refusalWords, lineWords, lineNumber, countedWords, countedNumber, writeWords, writeNumber, insertWords, insertNumber, heldWord, queryWords, queryNumber, withPrefix};
+ghost use Rattle.lcov_c_words.specs.Words.{functionWords, branchWords, lineDataWords, recordWords, refusalWords, lineWords, lineNumber, countedWords, countedNumber, writeWords, writeNumber, insertWords, insertNumber, heldWord, queryWords, queryNumber, withPrefix};
 use model::Checksum;
+use model::EndLine;
 use model::InsertAnswer;
 use model::LineAnswer;
 use model::NumberAnswer;
+use model::Part;
 use model::QueryAnswer;
 use model::Record;
 use model::Refusal;
 use model::Taken;
 use model::WriteAnswer;
+
+fn function_words(start: u32, end: EndLine, name: Part) -> [u64; 8]
+    ensures { λ r. ⌜ r ≡ functionWords start end name ⌝ }
+{
+    match end {
+        EndLine::Given(line) => [
+            3,
+            start as u64,
+            line as u64,
+            0,
+            0,
+            1,
+            name.start as u64,
+            name.len as u64,
+        ],
+        EndLine::Absent => [
+            3,
+            start as u64,
+            0,
+            0,
+            0,
+            0,
+            name.start as u64,
+            name.len as u64,
+        ],
+    }
+}
 
 fn branch_words(line: u32, block: u32, branch: u32, taken: Taken) -> [u64; 8]
     ensures { λ r. ⌜ r ≡ branchWords line block branch taken ⌝ }
@@ -46,16 +75,7 @@ fn record_words(record: Record) -> [u64; 8]
     match record {
         Record::TestName(name) => [1, 0, 0, 0, 0, 0, name.start as u64, name.len as u64],
         Record::SourceFile(path) => [2, 0, 0, 0, 0, 0, path.start as u64, path.len as u64],
-        Record::FunctionName { start, name } => [
-            3,
-            start as u64,
-            0,
-            0,
-            0,
-            0,
-            name.start as u64,
-            name.len as u64,
-        ],
+        Record::FunctionName { start, end, name } => function_words(start, end, name),
         Record::FunctionData { count, name } => [
             4,
             count,

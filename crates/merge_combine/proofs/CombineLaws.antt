@@ -1,12 +1,14 @@
 -- What two rows of one key make, kind by kind. Assumes nothing.
-use Prim.Native.Nat.{ℕ, zero, suc, _+_, _/_, _%_, _≤_, _<_, min}
+use Prim.Native.Nat.{ℕ, zero, suc, _+_, _/_, _%_, _≤_, _<_, min, max}
 use native.Mathlib.Omega.{arith}
 use mathlib.Core.Path.{_≡_, refl, sym, ap, ap₂, _∙_}
-use mathlib.Core.Logic.{_≢_}
+use mathlib.Core.Logic.{_≢_, _⊎_, inl, inr}
 use mathlib.Core.Bool.{Bool, true, false}
-use mathlib.Core.Option.{Option, some}
-use lib.Dec.{leb, eqb}
-use borrow.Author.Tests.{le-leb, lt-leb}
+use mathlib.Core.Option.{Option, none, some}
+use lib.Dec.{leb, ltb, eqb, eqb·suc-suc}
+use borrow.Author.Tests.{le-leb, lt-leb, lt-ltb, le-ltb, ltb-true, ltb-false, eqb-true}
+use Rattle.ordmap.proofs.Results.{impossible}
+use Rattle.model.proofs.Items.{larger-none}
 use Rattle.table.specs.declared.Row.{Row}
 use Rattle.model.specs.declared.Fault.{Fault}
 use Rattle.model.specs.declared.Fault.the-variants.{UnmatchedFunctionLine, UnmatchedChecksum, CountOverflow}
@@ -17,13 +19,18 @@ use Rattle.model.specs.Bytes.{Bytes, sameBytes}
 use Rattle.model.specs.Limits.{u64-max}
 use Rattle.model.specs.Answer.{Answer, accepted, refused, _>>=_, refuse}
 use Rattle.model.specs.Report.{
+  extentAt,
+  Extent,
   Item,
+  extentOf,
+  larger,
+  joinExtents,
+  combineExtents,
   functionItem,
   branchItem,
   lineItem,
   sectionKey,
   inSection,
-  startOf,
   takenOf,
   checksumOf,
   countOf,
@@ -33,14 +40,15 @@ use Rattle.model.specs.Report.{
   combineItems,
   combineEntries,
 }
-use Rattle.table_item.specs.Items.{part, kindOf, function-kind, branch-kind, line-kind, ifGiven, itemOf, ItemInBounds}
+use Rattle.table_item.specs.Items.{part, kindOf, function-kind, branch-kind, line-kind, ifGiven, line-numbers, extentIn, startKey, itemOf, ItemInBounds}
 use Rattle.table_item.proofs.CountLaws.{function-item}
+use Rattle.table_item.proofs.RowLaws.{KeyOf, function-extent}
 use Rattle.table_section.specs.Sections.{entryOf, RowInBounds}
 use Rattle.merge_combine.specs.declared.Choice.{Choice}
 use Rattle.merge_combine.specs.declared.Choice.the-variants.{Earlier, Later, Neither}
 use Rattle.merge_combine.specs.declared.CombinedRow.{CombinedRow}
 use Rattle.merge_combine.specs.declared.CombinedRow.the-variants.{One, Refused}
-use Rattle.merge_combine.specs.Combined.{choiceOf, made, summed, RowsCombined}
+use Rattle.merge_combine.specs.Combined.{choiceOf, made, withLargerEnd, summed, RowsCombined}
 
 -- ---- which of two stays
 
@@ -84,6 +92,92 @@ agreed {A} same Checked fault (suc e) (suc l) a b alike h = rw (← (h (omega ar
     go : (t : Bool) → _≡_ {A = Answer (Option A)} (if t then accepted (some a) else refuse fault) (chosen fault (some a) (some b) (choiceOf Checked (suc e) (suc l) t))
     go true = refl
     go false = refl
+
+-- ---- what FN says
+
+-- the earlier row stays only where the later has no start line or the same one
+choice-earlier : (mode : Mode) (e l : ℕ) → choiceOf mode e l (eqb e l) ≡ Earlier → (l ≡ 0) ⊎ (e ≡ l)
+choice-earlier mode e zero h = inl refl
+choice-earlier mode zero (suc l) h = impossible cc
+choice-earlier Lossy (suc e) (suc l) h = impossible cc
+choice-earlier Checked (suc e) (suc l) h = go (eqb (suc e) (suc l)) refl h
+  where
+    go : (t : Bool) → eqb (suc e) (suc l) ≡ t → choiceOf Checked (suc e) (suc l) t ≡ Earlier → (suc l ≡ 0) ⊎ (suc e ≡ suc l)
+    go true q h = inr (eqb-true (suc e) (suc l) q)
+    go false q h = impossible cc
+
+-- a later row whose key is not 0 has the earlier one's
+same-key : {e l m n : ℕ} → (l ≡ 0) ⊎ (e ≡ l) → e ≡ m → l ≡ suc n → m ≡ suc n
+same-key (inl z) p q = absurd (omega arith)
+same-key (inr z) p q = omega arith
+
+-- two FN of one start line, or one
+abbrev joinedExtents : Option Extent → Option Extent → Option Extent
+joinedExtents x none = x
+joinedExtents none (some b) = none
+joinedExtents (some a) (some b) = some (joinExtents a b)
+
+abbrev chosenExtent : Option Extent → Option Extent → Choice → Answer (Option Extent)
+chosenExtent x y Earlier = accepted (joinedExtents x y)
+chosenExtent x y Later = accepted y
+chosenExtent x y Neither = refuse UnmatchedFunctionLine
+
+-- the choice is that of the model
+extents-chosen : (mode : Mode) (x y : Option Extent)
+    → combineExtents mode x y ≡ chosenExtent x y (choiceOf mode (startKey x) (startKey y) (eqb (startKey x) (startKey y)))
+unfolding combineExtents
+extents-chosen mode none none = refl
+extents-chosen mode none (some b) = refl
+extents-chosen mode (some a) none = refl
+extents-chosen Lossy (some a) (some b) = refl
+extents-chosen Checked (some a) (some b) = rw (eqb·suc-suc (a .start) (b .start)) (go (eqb (a .start) (b .start)))
+  where
+    go : (t : Bool) → _≡_ {A = Answer (Option Extent)} (if t then accepted (some (joinExtents a b)) else refuse UnmatchedFunctionLine)
+        (chosenExtent (some a) (some b) (choiceOf Checked (suc (a .start)) (suc (b .start)) t))
+    go true = refl
+    go false = refl
+
+-- a row without an end adds none
+plain-kept : (m k l : ℕ) → extentIn m k ≡ joinedExtents (extentIn m k) (extentIn 0 l)
+plain-kept m k zero = refl
+plain-kept m k (suc l) = go (extentIn m k)
+  where
+    go : (x : Option Extent) → x ≡ joinedExtents x (some (extentAt l none))
+    go none = refl
+    go (some a) = ap (λ (e : Option ℕ). some (extentAt (a .start) e)) (sym (larger-none (a .end)))
+
+-- one with an end gives it to one without
+packed-taken : (n k l : ℕ) → startKey (extentIn 0 k) ≡ startKey (extentIn (suc n) l) → extentIn (suc n) l ≡ joinedExtents (extentIn 0 k) (extentIn (suc n) l)
+packed-taken n zero l e = absurd (omega arith)
+packed-taken n (suc k) l e = let q : l % line-numbers ≡ k = omega arith in ap (λ (s : ℕ). some (extentAt s (some (l / line-numbers)))) q
+
+-- of two words with one start line the greater has the larger end
+packed-joined : (n m k l w : ℕ) → startKey (extentIn (suc m) k) ≡ startKey (extentIn (suc n) l) → w ≡ max k l
+    → extentIn 1 w ≡ joinedExtents (extentIn (suc m) k) (extentIn (suc n) l)
+packed-joined n m k l w e q =
+    let s : w % line-numbers ≡ k % line-numbers = omega arith in
+    let t : w / line-numbers ≡ max (k / line-numbers) (l / line-numbers) = omega arith in
+    ap₂ (λ (s l : ℕ). some (extentAt s (some l))) s t
+
+-- ---- the larger end
+
+module _ (row other : Row) where
+  pub larger-kept : other .tag % 2 ≡ 0 → row ≡ withLargerEnd (other .tag % 2) (row .tag % 2) row other
+  larger-kept e = rw e
+
+  module _ (g : other .tag % 2 ≢ 0) where
+    pub larger-other : (r : Row) → row .tag % 2 ≡ 0 → r ≡ made row (other .tag) (row .k2) (other .k3) (row .count) → r ≡ withLargerEnd (other .tag % 2) (row .tag % 2) row other
+    larger-other r e q = let o : other .tag % 2 ≡ 1 = omega arith in q ∙ rw (o, e)
+
+    both-given : row .tag % 2 ≢ 0 → withLargerEnd (other .tag % 2) (row .tag % 2) row other
+        ≡ (if ltb (row .k3) (other .k3) then made row (other .tag) (row .k2) (other .k3) (row .count) else row)
+    both-given e = let o : other .tag % 2 ≡ 1 = omega arith in let p : row .tag % 2 ≡ 1 = omega arith in rw (o, p)
+
+    pub larger-more : (r : Row) → row .tag % 2 ≢ 0 → row .k3 < other .k3 → r ≡ made row (other .tag) (row .k2) (other .k3) (row .count) → r ≡ withLargerEnd (other .tag % 2) (row .tag % 2) row other
+    larger-more r e h q = q ∙ sym (both-given e ∙ rw (lt-ltb (row .k3) (other .k3) h))
+
+    pub larger-less : row .tag % 2 ≢ 0 → other .k3 ≤ row .k3 → row ≡ withLargerEnd (other .tag % 2) (row .tag % 2) row other
+    larger-less e h = sym (both-given e ∙ rw (le-ltb (row .k3) (other .k3) h))
 
 -- ---- rows by kind
 
@@ -133,37 +227,84 @@ module _ (text : Bytes) (mode : Mode) (old new : Row) where
   -- ---- functions
 
   module _ (a : kindOf old ≡ function-kind) (b : kindOf new ≡ function-kind) (total : ℕ) (t : total ≡ min (old .count + new .count) u64-max) where
-    abbrev functionWith : Answer (Option ℕ) → Answer Item
+    abbrev x : Option Extent
+    x = extentIn (old .tag % 2) (old .k3)
+
+    abbrev y : Option Extent
+    y = extentIn (new .tag % 2) (new .k3)
+
+    abbrev functionWith : Answer (Option Extent) → Answer Item
     functionWith answer = answer >>= λ both. accepted (functionItem (part text (old .k1) (old .k2)) both total)
 
     function-whole : (tag k3 : ℕ) → tag / 2 ≡ function-kind → RowInBounds text old → RowInBounds text (made old tag (old .k2) k3 total)
     function-whole tag k3 e w = whole-made tag (old .k2) k3 total w (record { kind = omega arith; name = λ z. w .good .name a; checksum = λ z y. absurd (omega arith) })
 
-    functions-by : (choice x : Choice) → choice ≡ choiceOf mode (old .tag % 2) (new .tag % 2) (eqb (old .k3) (new .k3)) → choice ≡ x
-        → combineItems mode (itemOf text old) (itemOf text new)
-        ≡ functionWith (chosen UnmatchedFunctionLine (ifGiven (old .tag % 2) (old .k3)) (ifGiven (new .tag % 2) (new .k3)) x)
-    unfolding combineItems startOf countOf
-    functions-by choice x e f =
-        ap₂ (combineItems mode) (function-item text old a) (function-item text new b)
-        ∙ ap (λ (n : ℕ). agree eqb mode UnmatchedFunctionLine (ifGiven (old .tag % 2) (old .k3)) (ifGiven (new .tag % 2) (new .k3)) >>= λ both. accepted (functionItem (part text (old .k1) (old .k2)) both n)) (sym t)
-        ∙ ap functionWith (agreed eqb mode UnmatchedFunctionLine (old .tag % 2) (new .tag % 2) (old .k3) (new .k3) (eqb (old .k3) (new .k3)) (λ y z. refl))
-        ∙ ap (λ (c : Choice). functionWith (chosen UnmatchedFunctionLine (ifGiven (old .tag % 2) (old .k3)) (ifGiven (new .tag % 2) (new .k3)) c)) (sym e ∙ f)
+    module _ (earlier later : ℕ) (α : KeyOf old earlier) (β : KeyOf new later) (choice : Choice) (e : choice ≡ choiceOf mode earlier later (eqb earlier later)) where
+      earlier-is : earlier ≡ startKey x
+      earlier-is = α text ∙ ap startKey (function-extent old a text)
 
-    module _ (choice : Choice) (e : choice ≡ choiceOf mode (old .tag % 2) (new .tag % 2) (eqb (old .k3) (new .k3))) where
-      pub function-earlier : choice ≡ Earlier → RowInBounds text old → RowsCombined text mode old new (One (made old (old .tag) (old .k2) (old .k3) total))
-      function-earlier f w = record {
-        is = entry-made (old .tag) (old .k2) (old .k3) total (ap accepted (function-item text (made old (old .tag) (old .k2) (old .k3) total) a) ∙ sym (functions-by choice Earlier e f));
-        whole = function-whole (old .tag) (old .k3) a w;
-      }
+      later-is : later ≡ startKey y
+      later-is = β text ∙ ap startKey (function-extent new b text)
 
-      pub function-later : choice ≡ Later → RowInBounds text old → RowsCombined text mode old new (One (made old (new .tag) (old .k2) (new .k3) total))
-      function-later f w = record {
-        is = entry-made (new .tag) (old .k2) (new .k3) total (ap accepted (function-item text (made old (new .tag) (old .k2) (new .k3) total) b) ∙ sym (functions-by choice Later e f));
+      functions-by : (c : Choice) → choice ≡ c → combineItems mode (itemOf text old) (itemOf text new) ≡ functionWith (chosenExtent x y c)
+      unfolding combineItems extentOf countOf
+      functions-by c f =
+          ap₂ (combineItems mode) (function-item text old a) (function-item text new b)
+          ∙ ap (λ (n : ℕ). combineExtents mode x y >>= λ both. accepted (functionItem (part text (old .k1) (old .k2)) both n)) (sym t)
+          ∙ ap functionWith (extents-chosen mode x y)
+          ∙ ap (λ (d : Choice). functionWith (chosenExtent x y d)) (sym (e ∙ ap₂ (λ (m n : ℕ). choiceOf mode m n (eqb m n)) earlier-is later-is) ∙ f)
+
+      pub function-earlier : (r : Row) → choice ≡ Earlier → r ≡ withLargerEnd (new .tag % 2) (old .tag % 2) (made old (old .tag) (old .k2) (old .k3) total) new
+          → RowInBounds text old → RowsCombined text mode old new (One r)
+      function-earlier r f q w = rw q (go (new .tag % 2) (old .tag % 2) refl refl)
+        where
+          like : (later ≡ 0) ⊎ (earlier ≡ later)
+          like = choice-earlier mode earlier later (sym e ∙ f)
+
+          kept : (n m : ℕ) (tag k3 : ℕ) → new .tag % 2 ≡ n → old .tag % 2 ≡ m → tag / 2 ≡ function-kind
+              → extentIn (tag % 2) k3 ≡ joinedExtents (extentIn m (old .k3)) (extentIn n (new .k3))
+              → RowsCombined text mode old new (One (made old tag (old .k2) k3 total))
+          kept n m tag k3 u v k q = record {
+            is = entry-made tag (old .k2) k3 total
+                (ap accepted
+                (function-item text (made old tag (old .k2) k3 total) k
+                ∙ ap (λ (z : Option Extent). functionItem (part text (old .k1) (old .k2)) z total)
+                (q ∙ ap₂ (λ (i j : ℕ). joinedExtents (extentIn i (old .k3)) (extentIn j (new .k3))) (sym v) (sym u)))
+                ∙ sym (functions-by Earlier f));
+            whole = function-whole tag k3 k w;
+          }
+
+          go : (n m : ℕ) → new .tag % 2 ≡ n → old .tag % 2 ≡ m
+              → RowsCombined text mode old new (One (withLargerEnd n m (made old (old .tag) (old .k2) (old .k3) total) new))
+          go zero m u v =
+              kept zero m (old .tag) (old .k3) u v a
+              (ap (λ (i : ℕ). extentIn i (old .k3)) v ∙ plain-kept m (old .k3) (new .k3))
+          go (suc n) zero u v =
+              kept (suc n) zero (new .tag) (new .k3) u v b
+              (ap (λ (i : ℕ). extentIn i (new .k3)) u
+              ∙ packed-taken n (old .k3) (new .k3) (same-key like (earlier-is ∙ ap (λ (i : ℕ). startKey (extentIn i (old .k3))) v) (later-is ∙ ap (λ (i : ℕ). startKey (extentIn i (new .k3))) u)))
+          go (suc n) (suc m) u v = by-words (ltb (old .k3) (new .k3)) refl
+            where
+              same : startKey (extentIn (suc m) (old .k3)) ≡ startKey (extentIn (suc n) (new .k3))
+              same = same-key like (earlier-is ∙ ap (λ (i : ℕ). startKey (extentIn i (old .k3))) v) (later-is ∙ ap (λ (i : ℕ). startKey (extentIn i (new .k3))) u)
+
+              by-words : (less : Bool) → ltb (old .k3) (new .k3) ≡ less
+                  → RowsCombined text mode old new (One (if less then made old (new .tag) (old .k2) (new .k3) total else made old (old .tag) (old .k2) (old .k3) total))
+              by-words true l =
+                  kept (suc n) (suc m) (new .tag) (new .k3) u v b
+                  (ap (λ (i : ℕ). extentIn i (new .k3)) u ∙ packed-joined n m (old .k3) (new .k3) (new .k3) same (omega (arith, ltb-true (old .k3) (new .k3) l)))
+              by-words false l =
+                  kept (suc n) (suc m) (old .tag) (old .k3) u v a
+                  (ap (λ (i : ℕ). extentIn i (old .k3)) v ∙ packed-joined n m (old .k3) (new .k3) (old .k3) same (omega (arith, ltb-false (old .k3) (new .k3) l)))
+
+      pub function-later : (r : Row) → choice ≡ Later → r ≡ made old (new .tag) (old .k2) (new .k3) total → RowInBounds text old → RowsCombined text mode old new (One r)
+      function-later r f q w = rw q record {
+        is = entry-made (new .tag) (old .k2) (new .k3) total (ap accepted (function-item text (made old (new .tag) (old .k2) (new .k3) total) b) ∙ sym (functions-by Later f));
         whole = function-whole (new .tag) (new .k3) b w;
       }
 
       pub function-neither : choice ≡ Neither → RowsCombined text mode old new (Refused UnmatchedFunctionLine)
-      function-neither f = record { is = entry-refused UnmatchedFunctionLine (sym (functions-by choice Neither e f)); whole = tt }
+      function-neither f = record { is = entry-refused UnmatchedFunctionLine (sym (functions-by Neither f)); whole = tt }
 
   -- ---- branches
 

@@ -2,7 +2,7 @@
 use Prim.Native.Nat.{ℕ, zero, suc, _+_}
 use mathlib.Core.Path.{_≡_}
 use mathlib.Core.Bool.{Bool, true, false}
-use lib.Dec.{leb}
+use lib.Dec.{leb, ltb}
 use Rattle.table.specs.declared.Row.{Row}
 use Rattle.model.specs.declared.Fault.the-variants.{CountOverflow}
 use Rattle.model.specs.declared.Mode.{Mode}
@@ -39,6 +39,12 @@ made old tag k2 k3 count = record {
   k3 = k3;
   count = count;
 }
+
+-- the row with the larger end line of two, by what is given of the other row and of this one
+abbrev pub withLargerEnd : ℕ → ℕ → Row → Row → Row
+withLargerEnd zero m r other = r
+withLargerEnd (suc n) zero r other = made r (other .tag) (r .k2) (other .k3) (r .count)
+withLargerEnd (suc n) (suc m) r other = if ltb (r .k3) (other .k3) then made r (other .tag) (r .k2) (other .k3) (r .count) else r
 
 -- the row with a count added to its own
 abbrev pub summed : Row → ℕ → CombinedRow

@@ -1,6 +1,7 @@
 // What two entries of one key make (SPEC 5.1): "two given start lines must agree, two given checksums too; what only
 // one gives is kept, and so is a key's earlier spelling. Function counts add and stop at 2^64 − 1. Taken counts add, none adding nothing.
-// Line counts add." In the lossy mode "the later given start line or checksum wins".
+// Line counts add." Of two end lines the larger is kept. In the lossy mode "the later given start line or checksum wins", and the end
+// line, or none, that came with that start line.
 use model::Fault;
 use model::Mode;
 use table::Row;
@@ -11,7 +12,7 @@ ghost use Rattle.model.specs.Limits.{u64-max};
 ghost use Rattle.model.specs.Bytes.{sameBytes};
 ghost use Rattle.table_item.specs.Items.{part, kindOf, function-kind, branch-kind, line-kind, ItemInBounds};
 ghost use Rattle.table_section.specs.Sections.{RowInBounds};
-ghost use Rattle.merge_combine.specs.Combined.{choiceOf, summed, RowsCombined};
+ghost use Rattle.merge_combine.specs.Combined.{choiceOf, made, withLargerEnd, summed, RowsCombined};
 
 // Which of two start lines or checksums stays.
 enum Choice {
@@ -72,20 +73,47 @@ fn with_sum(row: Row, more: u64) -> CombinedRow
     CombinedRow::One(both)
 }
 
+// The row with the start and end line of another one.
+fn with_extent(row: Row, other: Row) -> Row
+    ensures { λ r. ⌜ r ≡ made row (other .tag) (row .k2) (other .k3) (row .count) ⌝ }
+{
+    let mut both = row;
+    both.tag = other.tag;
+    both.k3 = other.k3;
+    both
+}
+
+// The row with the larger of two end lines, where the other row has no start line or the same one. Of two words with one start line the
+// greater has the larger end line.
+fn with_larger_end(row: Row, other: Row) -> Row
+    ensures { λ r. ⌜ r ≡ withLargerEnd (other .tag % 2) (row .tag % 2) row other ⌝ }
+{
+    if other.tag % 2 == 0 {
+        return row;
+    }
+    if row.tag % 2 == 0 {
+        return with_extent(row, other);
+    }
+    if row.k3 < other.k3 {
+        return with_extent(row, other);
+    }
+    row
+}
+
 fn combine_functions(old: Row, new: Row, mode: Mode) -> CombinedRow
     requires { ⌜ (kindOf old ≡ function-kind) × (kindOf new ≡ function-kind) ⌝ }
     ensures { λ r. ⌜ ((text : List ℕ) → RowInBounds text old → RowInBounds text new → RowsCombined text mode old new r) ⌝ }
 {
     let mut both = old;
     both.count = saturating_add(old.count, new.count);
-    match choose(mode, old.tag % 2, new.tag % 2, old.k3 == new.k3) {
+    let earlier = table_item::start_key(old);
+    let later = table_item::start_key(new);
+    match choose(mode, earlier, later, earlier == later) {
         Choice::Earlier => {
-            return CombinedRow::One(both);
+            return CombinedRow::One(with_larger_end(both, new));
         }
         Choice::Later => {
-            both.tag = new.tag;
-            both.k3 = new.k3;
-            return CombinedRow::One(both);
+            return CombinedRow::One(with_extent(both, new));
         }
         Choice::Neither => {
             return CombinedRow::Refused(Fault::UnmatchedFunctionLine);

@@ -1,5 +1,5 @@
 -- The joined report does not depend on the order of the reports, where each section's path has one spelling. Assumes nothing.
-use Prim.Native.Nat.{ℕ, _+_, min}
+use Prim.Native.Nat.{ℕ, _+_, min, max}
 use native.Mathlib.Nat.{add-comm}
 use native.Mathlib.Omega.{arith}
 use mathlib.Core.Path.{_≡_, refl, sym, ap, _∙_}
@@ -17,7 +17,7 @@ use Rattle.ordmap.proofs.Members.{only-member}
 use Rattle.ordmap.proofs.Perms.{perm-member, perm-only, perm-flat}
 use Rattle.model.specs.Bytes.{Bytes, sameBytes}
 use Rattle.model.specs.Limits.{u64-max}
-use Rattle.model.specs.Report.{Item, sectionItem, functionItem, branchItem, lineItem, itemKey, Entry, Report, Key, compareKeys, entryKey, startOf, takenOf, checksumOf, countOf, sectionKey, inSection}
+use Rattle.model.specs.Report.{Extent, Item, sectionItem, functionItem, branchItem, lineItem, itemKey, Entry, Report, Key, compareKeys, entryKey, startOf, endOf, larger, takenOf, checksumOf, countOf, sectionKey, inSection}
 use Rattle.model.specs.Joined.{
   allEntries,
   itemsAt,
@@ -27,6 +27,8 @@ use Rattle.model.specs.Joined.{
   total,
   addGiven,
   totalGiven,
+  largest,
+  extentFrom,
   joinedAs,
   joinedItem,
   joinedReport,
@@ -126,6 +128,21 @@ totalGiven-perm (p-cons {a = a} {l₂ = l} e d) = ap (addGiven a) (totalGiven-pe
 totalGiven-perm (p-swap {a = a} {b = b} {l = l} e f) = rw (← e, ← f) (addGiven-swap a b (totalGiven l))
 totalGiven-perm (p-trans c d) = totalGiven-perm c ∙ totalGiven-perm d
 
+-- ---- the largest
+
+larger-swap : (a b t : Option ℕ) → larger a (larger b t) ≡ larger b (larger a t)
+larger-swap none b t = refl
+larger-swap (some a) none t = refl
+larger-swap (some a) (some b) none = let e : max a b ≡ max b a = omega arith in ap (λ (n : ℕ). some n) e
+larger-swap (some a) (some b) (some n) = let e : max a (max b n) ≡ max b (max a n) = omega arith in ap (λ (n : ℕ). some n) e
+
+largest-perm : {ms ns : List (Option ℕ)} → Perm ms ns → largest ms ≡ largest ns
+unfolding largest
+largest-perm p-nil = refl
+largest-perm (p-cons {a = a} {l₂ = l} e d) = ap (larger a) (largest-perm d) ∙ ap (λ (x : Option ℕ). larger x (largest l)) e
+largest-perm (p-swap {a = a} {b = b} {l = l} e f) = rw (← e, ← f) (larger-swap a b (largest l))
+largest-perm (p-trans c d) = largest-perm c ∙ largest-perm d
+
 -- ---- items of one key
 
 joinableAs-perm : (i j : Item) {is js : List Item} → itemKey i ≡ itemKey j → Perm is js → joinableAs i is ≡ true → joinableAs j js ≡ true
@@ -138,7 +155,7 @@ joinableAs-perm i j {is} {js} e d h = by-key (λ i j. joinableAs i is ≡ true �
     sections : (p q : Bytes) → joinableAs (sectionItem p) is ≡ true → joinableAs (sectionItem q) js ≡ true
     sections p q h = refl
 
-    functions : (n : Bytes) (s t : Option ℕ) (c k : ℕ) → joinableAs (functionItem n s c) is ≡ true → joinableAs (functionItem n t k) js ≡ true
+    functions : (n : Bytes) (s t : Option Extent) (c k : ℕ) → joinableAs (functionItem n s c) is ≡ true → joinableAs (functionItem n t k) js ≡ true
     functions n s t c k h = agreeing-perm eqb number-same (p-map startOf d) h
 
     branches : (l b n : ℕ) (s t : Option ℕ) → joinableAs (branchItem l b n s) is ≡ true → joinableAs (branchItem l b n t) js ≡ true
@@ -175,10 +192,11 @@ joinedAs-perm i j {is} {js} e m n o d h = by-key Same-join sections functions br
     sections p q m n h =
         ap (λ (x : Bytes). sectionItem x) (agreeing-each sameBytes bytes-same (spellings is) o p q (spellings-member m) (spellings-member n))
 
-    functions : (n : Bytes) (s t : Option ℕ) (c k : ℕ) → Same-join (functionItem n s c) (functionItem n t k)
+    functions : (n : Bytes) (s t : Option Extent) (c k : ℕ) → Same-join (functionItem n s c) (functionItem n t k)
     functions name s t c k m n h =
-        ap (λ (u : Option ℕ). functionItem name u (min (total (map countOf is)) u64-max)) (given-perm eqb number-same (p-map startOf d) h)
-        ∙ ap (λ (c : ℕ). functionItem name (given (map startOf js)) (min c u64-max)) (total-perm (p-map countOf d))
+        ap (λ (u : Option ℕ). functionItem name (extentFrom u (largest (map endOf is))) (min (total (map countOf is)) u64-max)) (given-perm eqb number-same (p-map startOf d) h)
+        ∙ ap (λ (u : Option ℕ). functionItem name (extentFrom (given (map startOf js)) u) (min (total (map countOf is)) u64-max)) (largest-perm (p-map endOf d))
+        ∙ ap (λ (c : ℕ). functionItem name (extentFrom (given (map startOf js)) (largest (map endOf js))) (min c u64-max)) (total-perm (p-map countOf d))
 
     branches : (l b n : ℕ) (s t : Option ℕ) → Same-join (branchItem l b n s) (branchItem l b n t)
     branches l b branch s t m n h = ap (λ (u : Option ℕ). branchItem l b branch u) (totalGiven-perm (p-map takenOf d))

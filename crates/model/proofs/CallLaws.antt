@@ -28,6 +28,7 @@ use Rattle.model.specs.declared.Fault.the-variants.{
   PartOutside,
   MalformedRanges,
   SignedNumber,
+  EndBeforeStart,
   SecondSourceFile,
 }
 use Rattle.model.specs.declared.Refusal.{Refusal}
@@ -75,7 +76,8 @@ faultOf n =
     (cond (eqb n 5) InvalidDigit (cond (eqb n 6) NumberOverflow (cond (eqb n 7) UnexpectedRecord (cond (eqb n 8) UnexpectedEof
     (cond (eqb n 9) CallOverflow (cond (eqb n 10) TooManyEntries (cond (eqb n 11) UnmatchedFunctionLine (cond (eqb n 12) UnmatchedChecksum
     (cond (eqb n 13) CountOverflow (cond (eqb n 14) OutputTooShort (cond (eqb n 15) RangesFull (cond (eqb n 16) MalformedBundle
-    (cond (eqb n 17) PartOutside (cond (eqb n 18) MalformedRanges (cond (eqb n 19) SignedNumber SecondSourceFile))))))))))))))))))
+    (cond (eqb n 17) PartOutside (cond (eqb n 18) MalformedRanges (cond (eqb n 19) SignedNumber (cond (eqb n 23) EndBeforeStart
+    SecondSourceFile)))))))))))))))))))
 
 fault-of : (fault : Fault) → faultOf (numberOf fault) ≡ fault
 fault-of UnknownRecord = refl
@@ -97,6 +99,7 @@ fault-of MalformedBundle = refl
 fault-of PartOutside = refl
 fault-of MalformedRanges = refl
 fault-of SignedNumber = refl
+fault-of EndBeforeStart = refl
 fault-of SecondSourceFile = refl
 
 number-inj : {f g : Fault} → numberOf f ≡ numberOf g → f ≡ g

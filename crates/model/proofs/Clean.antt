@@ -8,7 +8,7 @@ use mathlib.Core.Option.{Option, none, some}
 use lib.Dec.{eqb, leb}
 use borrow.Author.Tests.{leb-true}
 use Rattle.ordmap.proofs.Results.{impossible, accepted-inj, not-accepted, bind-accepted}
-use Rattle.model.specs.declared.Fault.the-variants.{UnknownRecord, FieldNotFound, TooManyFields, InvalidDigit, NumberOverflow, SignedNumber}
+use Rattle.model.specs.declared.Fault.the-variants.{UnknownRecord, FieldNotFound, TooManyFields, EndBeforeStart, InvalidDigit, NumberOverflow, SignedNumber}
 use Rattle.model.specs.declared.Kind.{Kind}
 use Rattle.model.specs.declared.Kind.the-variants as K
 use Rattle.model.specs.Order.{if_then_else_}
@@ -34,6 +34,9 @@ use Rattle.model.specs.Record.{
 }
 use Rattle.model.specs.Tags.{allKinds}
 use Rattle.model.specs.Line.{
+  beginsWithEnd,
+  withEnd,
+  readFunction,
   beforeTrimmed,
   trimmed,
   kindAmong,
@@ -51,7 +54,8 @@ use Rattle.model.specs.Line.{
   readRecord,
 }
 use Rattle.model.specs.Reading.{withoutEmptyLast, lines}
-use Rattle.model.specs.Valid.{LineText, Given, ChecksumText}
+use Rattle.model.specs.Report.{extentAt}
+use Rattle.model.specs.Valid.{ExtentFits, LineText, Given, ChecksumText}
 use Rattle.model.proofs.ByteLaws.{Trim}
 use Rattle.model.proofs.FieldTexts.{after-has, from-has, text-has}
 
@@ -243,7 +247,7 @@ checksumField-fits k body c = go (fromField k body) refl
 abbrev pub RecordFits : Record → Type 0
 RecordFits (testName name) = LineText name
 RecordFits (sourceFile path) = LineText path
-RecordFits (functionName start name) = (start ≤ u32-max) × LineText name
+RecordFits (functionName start end name) = ExtentFits name (extentAt start end) × LineText name
 RecordFits (functionData count name) = (count ≤ u64-max) × LineText name
 RecordFits (functionsFound found) = found ≤ u32-max
 RecordFits (functionsHit hit) = hit ≤ u32-max
@@ -269,14 +273,35 @@ readOne-fits made body h p =
     let (n, e, q) = bind-accepted (numberField u32-max 1 body) _ p in
     rw (← (lastBefore-accepted 2 body (made n) q)) (h n (numberField-fits u32-max 1 body e))
 
+readFunction-fits : (start : ℕ) (body rest : Bytes) {r : Record} → start ≤ u32-max → LineText body → LineText rest → readFunction start body rest ≡ accepted r → RecordFits r
+unfolding readFunction withEnd
+readFunction-fits start body rest {r} h c d p = go (beginsWithEnd rest) refl p
+  where
+    ordered : (t : Bool) (end : ℕ) (name : Bytes) → leb start end ≡ t → end ≤ u32-max → LineText name
+        → Gives Record (if t then accepted (functionName start (some end) name) else refuse EndBeforeStart) r → RecordFits r
+    ordered true end name e small l q =
+        rw (← (accepted-inj q)) (record { start = h; end = (leb-true start end e, small); name-whole = λ n. impossible cc }, l)
+    ordered false end name e small l q = absurd (not-accepted q)
+
+    go : (t : Bool) → beginsWithEnd rest ≡ t
+        → Gives Record
+        (if t then (numberField u32-max 2 body >>= λ end. textField 3 body >>= λ name. if leb start end then accepted (functionName start (some end) name) else refuse EndBeforeStart)
+        else accepted (functionName start none rest)) r
+        → RecordFits r
+    go true b q =
+        let (end, e, s) = bind-accepted (numberField u32-max 2 body) _ q in
+        let (name, f, g) = bind-accepted (textField 3 body) _ s in
+        ordered (leb start end) end name refl (numberField-fits u32-max 2 body e) (textField-clean 3 body c f) g
+    go false b q = rw (← (accepted-inj q)) (record { start = h; end = tt; name-whole = λ n. b }, d)
+
 readBody-fits : (kind : Kind) (body : Bytes) {r : Record} → LineText body → readBody kind body ≡ accepted r → RecordFits r
 unfolding readBody
 readBody-fits K.TestName body c p = rw (← (accepted-inj p)) c
 readBody-fits K.SourceFile body c p = rw (← (accepted-inj p)) c
 readBody-fits K.FunctionName body c p =
     let (start, e, q) = bind-accepted (numberField u32-max 1 body) _ p in
-    let (name, f, g) = bind-accepted (textField 2 body) _ q in
-    rw (← (accepted-inj g)) (numberField-fits u32-max 1 body e, textField-clean 2 body c f)
+    let (rest, f, g) = bind-accepted (textField 2 body) _ q in
+    readFunction-fits start body rest (numberField-fits u32-max 1 body e) c (textField-clean 2 body c f) g
 readBody-fits K.FunctionData body c p =
     let (count, e, q) = bind-accepted (numberField u64-max 1 body) _ p in
     let (name, f, g) = bind-accepted (textField 2 body) _ q in

@@ -5,16 +5,15 @@ use mathlib.Core.Logic.{_↔_}
 use mathlib.Core.Bool.{Bool, true, false, cond, true≢false}
 use mathlib.Core.List.{List, [], _∷_, map, List·Memᴰ as Member, List·Memᴰ·head as here, List·Memᴰ·tail as there, Memᴰ·of-map}
 use mathlib.Core.Option.{Option, none, some, Option·map as mapSome}
-use lib.Dec.{eqb}
 use Rattle.ordmap.specs.Result.{accepted, refused, bind, mapAccepted, value}
 use Rattle.ordmap.specs.Keyed.{Keyed, joinAll}
 use Rattle.ordmap.proofs.Results.{impossible, bind-accepted, accepted-inj, value-accepted, value-map}
-use Rattle.model.specs.declared.Fault.the-variants.{UnmatchedFunctionLine, UnmatchedChecksum, CountOverflow}
+use Rattle.model.specs.declared.Fault.the-variants.{UnmatchedChecksum, CountOverflow}
 use Rattle.model.specs.declared.Mode.{Mode}
 use Rattle.model.specs.declared.Mode.the-variants.{Checked}
 use Rattle.model.specs.Bytes.{Bytes, sameBytes}
 use Rattle.model.specs.Answer.{Answer}
-use Rattle.model.specs.Report.{Item, sectionItem, functionItem, branchItem, lineItem, itemKey, Entry, Key, compareKeys, entryKey, startOf, takenOf, checksumOf, countOf, sum, sumTaken, agree, combineItems, combineEntries, sectionKey, inSection}
+use Rattle.model.specs.Report.{Extent, Item, sectionItem, functionItem, branchItem, lineItem, itemKey, Entry, Key, compareKeys, entryKey, extentOf, takenOf, checksumOf, countOf, sum, sumTaken, agree, combineExtents, combineItems, combineEntries, sectionKey, inSection}
 use Rattle.model.specs.Joined.{joinedAs, joinedItem}
 use Rattle.model.proofs.Items.{joinItems, orZero, Branches, Counted, Like, items-closed, joinableAs, joinable}
 
@@ -23,8 +22,8 @@ use Rattle.model.proofs.Items.{joinItems, orZero, Branches, Counted, Li
 combineItems-key : (mode : Mode) (i j : Item) {k : Item} → combineItems mode i j ≡ accepted k → itemKey k ≡ itemKey i
 unfolding combineItems itemKey
 combineItems-key mode (sectionItem spelling) j p = ap itemKey (sym (accepted-inj p))
-combineItems-key mode (functionItem name start count) j p =
-    let (u, q, e) = bind-accepted (agree eqb mode UnmatchedFunctionLine start (startOf j)) _ p in
+combineItems-key mode (functionItem name extent count) j p =
+    let (u, q, e) = bind-accepted (combineExtents mode extent (extentOf j)) _ p in
     ap itemKey (sym (accepted-inj e))
 combineItems-key mode (branchItem line block branch taken) j p =
     let (u, q, e) = bind-accepted (sumTaken taken (takenOf j)) _ p in
@@ -48,7 +47,7 @@ entries-keyed mode = record { keeps = λ {x} {e} {y} h p. kept x e y p }
 -- items of one key are two sections, or two functions, branches or lines of one name or place
 pub by-key : (P : Item → Item → Type 0)
     → ((p q : Bytes) → P (sectionItem p) (sectionItem q))
-    → ((name : Bytes) (s t : Option ℕ) (c d : ℕ) → P (functionItem name s c) (functionItem name t d))
+    → ((name : Bytes) (s t : Option Extent) (c d : ℕ) → P (functionItem name s c) (functionItem name t d))
     → ((line block branch : ℕ) (s t : Option ℕ) → P (branchItem line block branch s) (branchItem line block branch t))
     → ((line c d : ℕ) (s t : Option Bytes) → P (lineItem line c s) (lineItem line d t))
     → (i j : Item) → itemKey i ≡ itemKey j → P i j
@@ -80,7 +79,7 @@ by-key P f g h k (lineItem n c s) (branchItem l b m t) e = impossible cc
 pub branch-count : (line block branch : ℕ) (taken : Option ℕ) (j : Item) → itemKey j ≡ itemKey (branchItem line block branch taken) → countOf j ≡ orZero (takenOf j)
 unfolding itemKey countOf takenOf
 branch-count line block branch taken (sectionItem spelling) e = refl
-branch-count line block branch taken (functionItem name start count) e = cc
+branch-count line block branch taken (functionItem name extent count) e = cc
 branch-count line block branch taken (branchItem l b n none) e = refl
 branch-count line block branch taken (branchItem l b n (some t)) e = refl
 branch-count line block branch taken (lineItem n count checksum) e = cc
@@ -96,7 +95,7 @@ all-branches line block branch taken (j ∷ js) h c = (
 
 pub all-like : (i : Item) (js : List Item) → ((j : Item) → Member j js → itemKey j ≡ itemKey i) → ((j : Item) → Member j js → Counted j) → Like i js
 all-like (sectionItem spelling) js h c = tt
-all-like (functionItem name start count) js h c = tt
+all-like (functionItem name extent count) js h c = tt
 all-like (branchItem line block branch taken) js h c = all-branches line block branch taken js h c
 all-like (lineItem line count checksum) js h c = tt
 

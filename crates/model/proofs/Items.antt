@@ -1,5 +1,5 @@
 -- Items of one key joined one after the other, in closed form: accepted exactly when they are joinable, with the joined item. Assumes nothing.
-use Prim.Native.Nat.{ℕ, _+_, _≤_, min}
+use Prim.Native.Nat.{ℕ, _+_, _≤_, min, max}
 use native.Mathlib.Nat.{add-assoc, add-zero}
 use native.Mathlib.Omega.{arith}
 use mathlib.Core.Path.{_≡_, refl, sym, ap, _∙_}
@@ -18,13 +18,22 @@ use Rattle.model.specs.Bytes.{Bytes, sameBytes}
 use Rattle.model.specs.Answer.{Answer, refuse}
 use Rattle.model.specs.Limits.{u64-max}
 use Rattle.model.specs.Report.{
+  extentAt,
+  Extent,
   Item,
   Report,
   sectionItem,
   functionItem,
   branchItem,
   lineItem,
+  extentOf,
+  givenStart,
+  givenEnd,
   startOf,
+  endOf,
+  larger,
+  joinExtents,
+  combineExtents,
   takenOf,
   checksumOf,
   countOf,
@@ -33,7 +42,7 @@ use Rattle.model.specs.Report.{
   agree,
   combineItems,
 }
-use Rattle.model.specs.Joined.{given, allAgree, agreeing, total, addGiven, totalGiven, joinedAs, atEachKey}
+use Rattle.model.specs.Joined.{given, allAgree, agreeing, total, addGiven, totalGiven, largest, extentFrom, joinedAs, atEachKey}
 
 -- ---- items that can be joined
 
@@ -41,7 +50,7 @@ use Rattle.model.specs.Joined.{given, allAgree, agreeing, total, addGive
 -- past 2^64 − 1
 unfoldable pub joinableAs : Item → List Item → Bool
 joinableAs (sectionItem spelling) items = true
-joinableAs (functionItem name start count) items = agreeing eqb (map startOf items)
+joinableAs (functionItem name extent count) items = agreeing eqb (map startOf items)
 joinableAs (branchItem line block branch taken) items = leb (total (map countOf items)) u64-max
 joinableAs (lineItem line count checksum) items =
     agreeing sameBytes (map checksumOf items) && leb (total (map countOf items)) u64-max
@@ -93,17 +102,55 @@ sections-closed spelling (j ∷ js) = sections-closed spelling js
 
 -- ---- functions
 
-functions-closed : (name : Bytes) (s : Option ℕ) (c : ℕ) (js : List Item) → c ≤ u64-max
-    → value (joinItems (functionItem name s c) js)
-    ≡ when (agreeing eqb (s ∷ map startOf js)) (functionItem name (given (s ∷ map startOf js)) (min (c + total (map countOf js)) u64-max))
+pub larger-assoc : (a b c : Option ℕ) → larger (larger a b) c ≡ larger a (larger b c)
+larger-assoc none b c = refl
+larger-assoc (some a) none c = refl
+larger-assoc (some a) (some b) none = refl
+larger-assoc (some a) (some b) (some c) = let e : max (max a b) c ≡ max a (max b c) = omega arith in ap (λ (n : ℕ). some n) e
+
+pub larger-none : (a : Option ℕ) → larger a none ≡ a
+larger-none none = refl
+larger-none (some a) = refl
+
+-- an extent, and one more
+extents-more : {B : Type 0} (x y : Option Extent) (starts ends : List (Option ℕ)) (next : Option Extent → Answer B) (made : Bool → Option Extent → Option B)
+    → ((u : Option Extent) → made false u ≡ none)
+    → ((u : Option Extent) → value (next u) ≡ made (agreeing eqb (givenStart u ∷ starts)) (extentFrom (given (givenStart u ∷ starts)) (largest (givenEnd u ∷ ends))))
+    → value (bind (combineExtents Checked x y) next)
+    ≡ made (agreeing eqb (givenStart x ∷ givenStart y ∷ starts)) (extentFrom (given (givenStart x ∷ givenStart y ∷ starts)) (largest (givenEnd x ∷ givenEnd y ∷ ends)))
+unfolding combineExtents agreeing given allAgree largest
+extents-more none y starts ends next made n h = h y
+extents-more (some a) none starts ends next made n h = h (some a)
+extents-more {B} (some a) (some b) starts ends next made n h = go (eqb (a .start) (b .start))
+  where
+    all : Option ℕ
+    all = larger (a .end) (larger (b .end) (largest ends))
+
+    go : (test : Bool) → value (bind (if test then accepted (some (joinExtents a b)) else refuse UnmatchedFunctionLine) next)
+        ≡ made (test && allAgree eqb (a .start) starts) (some (extentAt (a .start) all))
+    go true =
+        h (some (joinExtents a b))
+        ∙ ap (λ (e : Option ℕ). made (allAgree eqb (a .start) starts) (some (extentAt (a .start) e))) (larger-assoc (a .end) (b .end) (largest ends))
+    go false = sym (n _)
+
+extent-alone : {B : Type 0} (x : Option Extent) (made : Bool → Option Extent → Option B)
+    → made true x ≡ made (agreeing eqb (givenStart x ∷ [])) (extentFrom (given (givenStart x ∷ [])) (largest (givenEnd x ∷ [])))
+unfolding agreeing given allAgree largest
+extent-alone none made = refl
+extent-alone (some a) made = ap (λ (e : Option ℕ). made true (some (extentAt (a .start) e))) (sym (larger-none (a .end)))
+
+functions-closed : (name : Bytes) (x : Option Extent) (c : ℕ) (js : List Item) → c ≤ u64-max
+    → value (joinItems (functionItem name x c) js)
+    ≡ when (agreeing eqb (givenStart x ∷ map startOf js))
+    (functionItem name (extentFrom (given (givenStart x ∷ map startOf js)) (largest (givenEnd x ∷ map endOf js))) (min (c + total (map countOf js)) u64-max))
 unfolding combineItems total
-functions-closed name s c [] h =
-    ap (λ (n : ℕ). some (functionItem name s n)) (omega arith) ∙ agree-one eqb UnmatchedFunctionLine s (λ t u. when t (functionItem name u (min (c + 0) u64-max)))
-functions-closed name s c (j ∷ js) h =
-    ap value (bind-assoc (agree eqb Checked UnmatchedFunctionLine s (startOf j)) (λ u. accepted (functionItem name u m)) (λ k. joinItems k js))
-    ∙ agree-more eqb UnmatchedFunctionLine s (startOf j) (map startOf js) (λ u. joinItems (functionItem name u m) js)
+functions-closed name x c [] h =
+    ap (λ (n : ℕ). some (functionItem name x n)) (omega arith) ∙ extent-alone x (λ t u. when t (functionItem name u (min (c + 0) u64-max)))
+functions-closed name x c (j ∷ js) h =
+    ap value (bind-assoc (combineExtents Checked x (extentOf j)) (λ u. accepted (functionItem name u m)) (λ k. joinItems k js))
+    ∙ extents-more x (extentOf j) (map startOf js) (map endOf js) (λ u. joinItems (functionItem name u m) js)
     (λ t u. when t (functionItem name u (min (m + rest) u64-max))) (λ u. refl) (λ u. functions-closed name u m js (omega arith))
-    ∙ ap (λ (n : ℕ). when (agreeing eqb (s ∷ startOf j ∷ map startOf js)) (functionItem name (given (s ∷ startOf j ∷ map startOf js)) n)) (omega arith)
+    ∙ ap (λ (n : ℕ). when (agreeing eqb (givenStart x ∷ startOf j ∷ map startOf js)) (functionItem name (extentFrom (given (givenStart x ∷ startOf j ∷ map startOf js)) (largest (givenEnd x ∷ endOf j ∷ map endOf js))) n)) (omega arith)
   where
     m : ℕ
     m = min (c + countOf j) u64-max
@@ -220,16 +267,16 @@ Counted i = countOf i ≤ u64-max
 -- items of the first one's kind, whose counts are counts: that is asked of branches, where a count may be none
 abbrev pub Like : Item → List Item → Type 0
 Like (sectionItem spelling) js = Unit {0}
-Like (functionItem name start count) js = Unit {0}
+Like (functionItem name extent count) js = Unit {0}
 Like (branchItem line block branch taken) js = Branches js
 Like (lineItem line count checksum) js = Unit {0}
 
 -- CLOSED FORM: items of one key are joined exactly when they are joinable, to the joined item
 pub items-closed : (i : Item) (js : List Item) → Counted i → Like i js
     → value (joinItems i js) ≡ cond (joinableAs i (i ∷ js)) (some (joinedAs i (i ∷ js))) none
-unfolding joinableAs joinedAs countOf takenOf startOf checksumOf total
+unfolding joinableAs joinedAs countOf takenOf extentOf checksumOf total
 items-closed (sectionItem spelling) js c l = ap value (sections-closed spelling js)
-items-closed (functionItem name start count) js c l = functions-closed name start count js c
+items-closed (functionItem name extent count) js c l = functions-closed name extent count js c
 items-closed (branchItem line block branch none) js c l = branches-closed line block branch none js c l
 items-closed (branchItem line block branch (some taken)) js c l = branches-closed line block branch (some taken) js c l
 items-closed (lineItem line count checksum) js c l = lines-closed line count checksum js c

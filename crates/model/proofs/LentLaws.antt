@@ -10,7 +10,7 @@ use lib.ListN.{length, take, drop, length-append}
 use lib.Seq.{drop-append-seam, take-append-seam}
 use borrow.Author.Tests.{le-leb}
 use Rattle.ordmap.proofs.Results.{impossible, accepted-inj, not-accepted, bind-accepted, accepted-or-refused}
-use Rattle.model.specs.declared.Fault.the-variants.{UnknownRecord, PartOutside}
+use Rattle.model.specs.declared.Fault.the-variants.{EndBeforeStart, UnknownRecord, PartOutside}
 use Rattle.model.specs.declared.Kind.{Kind}
 use Rattle.model.specs.declared.Kind.the-variants as K
 use Rattle.model.specs.declared.Refusal.{Refusal}
@@ -39,6 +39,9 @@ use Rattle.model.specs.Record.{
 }
 use Rattle.model.specs.Tags.{allKinds}
 use Rattle.model.specs.Line.{
+  beginsWithEnd,
+  withEnd,
+  readFunction,
   beforeTrimmed,
   trimmed,
   kindAmong,
@@ -54,7 +57,7 @@ use Rattle.model.specs.Line.{
   readRecord,
   readLine,
 }
-use Rattle.model.specs.Parts.{partOf, takenIn, checksumIn, recordIn, endPart, lentTaken, lentChecksum, lentFrom, lentRecord, lentLine}
+use Rattle.model.specs.Parts.{lentEnd, endIn, partOf, takenIn, checksumIn, recordIn, endPart, lentTaken, lentChecksum, lentFrom, lentRecord, lentLine}
 use Rattle.model.specs.Calls.{lineAnswer}
 use Rattle.model.proofs.FieldTexts.{after-has, from-has, text-has}
 use Rattle.model.proofs.Clean.{lastBefore-accepted}
@@ -95,7 +98,7 @@ ChecksumEnds line none = Unit {0}
 abbrev TextEnds : Bytes → Record → Type 0
 TextEnds line (testName name) = Ends line name
 TextEnds line (sourceFile path) = Ends line path
-TextEnds line (functionName start name) = Ends line name
+TextEnds line (functionName start end name) = Ends line name
 TextEnds line (functionData count name) = Ends line name
 TextEnds line (functionsFound found) = Unit {0}
 TextEnds line (functionsHit hit) = Unit {0}
@@ -130,14 +133,34 @@ module _ (line : Bytes) where
       let (n, e, q) = bind-accepted (numberField u32-max 1 body) _ p in
       rw (← (lastBefore-accepted 2 body (made n) q)) (h n)
 
+  function-ends : (start : ℕ) (body rest : Bytes) {r : Record} → Ends line body → Ends line rest → readFunction start body rest ≡ accepted r → TextEnds line r
+  unfolding readFunction withEnd
+  function-ends start body rest {r} ε δ p = go (beginsWithEnd rest) p
+    where
+      ordered : (t : Bool) (end : ℕ) (name : Bytes) → Ends line name
+          → _≡_ {A = Answer Record} (if t then accepted (functionName start (some end) name) else refuse EndBeforeStart) (accepted r) → TextEnds line r
+      ordered true end name η q = rw (← (accepted-inj q)) η
+      ordered false end name η q = absurd (not-accepted q)
+
+      go : (t : Bool)
+          → _≡_ {A = Answer Record}
+          (if t then (numberField u32-max 2 body >>= λ end. textField 3 body >>= λ name. if leb start end then accepted (functionName start (some end) name) else refuse EndBeforeStart)
+          else accepted (functionName start none rest)) (accepted r)
+          → TextEnds line r
+      go true q =
+          let (end, e, s) = bind-accepted (numberField u32-max 2 body) _ q in
+          let (name, f, g) = bind-accepted (textField 3 body) _ s in
+          ordered (leb start end) end name (name-ends 3 body ε f) g
+      go false q = rw (← (accepted-inj q)) δ
+
   body-ends : (kind : Kind) (body : Bytes) {r : Record} → Ends line body → readBody kind body ≡ accepted r → TextEnds line r
   unfolding readBody
   body-ends K.TestName body ε p = rw (← (accepted-inj p)) ε
   body-ends K.SourceFile body ε p = rw (← (accepted-inj p)) ε
   body-ends K.FunctionName body ε p =
       let (start, e, q) = bind-accepted (numberField u32-max 1 body) _ p in
-      let (name, f, g) = bind-accepted (textField 2 body) _ q in
-      rw (← (accepted-inj g)) (name-ends 2 body ε f)
+      let (rest, f, g) = bind-accepted (textField 2 body) _ q in
+      function-ends start body rest ε (name-ends 2 body ε f) g
   body-ends K.FunctionData body ε p =
       let (count, e, q) = bind-accepted (numberField u64-max 1 body) _ p in
       let (name, f, g) = bind-accepted (textField 2 body) _ q in
@@ -183,6 +206,11 @@ unfolding checksumIn lentChecksum
 checksum-in line tail (some text) ε = rw (part-ends line text tail ε)
 checksum-in line tail none ε = refl
 
+end-in : (end : Option ℕ) → endIn (lentEnd end) ≡ end
+unfolding endIn lentEnd
+end-in (some line) = refl
+end-in none = refl
+
 taken-in : (taken : Option ℕ) → takenIn (lentTaken taken) ≡ taken
 unfolding takenIn lentTaken
 taken-in (some count) = refl
@@ -192,7 +220,7 @@ pub lent-in : (line tail : Bytes) (made : Record) → TextEnds line made → rec
 unfolding recordIn lentFrom
 lent-in line tail (testName name) ε = rw (part-ends line name tail ε)
 lent-in line tail (sourceFile path) ε = rw (part-ends line path tail ε)
-lent-in line tail (functionName start name) ε = rw (part-ends line name tail ε)
+lent-in line tail (functionName start end name) ε = rw (part-ends line name tail ε, end-in end)
 lent-in line tail (functionData count name) ε = rw (part-ends line name tail ε)
 lent-in line tail (functionsFound found) ε = refl
 lent-in line tail (functionsHit hit) ε = refl

@@ -4,11 +4,11 @@ use native.Mathlib.Nat.{lt-of-le-of-lt}
 use native.Mathlib.Omega.{arith}
 use native.Mathlib.Decide.{decLt}
 use mathlib.Core.Path.{_≡_, refl, ap, _∙_}
-use mathlib.Core.Bool.{false, true≢false}
+use mathlib.Core.Bool.{true, false, true≢false}
 use mathlib.Core.List.{[], _∷_, _++_}
 use mathlib.Core.Option.{Option, none, some}
 use lib.Dec.{lit<, isEq}
-use borrow.Author.Tests.{ne-eqb}
+use borrow.Author.Tests.{le-leb, ne-eqb}
 use Rattle.model.specs.declared.Kind.{Kind}
 use Rattle.model.specs.declared.Kind.the-variants as K
 use Rattle.model.specs.Order.{lex}
@@ -44,11 +44,17 @@ use Rattle.model.specs.Line.{
   checksumField,
   lastBefore,
   readOne,
+  allDigits,
+  isDigits,
+  beginsWithEnd,
+  withEnd,
+  readFunction,
   readBody,
   bodyOf,
   readTrimmed,
   readRecord,
   printFields,
+  printEnd,
   printTaken,
   printChecksum,
   printRecord,
@@ -94,6 +100,25 @@ digits-trim (b ∷ bs) d = trim-cons b bs kept (digits-trim bs (d .2))
   where
     kept : Kept b
     kept = simp (ne-eqb b newline (λ e. omega (arith, e, d .0)), ne-eqb b return (λ e. omega (arith, e, d .0)))
+
+-- a decimal and a comma are the beginning that an end line has
+digits-all : (xs : Bytes) → Digits xs → allDigits xs ≡ true
+unfolding allDigits
+digits-all [] d = refl
+digits-all (b ∷ bs) d = rw (le-leb 48 b (d .0), le-leb b 57 (omega (arith, d .1))) (digits-all bs (d .2))
+
+digits-some : {xs : Bytes} → StartsWithDigit xs → Digits xs → isDigits xs ≡ true
+unfolding isDigits allDigits
+digits-some s d = rw (s .is) (digits-all (s .first ∷ s .rest) (rw (s .is) at d))
+
+decimal-ends : (v : ℕ) (name : Bytes) → beginsWithEnd (decimal v ++ comma ∷ name) ≡ true
+unfolding beginsWithEnd decimal
+decimal-ends v name =
+    rw (after-seam comma (decimal v) name free, beginsWithEnd)
+    (rw (before-seam comma (decimal v) name free) (digits-some (decimalDigits-starts 19 v) (decimal-digits v)))
+  where
+    free : Free comma (decimal v)
+    free = digits-free comma (decimal v) (lit< tt) (decimal-digits v)
 
 -- ---- fields
 
@@ -193,6 +218,46 @@ module _ (tag : Kind → Bytes) (L : Lawful tag) where
       (e ∙ rw (numberField-more max v small fits 1 (decimal v ++ comma ∷ name) name refl)
       (rw (from-more 0 v (decimal v ++ comma ∷ name) name refl, textField)))
 
+  -- FN whose rest begins with no end line
+  start-back : (start : ℕ) (name : Bytes) → start ≤ u32-max → Trim name → beginsWithEnd name ≡ false
+      → readRecord tag (tag K.FunctionName ++ colon ∷ (decimal start ++ comma ∷ name)) ≡ accepted (functionName start none name)
+  unfolding readBody readFunction textField
+  start-back start name h t plain = back K.FunctionName body (functionName start none name) (trim-after start name t) read
+    where
+      body : Bytes
+      body = decimal start ++ comma ∷ name
+
+      read : readBody K.FunctionName body ≡ accepted (functionName start none name)
+      read =
+          rw (numberField-more u32-max start (u32-small start h) h 1 body name (fromField-one body))
+          (rw (from-more 0 start body name (fromField-one body), textField) (rw plain))
+
+  -- and FN with one
+  end-back : (start end : ℕ) (name : Bytes) → start ≤ end → end ≤ u32-max → Trim name
+      → readRecord tag (tag K.FunctionName ++ colon ∷ (decimal start ++ comma ∷ (decimal end ++ comma ∷ name))) ≡ accepted (functionName start (some end) name)
+  unfolding readBody readFunction withEnd textField
+  end-back start end name order h t = back K.FunctionName body (functionName start (some end) name) (trim-after start rest (trim-after end name t)) read
+    where
+      rest : Bytes
+      rest = decimal end ++ comma ∷ name
+
+      body : Bytes
+      body = decimal start ++ comma ∷ rest
+
+      small : start ≤ u32-max
+      small = omega arith
+
+      from2 : fromField 2 body ≡ some rest
+      from2 = from-more 0 start body rest (fromField-one body)
+
+      read : readBody K.FunctionName body ≡ accepted (functionName start (some end) name)
+      read =
+          rw (numberField-more u32-max start (u32-small start small) small 1 body rest (fromField-one body))
+          (rw (from2, textField)
+          (rw (decimal-ends end name)
+          (rw (numberField-more u32-max end (u32-small end h) h 2 body name from2)
+          (rw (from-more 1 end body name from2, textField) (rw (le-leb start end order))))))
+
   branch-back : (line block branch : ℕ) (last : Bytes) (taken : Option ℕ) → line ≤ u32-max → block ≤ u32-max → branch ≤ u32-max → Trim last
       → ((body : Bytes) → fromField 4 body ≡ some last → (takenField u64-max 4 body ≡ accepted taken) × (fromField 5 body ≡ none))
       → readRecord tag (tag K.BranchData ++ colon ∷ (decimal line ++ comma ∷ (decimal block ++ comma ∷ (decimal branch ++ comma ∷ last))))
@@ -249,11 +314,11 @@ module _ (tag : Kind → Bytes) (L : Lawful tag) where
           (rw (given body from2 .0) (rw (given body from2 .1)))
 
   pub readRecord-print : (r : Record) → RecordFits r → readRecord tag (printRecord tag r) ≡ accepted r
-  unfolding printRecord printFields printTaken printChecksum joined readBody fromField checksumField before after compareBytes trimmed beforeTrimmed readRecord readTrimmed bodyOf
+  unfolding printRecord printFields printEnd printTaken printChecksum joined readBody fromField checksumField before after compareBytes trimmed beforeTrimmed readRecord readTrimmed bodyOf
   readRecord-print (testName name) p = back K.TestName name (testName name) (p .clean-end) refl
   readRecord-print (sourceFile path) p = back K.SourceFile path (sourceFile path) (p .clean-end) refl
-  readRecord-print (functionName start name) p =
-      named-back K.FunctionName functionName u32-max start name (u32-small start (p .0)) (p .0) (p .1 .clean-end) refl
+  readRecord-print (functionName start none name) p = start-back start name (p .0 .start) (p .1 .clean-end) (p .0 .name-whole refl)
+  readRecord-print (functionName start (some end) name) p = end-back start end name (p .0 .end .0) (p .0 .end .1) (p .1 .clean-end)
   readRecord-print (functionData count name) p =
       named-back K.FunctionData functionData u64-max count name (u64-small count (p .0)) (p .0) (p .1 .clean-end) refl
   readRecord-print (functionsFound found) p = one-back K.FunctionsFound functionsFound found refl p

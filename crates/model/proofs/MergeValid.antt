@@ -1,15 +1,16 @@
 -- A merge of valid reports, checked or lossy, is a valid report; so is what a gather of readable texts joins. Assumes nothing.
-use Prim.Native.Nat.{ℕ, _+_, _≤_}
+use Prim.Native.Nat.{ℕ, _+_, _≤_, max}
 use native.Mathlib.Omega.{arith}
 use mathlib.Core.Path.{_≡_, refl, sym, ap, _∙_, subst}
 use mathlib.Core.Bool.{Bool, true, false}
 use mathlib.Core.List.{List, [], _∷_, List·Memᴰ as Member}
 use mathlib.Core.Option.{Option, none, some}
 use lib.Dec.{eqb}
+use borrow.Author.Tests.{eqb-true}
 use lib.ListN.{length}
 use Rattle.ordmap.specs.Keyed.{addAll}
 use Rattle.ordmap.specs.OnePass.{onePass}
-use Rattle.ordmap.proofs.Results.{accepted-inj, not-accepted, bind-accepted}
+use Rattle.ordmap.proofs.Results.{impossible, accepted-inj, not-accepted, bind-accepted}
 use Rattle.ordmap.proofs.Adding.{addAll-sorted}
 use Rattle.ordmap.proofs.OnePassLaws.{onePass-adds}
 use Rattle.ordmap.proofs.Origins.{Origin, before, added, combined, origin, key-before, key-added}
@@ -23,7 +24,9 @@ use Rattle.model.specs.Path.{components}
 use Rattle.model.specs.Answer.{Answer, accepted, refuse}
 use Rattle.model.specs.Limits.{u32-max, u64-max}
 use Rattle.model.specs.Report.{
+  Extent,
   Item,
+  itemKey,
   sectionItem,
   functionItem,
   branchItem,
@@ -36,7 +39,10 @@ use Rattle.model.specs.Report.{
   Key,
   compareKeys,
   entryKey,
-  startOf,
+  extentOf,
+  larger,
+  joinExtents,
+  combineExtents,
   takenOf,
   checksumOf,
   countOf,
@@ -48,7 +54,7 @@ use Rattle.model.specs.Report.{
   merge,
 }
 use Rattle.model.specs.Printing.{isSection}
-use Rattle.model.specs.Valid.{LineText, Given, ItemFits, Valid}
+use Rattle.model.specs.Valid.{LineText, Given, ExtentFits, ItemFits, Valid}
 use Rattle.model.proofs.KeyOrder.{keys-order}
 use Rattle.model.proofs.Clean.{TakenFits, ChecksumFits}
 use Rattle.model.proofs.Entries.{entries-keyed}
@@ -56,24 +62,25 @@ use Rattle.model.proofs.Read.{sum-fits}
 
 -- ---- items
 
-start-fits : (i : Item) → ItemFits i → Given (λ n. n ≤ u32-max) (startOf i)
-unfolding startOf
-start-fits (sectionItem spelling) f = tt
-start-fits (functionItem name start count) f = f .1
-start-fits (branchItem line block branch taken) f = tt
-start-fits (lineItem line count checksum) f = tt
+-- an item of a function's key has an extent that fits the function's name
+extent-fits : (name : Bytes) (x : Option Extent) (count : ℕ) (j : Item) → itemKey (functionItem name x count) ≡ itemKey j → ItemFits j → Given (ExtentFits name) (extentOf j)
+unfolding extentOf itemKey
+extent-fits name x count (sectionItem spelling) e f = tt
+extent-fits name x count (functionItem n extent c) e f = let q : n ≡ name = cc in rw (← q) (f .1)
+extent-fits name x count (branchItem line block branch taken) e f = tt
+extent-fits name x count (lineItem line c checksum) e f = tt
 
 taken-fits : (i : Item) → ItemFits i → TakenFits (takenOf i)
 unfolding takenOf
 taken-fits (sectionItem spelling) f = tt
-taken-fits (functionItem name start count) f = tt
+taken-fits (functionItem name extent count) f = tt
 taken-fits (branchItem line block branch taken) f = f .3
 taken-fits (lineItem line count checksum) f = tt
 
 checksum-fits : (i : Item) → ItemFits i → ChecksumFits (checksumOf i)
 unfolding checksumOf
 checksum-fits (sectionItem spelling) f = tt
-checksum-fits (functionItem name start count) f = tt
+checksum-fits (functionItem name extent count) f = tt
 checksum-fits (branchItem line block branch taken) f = tt
 checksum-fits (lineItem line count checksum) f = f .2
 
@@ -98,17 +105,46 @@ sumTaken-fits (some a) (some b) f g p =
     let (n, q, e) = bind-accepted (sum CountOverflow a b) _ p in
     rw (← (accepted-inj e)) (sum-fits CountOverflow a b q)
 
-combine-fits : (mode : Mode) (i j : Item) {k : Item} → ItemFits i → ItemFits j → combineItems mode i j ≡ accepted k → ItemFits k
+-- the end of two FN of one start line is that of one of them, and there is none only where neither gives one
+join-fits : (name : Bytes) (a b : Extent) → a .start ≡ b .start → ExtentFits name a → ExtentFits name b → ExtentFits name (joinExtents a b)
+join-fits name a b e f g = record { start = f .start; end = ends (a .end) (b .end) (f .end) (g .end); name-whole = λ n. f .name-whole (left (a .end) (b .end) n) }
+  where
+    ends : (x y : Option ℕ) → Given (λ n. (a .start ≤ n) × (n ≤ u32-max)) x → Given (λ n. (b .start ≤ n) × (n ≤ u32-max)) y
+        → Given (λ n. (a .start ≤ n) × (n ≤ u32-max)) (larger x y)
+    ends none none h k = tt
+    ends none (some y) h k = (omega (arith, e, k .0), k .1)
+    ends (some x) none h k = h
+    ends (some x) (some y) h k = (omega (arith, h .0), omega (arith, h .1, k .1))
+
+    left : (x y : Option ℕ) → larger x y ≡ none → x ≡ none
+    left none y n = refl
+    left (some x) none n = n
+    left (some x) (some y) n = impossible cc
+
+extents-fit : (name : Bytes) (mode : Mode) (x y : Option Extent) {u : Option Extent} → Given (ExtentFits name) x → Given (ExtentFits name) y
+    → combineExtents mode x y ≡ accepted u → Given (ExtentFits name) u
+unfolding combineExtents
+extents-fit name mode none y f g p = rw (← (accepted-inj p)) g
+extents-fit name mode (some a) none f g p = rw (← (accepted-inj p)) f
+extents-fit name Lossy (some a) (some b) f g p = rw (← (accepted-inj p)) g
+extents-fit name Checked (some a) (some b) {u} f g p = go (eqb (a .start) (b .start)) refl p
+  where
+    go : (t : Bool) → eqb (a .start) (b .start) ≡ t → _≡_ {A = Answer (Option Extent)} (if t then accepted (some (joinExtents a b)) else refuse UnmatchedFunctionLine) (accepted u)
+        → Given (ExtentFits name) u
+    go true e q = rw (← (accepted-inj q)) (join-fits name a b (eqb-true (a .start) (b .start) e) f g)
+    go false e q = absurd (not-accepted q)
+
+combine-fits : (mode : Mode) (i j : Item) {k : Item} → itemKey i ≡ itemKey j → ItemFits i → ItemFits j → combineItems mode i j ≡ accepted k → ItemFits k
 unfolding combineItems
-combine-fits mode (sectionItem spelling) j f g p = rw (← (accepted-inj p)) f
-combine-fits mode (functionItem name start count) j f g p =
-    let (u, q, e) = bind-accepted (agree eqb mode UnmatchedFunctionLine start (startOf j)) _ p in
-    let s : Given (λ n. n ≤ u32-max) u = agree-fits (λ n. n ≤ u32-max) eqb mode UnmatchedFunctionLine start (startOf j) (f .1) (start-fits j g) q in
+combine-fits mode (sectionItem spelling) j κ f g p = rw (← (accepted-inj p)) f
+combine-fits mode (functionItem name extent count) j κ f g p =
+    let (u, q, e) = bind-accepted (combineExtents mode extent (extentOf j)) _ p in
+    let s : Given (ExtentFits name) u = extents-fit name mode extent (extentOf j) (f .1) (extent-fits name extent count j κ g) q in
     rw (← (accepted-inj e)) (f .0, s, omega arith)
-combine-fits mode (branchItem line block branch taken) j f g p =
+combine-fits mode (branchItem line block branch taken) j κ f g p =
     let (u, q, e) = bind-accepted (sumTaken taken (takenOf j)) _ p in
     rw (← (accepted-inj e)) (f .0, f .1, f .2, sumTaken-fits taken (takenOf j) (f .3) (taken-fits j g) q)
-combine-fits mode (lineItem line count checksum) j f g p =
+combine-fits mode (lineItem line count checksum) j κ f g p =
     let (u, q, e) = bind-accepted (agree sameBytes mode UnmatchedChecksum checksum (checksumOf j)) _ p in
     let (n, r, d) = bind-accepted (sum CountOverflow count (countOf j)) _ e in
     let c : ChecksumFits u = agree-fits _ sameBytes mode UnmatchedChecksum checksum (checksumOf j) (f .2) (checksum-fits j g) q in
@@ -118,8 +154,8 @@ combine-fits mode (lineItem line count checksum) j f g p =
 combine-section : (mode : Mode) (i j : Item) {p : Bytes} → combineItems mode i j ≡ accepted (sectionItem p) → i ≡ sectionItem p
 unfolding combineItems
 combine-section mode (sectionItem spelling) j q = accepted-inj q
-combine-section mode (functionItem name start count) j q =
-    let (u, r, e) = bind-accepted (agree eqb mode UnmatchedFunctionLine start (startOf j)) _ q in cc
+combine-section mode (functionItem name extent count) j q =
+    let (u, r, e) = bind-accepted (combineExtents mode extent (extentOf j)) _ q in cc
 combine-section mode (branchItem line block branch taken) j q = let (u, r, e) = bind-accepted (sumTaken taken (takenOf j)) _ q in cc
 combine-section mode (lineItem line count checksum) j q =
     let (u, r, e) = bind-accepted (agree sameBytes mode UnmatchedChecksum checksum (checksumOf j)) _ q in
@@ -136,17 +172,17 @@ combine-entry mode x e p =
 section-key : (i : Item) (p : Bytes) → itemKey i ≡ itemKey (sectionItem p) → (q : Bytes) × (i ≡ sectionItem q)
 unfolding itemKey
 section-key (sectionItem spelling) p e = (spelling, refl)
-section-key (functionItem name start count) p e = (p, cc)
+section-key (functionItem name extent count) p e = (p, cc)
 section-key (branchItem line block branch taken) p e = (p, cc)
 section-key (lineItem line count checksum) p e = (p, cc)
 
 not-section : (i j : Item) → itemKey i ≡ itemKey j → isSection j ≡ false → isSection i ≡ false
 unfolding itemKey isSection
 not-section (sectionItem p) (sectionItem q) e h = h
-not-section (sectionItem p) (functionItem name start count) e h = cc
+not-section (sectionItem p) (functionItem name extent count) e h = cc
 not-section (sectionItem p) (branchItem line block branch taken) e h = cc
 not-section (sectionItem p) (lineItem line count checksum) e h = cc
-not-section (functionItem name start count) j e h = refl
+not-section (functionItem name extent count) j e h = refl
 not-section (branchItem line block branch taken) j e h = refl
 not-section (lineItem line count checksum) j e h = refl
 
@@ -202,11 +238,12 @@ module _ (mode : Mode) (into other n : Report) (A : Valid into) (B : Valid other
       subst (λ (z : Entry). LineText (z .test)) f (A .tests x i)
 
   fits-of : (e : Entry) → From e → ItemFits (e .item)
+  unfolding entryKey
   fits-of e (before i) = A .fits e i
   fits-of e (added i) = B .fits e i
   fits-of e (combined x y i j h c) =
       let (k, q, f) = combine-entry mode x y c in
-      subst (λ (z : Entry). ItemFits (z .item)) f (combine-fits mode (x .item) (y .item) (A .fits x i) (B .fits y j) q)
+      subst (λ (z : Entry). ItemFits (z .item)) f (combine-fits mode (x .item) (y .item) (ap (λ (k : Key). k .1) h) (A .fits x i) (B .fits y j) q)
 
   spelled-of : (e : Entry) (s : Bytes) → From e → e .item ≡ sectionItem s → components s ≡ e .path
   spelled-of e s (before i) g = A .spelled e s i g

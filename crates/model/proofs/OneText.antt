@@ -11,7 +11,7 @@ use Rattle.ordmap.specs.Keyed.{byOrder, add}
 use Rattle.ordmap.proofs.Results.{impossible}
 use Rattle.ordmap.proofs.Adding.{addAll-empty}
 use Rattle.ordmap.proofs.Gathered.{within-fits}
-use Rattle.model.specs.declared.Fault.the-variants.{UnknownRecord, FieldNotFound, TooManyFields, UnexpectedRecord, UnexpectedEof, CallOverflow, TooManyEntries, SecondSourceFile}
+use Rattle.model.specs.declared.Fault.the-variants.{UnknownRecord, FieldNotFound, TooManyFields, EndBeforeStart, UnexpectedRecord, UnexpectedEof, CallOverflow, TooManyEntries, SecondSourceFile}
 use Rattle.model.specs.declared.Kind.{Kind}
 use Rattle.model.specs.declared.Kind.the-variants as K
 use Rattle.model.specs.declared.Mode.{Mode}
@@ -38,8 +38,9 @@ use Rattle.model.specs.Record.{
   endOfRecord,
 }
 use Rattle.model.specs.Tags.{allKinds}
-use Rattle.model.specs.Line.{trimmed, kindAmong, fromField, inField, numberField, textField, takenField, lastBefore, readOne, readBody, bodyOf, readTrimmed, readRecord}
+use Rattle.model.specs.Line.{beginsWithEnd, withEnd, readFunction, trimmed, kindAmong, fromField, inField, numberField, textField, takenField, lastBefore, readOne, readBody, bodyOf, readTrimmed, readRecord}
 use Rattle.model.specs.Report.{
+  extentAt,
   Item,
   sectionItem,
   functionItem,
@@ -128,12 +129,21 @@ no-one : (made : ℕ → Record) (body : Bytes) → NoText (readOne made body)
 unfolding readOne
 no-one made body = no-bind (numberField u32-max 1 body) _ (no-number u32-max 1 body) (λ n. no-last 2 body (made n))
 
+no-function : (start : ℕ) (body rest : Bytes) → NoText (readFunction start body rest)
+unfolding readFunction withEnd
+no-function start body rest =
+    no-if (beginsWithEnd rest) _ (accepted (functionName start none rest))
+    (no-bind (numberField u32-max 2 body) _ (no-number u32-max 2 body)
+    (λ end. no-bind (textField 3 body) _ (no-textField 3 body)
+    (λ name. no-if (leb start end) (accepted (functionName start (some end) name)) (refuse EndBeforeStart) tt refl)))
+    tt
+
 no-body : (kind : Kind) (body : Bytes) → NoText (readBody kind body)
 unfolding readBody
 no-body K.TestName body = tt
 no-body K.SourceFile body = tt
 no-body K.FunctionName body =
-    no-bind (numberField u32-max 1 body) _ (no-number u32-max 1 body) (λ start. no-bind (textField 2 body) _ (no-textField 2 body) (λ name. tt))
+    no-bind (numberField u32-max 1 body) _ (no-number u32-max 1 body) (λ start. no-bind (textField 2 body) _ (no-textField 2 body) (no-function start body))
 no-body K.FunctionData body =
     no-bind (numberField u64-max 1 body) _ (no-number u64-max 1 body) (λ count. no-bind (textField 2 body) _ (no-textField 2 body) (λ name. tt))
 no-body K.FunctionsFound body = no-one functionsFound body
@@ -175,7 +185,7 @@ no-enter combine e s h = no-bind (add itemKey compareBytes combine e (s .items))
 no-calls : (x e : Item) → NoText (addCalls x e)
 unfolding addCalls sum
 no-calls (sectionItem spelling) e = tt
-no-calls (functionItem name start count) e =
+no-calls (functionItem name extent count) e =
     no-bind (sum CallOverflow count (countOf e)) _ (no-if (leb (count + countOf e) u64-max) (accepted (count + countOf e)) (refuse CallOverflow) tt refl) (λ n. tt)
 no-calls (branchItem line block branch taken) e = tt
 no-calls (lineItem line count checksum) e = tt
@@ -184,7 +194,7 @@ no-effect : (r : Record) (s : State) → NoText (effect r s)
 unfolding effect nameSection ignored
 no-effect (testName name) s = no-if (s .inside) (refuse UnexpectedRecord) (accepted (outside (s .kept) name)) refl tt
 no-effect (sourceFile path) s = no-option (s .path) (accepted (open-section s (some path) (s .items))) (λ earlier. refuse SecondSourceFile) tt (λ earlier. refl)
-no-effect (functionName start name) s = no-enter replace (functionItem name (some start) 0) s (λ x. tt)
+no-effect (functionName start end name) s = no-enter replace (functionItem name (some (extentAt start end)) 0) s (λ x. tt)
 no-effect (functionData count name) s = no-enter addCalls (functionItem name none count) s (λ x. no-calls x (functionItem name none count))
 no-effect (functionsFound found) s = tt
 no-effect (functionsHit hit) s = tt

@@ -18,7 +18,7 @@ use Rattle.model.specs.Bytes.{Bytes, compareBytes}
 use Rattle.model.specs.Answer.{Answer, accepted}
 use Rattle.model.specs.Limits.{u64-max}
 use Rattle.model.specs.Record.{Record}
-use Rattle.model.specs.Report.{Item, sectionItem, functionItem, branchItem, lineItem, Report, itemKey, countOf, sum, within}
+use Rattle.model.specs.Report.{Extent, Item, sectionItem, functionItem, branchItem, lineItem, Report, itemKey, countOf, sum, within}
 use Rattle.model.specs.Reading.{State, open-section, entries, replace, addCalls, enterItem, ignored, effect}
 use Rattle.model.specs.Printing.{isSection, startRecord, dataRecord, hits, group}
 use Rattle.model.specs.Valid.{ItemFits}
@@ -65,7 +65,7 @@ InSection i = isSection i ≡ false
 abbrev pub started : Item → Option Item
 started (sectionItem spelling) = none
 started (functionItem name none count) = none
-started (functionItem name (some start) count) = some (functionItem name (some start) 0)
+started (functionItem name (some x) count) = some (functionItem name (some x) 0)
 started (branchItem line block branch taken) = none
 started (lineItem line count checksum) = none
 
@@ -160,10 +160,10 @@ module _ (limit : ℕ) (kept : Report) (test path : Bytes) (items : List Item) w
     unfolding startRecord run effect itemKey
     start-one m (sectionItem spelling) rest p = (m, refl, start-skip m (sectionItem spelling) rest refl p)
     start-one m (functionItem name none count) rest p = (m, refl, start-skip m (functionItem name none count) rest refl p)
-    start-one m (functionItem name (some start) count) rest p =
-        let e : Item = functionItem name (some start) count in
-        let y : Item = functionItem name (some start) 0 in
-        let (n, q, next, f) = entry-pass started replace (Record.functionName start name) m y e y rest (λ s. refl) replace-keyed refl refl (replaced (at (itemKey e) m) y) p in
+    start-one m (functionItem name (some x) count) rest p =
+        let e : Item = functionItem name (some x) count in
+        let y : Item = functionItem name (some x) 0 in
+        let (n, q, next, f) = entry-pass started replace (Record.functionName (x .start) (x .end) name) m y e y rest (λ s. refl) replace-keyed refl refl (replaced (at (itemKey e) m) y) p in
         (n, rw q, next)
     start-one m (branchItem line block branch taken) rest p = (m, refl, start-skip m (branchItem line block branch taken) rest refl p)
     start-one m (lineItem line count checksum) rest p = (m, refl, start-skip m (lineItem line count checksum) rest refl p)
@@ -201,20 +201,20 @@ module _ (limit : ℕ) (kept : Report) (test path : Bytes) (items : List Item) w
         let (n, q, next, f) = entry-pass some combine r m new e e rest eff C kn refl (rw held h) p in
         (n, rw q, next, ready-next m n e rest (p .distinct) ready f)
 
-    add-to-start : (name : Bytes) (start : Option ℕ) (count : ℕ) → count ≤ u64-max
-        → meet addCalls (started (functionItem name start count)) (functionItem name none count)
-        ≡ accepted (functionItem name start count)
+    add-to-start : (name : Bytes) (extent : Option Extent) (count : ℕ) → count ≤ u64-max
+        → meet addCalls (started (functionItem name extent count)) (functionItem name none count)
+        ≡ accepted (functionItem name extent count)
     unfolding addCalls sum countOf
     add-to-start name none count h = refl
-    add-to-start name (some start) count h = rw (zero-add count) (rw (le-leb count u64-max h))
+    add-to-start name (some x) count h = rw (zero-add count) (rw (le-leb count u64-max h))
 
     data-one : (m : List Item) (e : Item) (rest : List Item) → InSection e → ItemFits e → Pass items some m (e ∷ rest) → Ready m (e ∷ rest)
         → (n : List Item) × (run limit (dataRecord e) (holding m) ≡ accepted (holding n)) × Pass items some n rest × Ready n rest
     unfolding dataRecord effect itemKey isSection
     data-one m (sectionItem spelling) rest i f p ready = absurd (true≢false i)
-    data-one m (functionItem name start count) rest i f p ready =
-        data-entry addCalls (Record.functionData count name) m (functionItem name none count) (functionItem name start count) rest (λ s. refl) addCalls-keyed refl
-        (add-to-start name start count (f .2)) p ready
+    data-one m (functionItem name extent count) rest i f p ready =
+        data-entry addCalls (Record.functionData count name) m (functionItem name none count) (functionItem name extent count) rest (λ s. refl) addCalls-keyed refl
+        (add-to-start name extent count (f .2)) p ready
     data-one m (branchItem line block branch taken) rest i f p ready =
         let e : Item = branchItem line block branch taken in
         data-entry replace (Record.branchData line block branch taken) m e e rest (λ s. refl) replace-keyed refl refl p ready

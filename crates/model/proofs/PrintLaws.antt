@@ -29,7 +29,7 @@ use Rattle.model.specs.Record.{
   endOfRecord,
 }
 use Rattle.model.specs.Tags.{Lawful}
-use Rattle.model.specs.Line.{printFields, printTaken, printChecksum, printRecord}
+use Rattle.model.specs.Line.{printEnd, printFields, printTaken, printChecksum, printRecord}
 use Rattle.model.specs.Report.{Item, sectionItem, functionItem, branchItem, lineItem, countOf}
 use Rattle.model.specs.Printing.{isFunction, isBranch, isLine, comparePrinted, functionsOf, startRecord, dataRecord, hits, group, sectionRecords}
 use Rattle.model.specs.Valid.{LineText, ItemFits}
@@ -56,10 +56,13 @@ module _ (tag : Kind → Bytes) (L : Lawful tag) where
   tagged-free k body f = free-append newline (tag k) (colon ∷ body) (tag-newline tag L k) (refl, f)
 
   pub print-free : (r : Record) → RecordFits r → Free newline (printRecord tag r)
-  unfolding printRecord printFields printChecksum joined
+  unfolding printRecord printFields printEnd printChecksum joined
   print-free (testName name) w = tagged-free K.TestName name (w .one-line)
   print-free (sourceFile path) w = tagged-free K.SourceFile path (w .one-line)
-  print-free (functionName start name) w = tagged-free K.FunctionName (decimal start ++ comma ∷ name) (more-free start name (w .1 .one-line))
+  print-free (functionName start none name) w = tagged-free K.FunctionName (decimal start ++ comma ∷ name) (more-free start name (w .1 .one-line))
+  print-free (functionName start (some end) name) w =
+      tagged-free K.FunctionName (decimal start ++ comma ∷ (decimal end ++ comma ∷ name))
+      (more-free start (decimal end ++ comma ∷ name) (more-free end name (w .1 .one-line)))
   print-free (functionData count name) w = tagged-free K.FunctionData (decimal count ++ comma ∷ name) (more-free count name (w .1 .one-line))
   print-free (functionsFound found) w = tagged-free K.FunctionsFound (decimal found) (decimal-free found)
   print-free (functionsHit hit) w = tagged-free K.FunctionsHit (decimal hit) (decimal-free hit)
@@ -87,14 +90,14 @@ starts-fit : (i : Item) → ItemFits i → All RecordFits (startRecord i)
 unfolding startRecord
 starts-fit (sectionItem spelling) f = tt
 starts-fit (functionItem name none count) f = tt
-starts-fit (functionItem name (some start) count) f = ((f .1, f .0), tt)
+starts-fit (functionItem name (some x) count) f = ((f .1, f .0), tt)
 starts-fit (branchItem line block branch taken) f = tt
 starts-fit (lineItem line count checksum) f = tt
 
 data-fit : (i : Item) → ItemFits i → All RecordFits (dataRecord i)
 unfolding dataRecord
 data-fit (sectionItem spelling) f = tt
-data-fit (functionItem name start count) f = ((f .2, f .0), tt)
+data-fit (functionItem name extent count) f = ((f .2, f .0), tt)
 data-fit (branchItem line block branch taken) f = (f, tt)
 data-fit (lineItem line count checksum) f = (f, tt)
 

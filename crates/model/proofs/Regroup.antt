@@ -1,12 +1,12 @@
 -- Entries of one key may be combined in groups: what a group makes alone, combined, is the group's entries combined. Assumes nothing.
-use Prim.Native.Nat.{ℕ, _+_, min}
+use Prim.Native.Nat.{ℕ, _+_, min, max}
 use native.Mathlib.Nat.{add-assoc}
 use native.Mathlib.Omega.{arith}
 use mathlib.Core.Path.{_≡_, refl, sym, ap, _∙_}
 use mathlib.Core.Bool.{Bool, true, false}
 use mathlib.Core.Option.{Option, none, some}
 use lib.Dec.{leb, eqb}
-use borrow.Author.Tests.{lt-leb, leb-false}
+use borrow.Author.Tests.{lt-leb, leb-false, eqb-true}
 use Rattle.ordmap.specs.Result.{accepted, refused, bind, value}
 use Rattle.ordmap.specs.Keyed.{Grouped}
 use Rattle.ordmap.specs.Gathering.{Same}
@@ -19,10 +19,10 @@ use Rattle.model.specs.Order.{if_then_else_}
 use Rattle.model.specs.Bytes.{Bytes, sameBytes}
 use Rattle.model.specs.Answer.{Answer, refuse}
 use Rattle.model.specs.Limits.{u64-max}
-use Rattle.model.specs.Report.{Item, functionItem, branchItem, lineItem, itemKey, Entry, Key, compareKeys, entryKey, startOf, takenOf, checksumOf, countOf, sum, sumTaken, agree, combineItems, combineEntries, sectionKey, inSection}
+use Rattle.model.specs.Report.{extentAt, Extent, Item, functionItem, branchItem, lineItem, itemKey, Entry, Key, compareKeys, entryKey, extentOf, larger, joinExtents, combineExtents, takenOf, checksumOf, countOf, sum, sumTaken, agree, combineItems, combineEntries, sectionKey, inSection}
 use Rattle.model.proofs.KeyOrder.{bytes-same}
-use Rattle.model.proofs.AnyOrder.{number-same}
 use Rattle.model.proofs.Entries.{by-key}
+use Rattle.model.proofs.Items.{larger-assoc}
 
 -- ---- values
 
@@ -49,6 +49,37 @@ module _ {A : Type 0} (same : A → A → Bool) (S : Same same) (fault : Fault) 
       go false y e f q = absurd (not-accepted q)
   agree-regroup Lossy (some a) (some b) none h = ap (λ (o : Option A). value (agree same Lossy fault (some a) o)) (accepted-inj h)
   agree-regroup Lossy (some a) (some b) (some c) h = ap (λ (o : Option A). value (agree same Lossy fault (some a) o)) (accepted-inj h)
+
+extents-regroup : (mode : Mode) (s t u : Option Extent) {v : Option Extent} → combineExtents mode t u ≡ accepted v
+    → value (bind (combineExtents mode s t) (λ w. combineExtents mode w u)) ≡ value (combineExtents mode s v)
+unfolding combineExtents
+extents-regroup mode none t u h = ap value h
+extents-regroup mode (some a) none u h = ap (λ (o : Option Extent). value (combineExtents mode (some a) o)) (accepted-inj h)
+extents-regroup Checked (some a) (some b) none h =
+    go (eqb (a .start) (b .start)) ∙ ap (λ (o : Option Extent). value (combineExtents Checked (some a) o)) (accepted-inj h)
+  where
+    go : (x : Bool) → value (bind (if x then accepted (some (joinExtents a b)) else refuse UnmatchedFunctionLine) (λ w. combineExtents Checked w none))
+        ≡ value (if x then accepted (some (joinExtents a b)) else refuse UnmatchedFunctionLine)
+    go true = refl
+    go false = refl
+extents-regroup Checked (some a) (some b) (some c) {v} h = go (eqb (b .start) (c .start)) (eqb (a .start) (b .start)) refl refl h
+  where
+    last : (y : Bool) → eqb (a .start) (b .start) ≡ y → some (joinExtents b c) ≡ v
+        → value (if y then accepted (some (joinExtents a (joinExtents b c))) else refuse UnmatchedFunctionLine) ≡ value (combineExtents Checked (some a) v)
+    last y f q = sym (ap (λ (o : Option Extent). value (combineExtents Checked (some a) o)) (sym q) ∙ rw f)
+
+    go : (x y : Bool) → eqb (b .start) (c .start) ≡ x → eqb (a .start) (b .start) ≡ y
+        → _≡_ {A = Answer (Option Extent)} (if x then accepted (some (joinExtents b c)) else refuse UnmatchedFunctionLine) (accepted v)
+        → value (bind (if y then accepted (some (joinExtents a b)) else refuse UnmatchedFunctionLine) (λ w. combineExtents Checked w (some c)))
+        ≡ value (combineExtents Checked (some a) v)
+    go true true e f q =
+        let g : eqb (a .start) (c .start) ≡ true = ap (λ (n : ℕ). eqb n (c .start)) (eqb-true (a .start) (b .start) f) ∙ e in
+        rw g
+        (ap (λ (end : Option ℕ). some (some (extentAt (a .start) end))) (larger-assoc (a .end) (b .end) (c .end)) ∙ last true f (accepted-inj q))
+    go true false e f q = last false f (accepted-inj q)
+    go false y e f q = absurd (not-accepted q)
+extents-regroup Lossy (some a) (some b) none h = ap (λ (o : Option Extent). value (combineExtents Lossy (some a) o)) (accepted-inj h)
+extents-regroup Lossy (some a) (some b) (some c) h = ap (λ (o : Option Extent). value (combineExtents Lossy (some a) o)) (accepted-inj h)
 
 sum-accepted : (fault : Fault) (a b : ℕ) {n : ℕ} → sum fault a b ≡ accepted n → n ≡ a + b
 unfolding sum
@@ -95,16 +126,16 @@ taken-regroup (some a) (some b) (some c) h =
 
 -- of what two items make, what an item before them is combined with
 module _ (mode : Mode) where
-  functions-regroup : (name : Bytes) (s : Option ℕ) (c : ℕ) (n : Bytes) (t : Option ℕ) (d : ℕ) (b : Item) {y : Item} → combineItems mode (functionItem n t d) b ≡ accepted y
+  functions-regroup : (name : Bytes) (s : Option Extent) (c : ℕ) (n : Bytes) (t : Option Extent) (d : ℕ) (b : Item) {y : Item} → combineItems mode (functionItem n t d) b ≡ accepted y
       → value (bind (combineItems mode (functionItem name s c) (functionItem n t d)) (λ z. combineItems mode z b)) ≡ value (combineItems mode (functionItem name s c) y)
-  unfolding combineItems startOf countOf
+  unfolding combineItems extentOf countOf
   functions-regroup name s c n t d b {y} h =
-      let (v, e, f) = bind-accepted (agree eqb mode UnmatchedFunctionLine t (startOf b)) _ h in
-      ap value (bind-assoc (agree eqb mode UnmatchedFunctionLine s t) (λ w. accepted (functionItem name w (min (c + d) u64-max))) (λ z. combineItems mode z b))
-      ∙ ap value (sym (bind-assoc (agree eqb mode UnmatchedFunctionLine s t) (λ w. agree eqb mode UnmatchedFunctionLine w (startOf b)) (λ w. accepted (functionItem name w (min (min (c + d) u64-max + countOf b) u64-max)))))
-      ∙ value-bind (bind (agree eqb mode UnmatchedFunctionLine s t) (λ w. agree eqb mode UnmatchedFunctionLine w (startOf b))) (agree eqb mode UnmatchedFunctionLine s v)
-      (λ w. accepted (functionItem name w (min (min (c + d) u64-max + countOf b) u64-max))) (agree-regroup eqb number-same UnmatchedFunctionLine mode s t (startOf b) e)
-      ∙ ap (λ (m : ℕ). value (bind (agree eqb mode UnmatchedFunctionLine s v) (λ w. accepted (functionItem name w m)))) (omega arith)
+      let (v, e, f) = bind-accepted (combineExtents mode t (extentOf b)) _ h in
+      ap value (bind-assoc (combineExtents mode s t) (λ w. accepted (functionItem name w (min (c + d) u64-max))) (λ z. combineItems mode z b))
+      ∙ ap value (sym (bind-assoc (combineExtents mode s t) (λ w. combineExtents mode w (extentOf b)) (λ w. accepted (functionItem name w (min (min (c + d) u64-max + countOf b) u64-max)))))
+      ∙ value-bind (bind (combineExtents mode s t) (λ w. combineExtents mode w (extentOf b))) (combineExtents mode s v)
+      (λ w. accepted (functionItem name w (min (min (c + d) u64-max + countOf b) u64-max))) (extents-regroup mode s t (extentOf b) e)
+      ∙ ap (λ (m : ℕ). value (bind (combineExtents mode s v) (λ w. accepted (functionItem name w m)))) (omega arith)
       ∙ ap (λ (i : Item). value (combineItems mode (functionItem name s c) i)) (accepted-inj f)
 
   branches-regroup : (line block branch : ℕ) (s : Option ℕ) (l k m : ℕ) (t : Option ℕ) (b : Item) {y : Item} → combineItems mode (branchItem l k m t) b ≡ accepted y

@@ -25,6 +25,7 @@ use Rattle.model.specs.declared.Fault.the-variants.{
   PartOutside,
   MalformedRanges,
   SignedNumber,
+  EndBeforeStart,
   SecondSourceFile,
 }
 use Rattle.model.specs.declared.Refusal.{Refusal}
@@ -69,6 +70,8 @@ numberOf PartOutside = 17
 numberOf MalformedRanges = 18
 -- number with a plus sign
 numberOf SignedNumber = 19
+-- end line below the start line
+numberOf EndBeforeStart = 23
 -- second SF in a section
 numberOf SecondSourceFile = 25
 

@@ -12,7 +12,7 @@ use Rattle.model.specs.Lists.{filter, sort}
 use Rattle.model.specs.Bytes.{Bytes}
 use Rattle.model.specs.Answer.{Answer, _>>=_, refuse}
 use Rattle.model.specs.Limits.{u32-max}
-use Rattle.model.specs.Report.{Item, sectionItem, functionItem, branchItem, lineItem, compareItems, startOf}
+use Rattle.model.specs.Report.{Item, sectionItem, functionItem, branchItem, lineItem, compareItems, startOf, endOf}
 use Rattle.model.specs.Reading.{readText}
 use Rattle.model.specs.Printing.{Section, isBranch, isLine, functionsOf, sections, printSections}
 use Rattle.model.specs.Output.{written}
@@ -22,7 +22,7 @@ use Rattle.model.specs.Ranges.{holds, wellFormedRanges}
 -- the line of a branch or line
 unfoldable pub lineOf : Item → ℕ
 lineOf (sectionItem spelling) = 0
-lineOf (functionItem name start count) = 0
+lineOf (functionItem name extent count) = 0
 lineOf (branchItem line block branch taken) = line
 lineOf (lineItem line count checksum) = line
 
@@ -42,11 +42,15 @@ unfoldable pub endBefore : List Item → ℕ
 endBefore [] = u32-max
 endBefore (next ∷ rest) = startLine next - 1
 
+-- where a function ends: as FN says, or as those behind it say
+unfoldable pub endLine : Item → List Item → ℕ
+endLine item behind = elim (endOf item) [ none ↦ endBefore behind | some end ↦ end ]
+
 -- functions in printing order: each stays if the range from its start to its end queries yes
 unfoldable pub heldFunctions : List Range → List Item → List Item
 heldFunctions ranges [] = []
 heldFunctions ranges (f ∷ fs) =
-    if holds ranges (startLine f) (endBefore fs) then f ∷ heldFunctions ranges fs else heldFunctions ranges fs
+    if holds ranges (startLine f) (endLine f fs) then f ∷ heldFunctions ranges fs else heldFunctions ranges fs
 
 unfoldable pub filterItems : List Range → List Item → List Item
 filterItems ranges items =

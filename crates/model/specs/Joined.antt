@@ -26,7 +26,11 @@ use Rattle.model.specs.Report.{
   Key,
   compareKeys,
   entryKey,
+  Extent,
+  extentAt,
   startOf,
+  endOf,
+  larger,
   takenOf,
   checksumOf,
   countOf,
@@ -102,13 +106,24 @@ unfoldable pub totalGiven : List (Option ℕ) → Option ℕ
 totalGiven [] = none
 totalGiven (n ∷ ns) = addGiven n (totalGiven ns)
 
+-- the largest of the given ones, none if none is given
+unfoldable pub largest : List (Option ℕ) → Option ℕ
+largest [] = none
+largest (n ∷ ns) = larger n (largest ns)
+
+-- a start line, if there is one, and an end line
+abbrev pub extentFrom : Option ℕ → Option ℕ → Option Extent
+extentFrom none end = none
+extentFrom (some start) end = some (extentAt start end)
+
 -- the joined item of items with one key, of the first one's kind: "A section's path is spelled as in the first text whose report has
 -- that key. A start or checksum is the given one, or none if no report gives one. A line's count is the sum of its counts. A branch's
--- is the sum of the given ones, none if none is given. A function's is the sum or 2^64 − 1, whichever is less."
+-- is the sum of the given ones, none if none is given. A function's is the sum or 2^64 − 1, whichever is less." A function's end is the
+-- largest given.
 unfoldable pub joinedAs : Item → List Item → Item
 joinedAs (sectionItem spelling) items = sectionItem spelling
-joinedAs (functionItem name start count) items =
-    functionItem name (given (map startOf items)) (min (total (map countOf items)) u64-max)
+joinedAs (functionItem name extent count) items =
+    functionItem name (extentFrom (given (map startOf items)) (largest (map endOf items))) (min (total (map countOf items)) u64-max)
 joinedAs (branchItem line block branch taken) items = branchItem line block branch (totalGiven (map takenOf items))
 joinedAs (lineItem line count checksum) items =
     lineItem line (total (map countOf items)) (given (map checksumOf items))
@@ -142,7 +157,7 @@ checksumsAgree reports = atEachKey (λ items. agreeing sameBytes (map checksumOf
 -- the count of a line or branch, whose sums must fit; a function's are held instead
 unfoldable pub summedOf : Item → ℕ
 summedOf (sectionItem spelling) = 0
-summedOf (functionItem name start count) = 0
+summedOf (functionItem name extent count) = 0
 summedOf (branchItem line block branch taken) = countOf (branchItem line block branch taken)
 summedOf (lineItem line count checksum) = count
 
@@ -160,7 +175,7 @@ SameTexts a b = (bytes : Bytes) → times sameBytes bytes (contents a) ≡ times
 unfoldable pub spellings : List Item → List (Option Bytes)
 spellings [] = []
 spellings (sectionItem spelling ∷ items) = some spelling ∷ spellings items
-spellings (functionItem name start count ∷ items) = spellings items
+spellings (functionItem name extent count ∷ items) = spellings items
 spellings (branchItem line block branch taken ∷ items) = spellings items
 spellings (lineItem line count checksum ∷ items) = spellings items
 

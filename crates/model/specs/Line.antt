@@ -1,10 +1,10 @@
 -- One line: `Record::from_str` and `Display for Record`. Assumes nothing.
 use Prim.Native.Nat.{ℕ, zero, suc}
-use mathlib.Core.Bool.{_||_}
+use mathlib.Core.Bool.{Bool, true, false, _&&_, _||_}
 use mathlib.Core.List.{List, [], _∷_, _++_}
 use mathlib.Core.Option.{Option, none, some}
-use lib.Dec.{eqb}
-use Rattle.model.specs.declared.Fault.the-variants.{UnknownRecord, FieldNotFound, TooManyFields}
+use lib.Dec.{leb, eqb}
+use Rattle.model.specs.declared.Fault.the-variants.{UnknownRecord, FieldNotFound, TooManyFields, EndBeforeStart}
 use Rattle.model.specs.declared.Kind.{Kind}
 use Rattle.model.specs.declared.Kind.the-variants.{
   TestName,
@@ -25,7 +25,7 @@ use Rattle.model.specs.Order.{if_then_else_}
 use Rattle.model.specs.Bytes.{Bytes, ascii, newline, return, comma, colon, sameBytes, before, after, joined}
 use Rattle.model.specs.Answer.{Answer, accepted, refused, _>>=_, refuse, refuseField, onLine}
 use Rattle.model.specs.Limits.{u32-max, u64-max}
-use Rattle.model.specs.Number.{readNumber, decimal}
+use Rattle.model.specs.Number.{isDigit, readNumber, decimal}
 use Rattle.model.specs.Record.{
   Record,
   testName,
@@ -100,14 +100,42 @@ readOne made body = do
   number ← numberField u32-max 1 body
   lastBefore 2 body (made number)
 
+-- ---- FN
+
+unfoldable pub allDigits : Bytes → Bool
+allDigits [] = true
+allDigits (b ∷ bs) = isDigit b && allDigits bs
+
+-- one digit or more, and nothing else
+unfoldable pub isDigits : Bytes → Bool
+isDigits [] = false
+isDigits (b ∷ bs) = isDigit b && allDigits bs
+
+-- what follows FN's first comma begins with an end line: digits alone up to a second comma
+unfoldable pub beginsWithEnd : Bytes → Bool
+beginsWithEnd rest = elim (after comma rest) [ none ↦ false | some name ↦ isDigits (before comma rest) ]
+
+-- an end line must not be below its start line
+unfoldable pub withEnd : ℕ → ℕ → Bytes → Answer Record
+withEnd start end name = if leb start end then accepted (functionName start (some end) name) else refuse EndBeforeStart
+
+-- what follows the start line: an end line and a name, or a name
+unfoldable pub readFunction : ℕ → Bytes → Bytes → Answer Record
+readFunction start body rest =
+    if beginsWithEnd rest
+    then (numberField u32-max 2 body >>= λ end. textField 3 body >>= λ name. withEnd start end name)
+    else accepted (functionName start none rest)
+
+-- ---- bodies
+
 -- the body of a line of each kind
 unfoldable pub readBody : Kind → Bytes → Answer Record
 readBody TestName body = accepted (testName body)
 readBody SourceFile body = accepted (sourceFile body)
 readBody FunctionName body = do
   start ← numberField u32-max 1 body
-  name ← textField 2 body
-  accepted (functionName start name)
+  rest ← textField 2 body
+  readFunction start body rest
 readBody FunctionData body = do
   count ← numberField u64-max 1 body
   name ← textField 2 body
@@ -154,6 +182,11 @@ module _ (tag : Kind → Bytes) where
 
 -- ---- printing
 
+-- the field of an end line, where there is one
+unfoldable pub printEnd : Option ℕ → List Bytes
+printEnd none = []
+printEnd (some end) = decimal end ∷ []
+
 -- a taken count, or "-"
 unfoldable pub printTaken : Option ℕ → Bytes
 printTaken none = ascii "-"
@@ -173,7 +206,7 @@ module _ (tag : Kind → Bytes) where
   unfoldable pub printRecord : Record → Bytes
   printRecord (testName name) = printFields TestName (name ∷ [])
   printRecord (sourceFile path) = printFields SourceFile (path ∷ [])
-  printRecord (functionName start name) = printFields FunctionName (decimal start ∷ name ∷ [])
+  printRecord (functionName start end name) = printFields FunctionName (decimal start ∷ (printEnd end ++ name ∷ []))
   printRecord (functionData count name) = printFields FunctionData (decimal count ∷ name ∷ [])
   printRecord (functionsFound found) = printFields FunctionsFound (decimal found ∷ [])
   printRecord (functionsHit hit) = printFields FunctionsHit (decimal hit ∷ [])

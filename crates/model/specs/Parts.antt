@@ -9,6 +9,8 @@ use Rattle.model.specs.declared.Kind.{Kind}
 use Rattle.model.specs.declared.Part.{Part}
 use Rattle.model.specs.declared.Taken.{Taken}
 use Rattle.model.specs.declared.Taken.the-variants as Tk
+use Rattle.model.specs.declared.EndLine.{EndLine}
+use Rattle.model.specs.declared.EndLine.the-variants as El
 use Rattle.model.specs.declared.Checksum.{Checksum}
 use Rattle.model.specs.declared.Checksum.the-variants as Ck
 use Rattle.model.specs.declared.Record.{Record as LentRecord}
@@ -39,6 +41,10 @@ use Rattle.model.specs.Output.{written}
 unfoldable pub partOf : Bytes → Part → Answer Bytes
 partOf text p = if leb (p .start + p .len) (length text) then accepted (take (p .len) (drop (p .start) text)) else refuse PartOutside
 
+unfoldable pub endIn : EndLine → Option ℕ
+endIn (El.Given line) = some line
+endIn El.Absent = none
+
 unfoldable pub takenIn : Taken → Option ℕ
 takenIn (Tk.Given count) = some count
 takenIn Tk.Absent = none
@@ -51,7 +57,7 @@ checksumIn text Ck.Absent = accepted none
 unfoldable pub recordIn : Bytes → LentRecord → Answer Record
 recordIn text (Lent.TestName p) = partOf text p >>= λ name. accepted (testName name)
 recordIn text (Lent.SourceFile p) = partOf text p >>= λ path. accepted (sourceFile path)
-recordIn text (Lent.FunctionName start p) = partOf text p >>= λ name. accepted (functionName start name)
+recordIn text (Lent.FunctionName start end p) = partOf text p >>= λ name. accepted (functionName start (endIn end) name)
 recordIn text (Lent.FunctionData count p) = partOf text p >>= λ name. accepted (functionData count name)
 recordIn text (Lent.FunctionsFound found) = accepted (functionsFound found)
 recordIn text (Lent.FunctionsHit hit) = accepted (functionsHit hit)
@@ -69,6 +75,10 @@ recordIn text Lent.EndOfRecord = accepted endOfRecord
 unfoldable pub endPart : Bytes → Bytes → Part
 endPart line text = record { start = length line - length text; len = length text }
 
+unfoldable pub lentEnd : Option ℕ → EndLine
+lentEnd (some line) = El.Given line
+lentEnd none = El.Absent
+
 unfoldable pub lentTaken : Option ℕ → Taken
 lentTaken (some count) = Tk.Given count
 lentTaken none = Tk.Absent
@@ -81,7 +91,7 @@ lentChecksum line none = Ck.Absent
 unfoldable pub lentFrom : Bytes → Record → LentRecord
 lentFrom line (testName name) = Lent.TestName (endPart line name)
 lentFrom line (sourceFile path) = Lent.SourceFile (endPart line path)
-lentFrom line (functionName start name) = Lent.FunctionName start (endPart line name)
+lentFrom line (functionName start end name) = Lent.FunctionName start (lentEnd end) (endPart line name)
 lentFrom line (functionData count name) = Lent.FunctionData count (endPart line name)
 lentFrom line (functionsFound found) = Lent.FunctionsFound found
 lentFrom line (functionsHit hit) = Lent.FunctionsHit hit

@@ -37,25 +37,25 @@ pub record Section : Type 0 where
 
 unfoldable pub isSection : Item → Bool
 isSection (sectionItem spelling) = true
-isSection (functionItem name start count) = false
+isSection (functionItem name extent count) = false
 isSection (branchItem line block branch taken) = false
 isSection (lineItem line count checksum) = false
 
 unfoldable pub isFunction : Item → Bool
 isFunction (sectionItem spelling) = false
-isFunction (functionItem name start count) = true
+isFunction (functionItem name extent count) = true
 isFunction (branchItem line block branch taken) = false
 isFunction (lineItem line count checksum) = false
 
 unfoldable pub isBranch : Item → Bool
 isBranch (sectionItem spelling) = false
-isBranch (functionItem name start count) = false
+isBranch (functionItem name extent count) = false
 isBranch (branchItem line block branch taken) = true
 isBranch (lineItem line count checksum) = false
 
 unfoldable pub isLine : Item → Bool
 isLine (sectionItem spelling) = false
-isLine (functionItem name start count) = false
+isLine (functionItem name extent count) = false
 isLine (branchItem line block branch taken) = false
 isLine (lineItem line count checksum) = true
 
@@ -69,7 +69,7 @@ unfoldable pub sectionHere : Entry → List Item → List Section
 sectionHere e items =
     elim (e .item) [
       | sectionItem spelling ↦ record { test = e .test; spelling = spelling; items = items } ∷ []
-      | functionItem name start count ↦ []
+      | functionItem name extent count ↦ []
       | branchItem line block branch taken ↦ []
       | lineItem line count checksum ↦ []
     ]
@@ -84,7 +84,7 @@ sections (e ∷ es) = sectionHere e (itemsHere es) ++ sections es
 unfoldable pub printKey : Item → List ℕ
 printKey (sectionItem spelling) = []
 printKey (functionItem name none count) = 0 ∷ name
-printKey (functionItem name (some start) count) = 1 ∷ start ∷ name
+printKey (functionItem name (some x) count) = 1 ∷ x .start ∷ name
 printKey (branchItem line block branch taken) = []
 printKey (lineItem line count checksum) = []
 
@@ -98,14 +98,14 @@ functionsOf items = sort comparePrinted (filter isFunction items)
 unfoldable pub startRecord : Item → List Record
 startRecord (sectionItem spelling) = []
 startRecord (functionItem name none count) = []
-startRecord (functionItem name (some start) count) = functionName start name ∷ []
+startRecord (functionItem name (some x) count) = functionName (x .start) (x .end) name ∷ []
 startRecord (branchItem line block branch taken) = []
 startRecord (lineItem line count checksum) = []
 
 -- FNDA, BRDA or DA
 unfoldable pub dataRecord : Item → List Record
 dataRecord (sectionItem spelling) = []
-dataRecord (functionItem name start count) = functionData count name ∷ []
+dataRecord (functionItem name extent count) = functionData count name ∷ []
 dataRecord (branchItem line block branch taken) = branchData line block branch taken ∷ []
 dataRecord (lineItem line count checksum) = lineData line count checksum ∷ []
 

@@ -1,5 +1,5 @@
 -- Reports: entries by key, and the merge of `Report::merge` and `merge_lossy`. Assumes nothing.
-use Prim.Native.Nat.{ℕ, _+_, Ordering, min}
+use Prim.Native.Nat.{ℕ, _+_, Ordering, min, max}
 use mathlib.Core.Bool.{Bool}
 use mathlib.Core.List.{List, [], _∷_}
 use mathlib.Core.Option.{Option, none, some}
@@ -15,10 +15,18 @@ use Rattle.model.specs.Path.{Path, comparePaths}
 use Rattle.model.specs.Answer.{Answer, accepted, _>>=_, refuse}
 use Rattle.model.specs.Limits.{u64-max}
 
+-- what FN says of a function: where it starts and, where it says so, ends
+pub record Extent : Type 0 where
+  pub start : ℕ
+  pub end : Option ℕ
+
+abbrev pub extentAt : ℕ → Option ℕ → Extent
+extentAt start end = record { start = start; end = end }
+
 -- what a section holds. Its own item has the first spelling of its path
 pub data Item : Type 0 where
   sectionItem : (spelling : Bytes) → Item
-  functionItem : (name : Bytes) (start : Option ℕ) (count : ℕ) → Item
+  functionItem : (name : Bytes) (extent : Option Extent) (count : ℕ) → Item
   branchItem : (line block branch : ℕ) (taken : Option ℕ) → Item
   lineItem : (line count : ℕ) (checksum : Option Bytes) → Item
 
@@ -37,7 +45,7 @@ Report = List Entry
 -- the key of an item in its section: the section itself, functions by name, branches by line, block and branch, lines by number
 unfoldable pub itemKey : Item → List ℕ
 itemKey (sectionItem spelling) = 0 ∷ []
-itemKey (functionItem name start count) = 1 ∷ name
+itemKey (functionItem name extent count) = 1 ∷ name
 itemKey (branchItem line block branch taken) = 2 ∷ line ∷ block ∷ branch ∷ []
 itemKey (lineItem line count checksum) = 3 ∷ line ∷ []
 
@@ -70,28 +78,42 @@ entryKey e = (sectionKey e, itemKey (e .item))
 
 -- ---- values
 
-unfoldable pub startOf : Item → Option ℕ
-startOf (sectionItem spelling) = none
-startOf (functionItem name start count) = start
-startOf (branchItem line block branch taken) = none
-startOf (lineItem line count checksum) = none
+unfoldable pub extentOf : Item → Option Extent
+extentOf (sectionItem spelling) = none
+extentOf (functionItem name extent count) = extent
+extentOf (branchItem line block branch taken) = none
+extentOf (lineItem line count checksum) = none
+
+abbrev pub givenStart : Option Extent → Option ℕ
+givenStart none = none
+givenStart (some x) = some (x .start)
+
+abbrev pub givenEnd : Option Extent → Option ℕ
+givenEnd none = none
+givenEnd (some x) = x .end
+
+abbrev pub startOf : Item → Option ℕ
+startOf item = givenStart (extentOf item)
+
+abbrev pub endOf : Item → Option ℕ
+endOf item = givenEnd (extentOf item)
 
 unfoldable pub takenOf : Item → Option ℕ
 takenOf (sectionItem spelling) = none
-takenOf (functionItem name start count) = none
+takenOf (functionItem name extent count) = none
 takenOf (branchItem line block branch taken) = taken
 takenOf (lineItem line count checksum) = none
 
 unfoldable pub checksumOf : Item → Option Bytes
 checksumOf (sectionItem spelling) = none
-checksumOf (functionItem name start count) = none
+checksumOf (functionItem name extent count) = none
 checksumOf (branchItem line block branch taken) = none
 checksumOf (lineItem line count checksum) = checksum
 
 -- how often a function, branch or line was run; a branch with no taken count, 0 times
 unfoldable pub countOf : Item → ℕ
 countOf (sectionItem spelling) = 0
-countOf (functionItem name start count) = count
+countOf (functionItem name extent count) = count
 countOf (branchItem line block branch none) = 0
 countOf (branchItem line block branch (some taken)) = taken
 countOf (lineItem line count checksum) = count
@@ -116,11 +138,28 @@ module _ {A : Type 0} (same : A → A → Bool) where
   agree Checked fault (some a) (some b) = if same a b then accepted (some a) else refuse fault
   agree Lossy fault (some a) (some b) = accepted (some b)
 
+-- the larger of two, or the one given
+abbrev pub larger : Option ℕ → Option ℕ → Option ℕ
+larger none b = b
+larger (some a) none = some a
+larger (some a) (some b) = some (max a b)
+
+-- two FN of one start line
+abbrev pub joinExtents : Extent → Extent → Extent
+joinExtents a b = extentAt (a .start) (larger (a .end) (b .end))
+
+-- what only one gives is kept; of two FN the start lines must agree and the larger end line is kept, or the later FN wins
+unfoldable pub combineExtents : Mode → Option Extent → Option Extent → Answer (Option Extent)
+combineExtents mode none later = accepted later
+combineExtents mode (some a) none = accepted (some a)
+combineExtents Checked (some a) (some b) = if eqb (a .start) (b .start) then accepted (some (joinExtents a b)) else refuse UnmatchedFunctionLine
+combineExtents Lossy (some a) (some b) = accepted (some b)
+
 -- an item, and a later one of the same key
 unfoldable pub combineItems : Mode → Item → Item → Answer Item
 combineItems mode (sectionItem spelling) later = accepted (sectionItem spelling)
-combineItems mode (functionItem name start count) later = do
-  both ← agree eqb mode UnmatchedFunctionLine start (startOf later)
+combineItems mode (functionItem name extent count) later = do
+  both ← combineExtents mode extent (extentOf later)
   accepted (functionItem name both (min (count + countOf later) u64-max))
 combineItems mode (branchItem line block branch taken) later = do
   total ← sumTaken taken (takenOf later)

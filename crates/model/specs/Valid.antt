@@ -9,8 +9,9 @@ use Rattle.ordmap.specs.Keyed.{Sorted}
 use Rattle.model.specs.Bytes.{Bytes, ascii, newline, sameBytes, Free}
 use Rattle.model.specs.Path.{components}
 use Rattle.model.specs.Limits.{u32-max, u64-max}
-use Rattle.model.specs.Line.{trimmed}
+use Rattle.model.specs.Line.{trimmed, beginsWithEnd}
 use Rattle.model.specs.Report.{
+  Extent,
   Item,
   sectionItem,
   functionItem,
@@ -40,10 +41,17 @@ pub record ChecksumText (bytes : Bytes) : Type 0 where
   pub text : LineText bytes
   pub not-dash : sameBytes bytes (ascii "-") ≡ false
 
+-- what FN can say of a function with this name. A name that begins as an end line does is read with an end line before it: printed
+-- without one, it would lose its beginning
+pub record ExtentFits (name : Bytes) (x : Extent) : Type 0 where
+  pub start : x .start ≤ u32-max
+  pub end : Given (λ end. (x .start ≤ end) × (end ≤ u32-max)) (x .end)
+  pub name-whole : x .end ≡ none → beginsWithEnd name ≡ false
+
 -- an item that a line can hold: numbers in range, texts of one line
 abbrev pub ItemFits : Item → Type 0
 ItemFits (sectionItem spelling) = LineText spelling
-ItemFits (functionItem name start count) = LineText name × Given (λ n. n ≤ u32-max) start × (count ≤ u64-max)
+ItemFits (functionItem name extent count) = LineText name × Given (ExtentFits name) extent × (count ≤ u64-max)
 ItemFits (branchItem line block branch taken) = (line ≤ u32-max) × (block ≤ u32-max) × (branch ≤ u32-max) × Given (λ n. n ≤ u64-max) taken
 ItemFits (lineItem line count checksum) = (line ≤ u32-max) × (count ≤ u64-max) × Given ChecksumText checksum
 

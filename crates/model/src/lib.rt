@@ -23,6 +23,7 @@ pub enum Fault {
     PartOutside,
     MalformedRanges,
     SignedNumber,
+    EndBeforeStart,
     SecondSourceFile,
 }
 
@@ -65,6 +66,12 @@ pub enum Taken {
     Absent,
 }
 
+// The line where a function ends, or none.
+pub enum EndLine {
+    Given(u32),
+    Absent,
+}
+
 // A line's checksum, or none.
 pub enum Checksum {
     Given(Part),
@@ -77,9 +84,10 @@ pub enum Record {
     TestName(Part),
     // "SF:src/decoder.c"
     SourceFile(Part),
-    // "FN:10,main"
+    // "FN:10,main", or with an end line "FN:10,12,main"
     FunctionName {
         start: u32,
+        end: EndLine,
         name: Part,
     },
     // "FNDA:1,main"

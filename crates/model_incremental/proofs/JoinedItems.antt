@@ -7,11 +7,12 @@ use mathlib.Core.Bool.{Bool, true, false, _&&_}
 use mathlib.Core.List.{List, [], _∷_, _++_, map, map-append, List·Memᴰ as Member, List·Memᴰ·head as here, List·Memᴰ·tail as there}
 use mathlib.Core.Option.{Option, none, some}
 use Rattle.ordmap.specs.Gathering.{Same}
+use Rattle.ordmap.proofs.Results.{impossible}
 use Rattle.model.specs.Bytes.{Bytes}
 use Rattle.model.specs.Limits.{u64-max}
-use Rattle.model.specs.Report.{Item, sectionItem, functionItem, branchItem, lineItem, itemKey, startOf, takenOf, checksumOf, countOf}
-use Rattle.model.specs.Joined.{given, allAgree, agreeing, total, addGiven, totalGiven, joinedAs, joinedItem, summedOf}
-use Rattle.model.proofs.Items.{orZero}
+use Rattle.model.specs.Report.{larger, endOf, Extent, givenStart, extentOf, givenEnd, Item, sectionItem, functionItem, branchItem, lineItem, itemKey, startOf, takenOf, checksumOf, countOf}
+use Rattle.model.specs.Joined.{extentFrom, largest, given, allAgree, agreeing, total, addGiven, totalGiven, joinedAs, joinedItem, summedOf}
+use Rattle.model.proofs.Items.{larger-assoc, orZero}
 use Rattle.model.proofs.Entries.{by-key}
 
 -- ---- given or none
@@ -86,6 +87,34 @@ totalGiven-middle [] [] ns = refl
 totalGiven-middle [] (m ∷ ms) ns = addGiven-assoc m (totalGiven ms) (totalGiven ns) ∙ ap (addGiven m) (totalGiven-middle [] ms ns)
 totalGiven-middle (l ∷ ls) ms ns = ap (addGiven l) (totalGiven-middle ls ms ns)
 
+-- ---- the largest
+
+largest-middle : (ls ms ns : List (Option ℕ)) → largest (ls ++ (largest ms ∷ ns)) ≡ largest (ls ++ (ms ++ ns))
+unfolding largest
+largest-middle [] [] ns = refl
+largest-middle [] (m ∷ ms) ns = larger-assoc m (largest ms) (largest ns) ∙ ap (larger m) (largest-middle [] ms ns)
+largest-middle (l ∷ ls) ms ns = ap (larger l) (largest-middle ls ms ns)
+
+-- where no item gives a start, none gives an end
+no-ends : (is : List Item) → given (map startOf is) ≡ none → largest (map endOf is) ≡ none
+unfolding given largest
+no-ends [] h = refl
+no-ends (i ∷ is) h = go (extentOf i) h (λ g. no-ends is g)
+  where
+    go : (x : Option Extent) → given (givenStart x ∷ map startOf is) ≡ none → (given (map startOf is) ≡ none → largest (map endOf is) ≡ none)
+        → larger (givenEnd x) (largest (map endOf is)) ≡ none
+    go none h ih = ih h
+    go (some x) h ih = impossible cc
+
+-- what an extent made of the items gives
+extent-start : (s e : Option ℕ) → givenStart (extentFrom s e) ≡ s
+extent-start none e = refl
+extent-start (some s) e = refl
+
+extent-end : (s e : Option ℕ) → (s ≡ none → e ≡ none) → givenEnd (extentFrom s e) ≡ e
+extent-end none e h = sym (h refl)
+extent-end (some s) e h = refl
+
 -- ---- joined items
 
 -- a value of a list, in which one element's stands for a group's
@@ -100,20 +129,22 @@ through {B} h f xs ys zs x e p =
 
 joinedAs-middle : (i j : Item) → itemKey i ≡ itemKey j → (is js ks : List Item)
     → joinedAs i (is ++ (joinedAs j js ∷ ks)) ≡ joinedAs i (is ++ (js ++ ks))
-unfolding joinedAs startOf takenOf checksumOf countOf
+unfolding joinedAs extentOf takenOf checksumOf countOf
 joinedAs-middle i j e is js ks =
     by-key (λ i j. joinedAs i (is ++ (joinedAs j js ∷ ks)) ≡ joinedAs i (is ++ (js ++ ks)))
     (λ p q. refl) functions branches lines i j e
   where
-    functions : (name : Bytes) (s t : Option ℕ) (c d : ℕ)
+    functions : (name : Bytes) (s t : Option Extent) (c d : ℕ)
         → joinedAs (functionItem name s c) (is ++ (joinedAs (functionItem name t d) js ∷ ks)) ≡ joinedAs (functionItem name s c) (is ++ (js ++ ks))
     functions name s t c d =
         let x : Item = joinedAs (functionItem name t d) js in
         let p : given (map startOf (is ++ (x ∷ ks))) ≡ given (map startOf (is ++ (js ++ ks))) =
-        through given startOf is js ks x refl (given-middle (map startOf is) (map startOf js) (map startOf ks)) in
+        through given startOf is js ks x (extent-start _ _) (given-middle (map startOf is) (map startOf js) (map startOf ks)) in
+        let q : largest (map endOf (is ++ (x ∷ ks))) ≡ largest (map endOf (is ++ (js ++ ks))) =
+        through largest endOf is js ks x (extent-end _ _ (no-ends js)) (largest-middle (map endOf is) (map endOf js) (map endOf ks)) in
         let n : min (total (map countOf (is ++ (x ∷ ks)))) u64-max ≡ min (total (map countOf (is ++ (js ++ ks)))) u64-max =
         through (λ (l : List ℕ). min (total l) u64-max) countOf is js ks x refl (held-middle (map countOf is) (map countOf js) (map countOf ks)) in
-        λ k. functionItem name (p k) (n k)
+        λ k. functionItem name (extentFrom (p k) (q k)) (n k)
 
     branches : (line block branch : ℕ) (s t : Option ℕ)
         → joinedAs (branchItem line block branch s) (is ++ (joinedAs (branchItem line block branch t) js ∷ ks))
@@ -137,7 +168,7 @@ joinedAs-middle i j e is js ks =
 joinedAs-first : (i : Item) (is js : List Item) → joinedAs (joinedAs i is) js ≡ joinedAs i js
 unfolding joinedAs
 joinedAs-first (sectionItem spelling) is js = refl
-joinedAs-first (functionItem name start count) is js = refl
+joinedAs-first (functionItem name extent count) is js = refl
 joinedAs-first (branchItem line block branch taken) is js = refl
 joinedAs-first (lineItem line count checksum) is js = refl
 
@@ -153,7 +184,7 @@ joined-middle (i ∷ is) j js ks h = joinedAs-middle i j (h i (here refl)) (i �
 -- what an item of the first one's kind does not have, and what it counts for in a sum
 abbrev Kin : Item → Item → Type 0
 Kin (sectionItem spelling) j = (startOf j ≡ none) × (checksumOf j ≡ none) × (summedOf j ≡ 0)
-Kin (functionItem name start count) j = (checksumOf j ≡ none) × (summedOf j ≡ 0)
+Kin (functionItem name extent count) j = (checksumOf j ≡ none) × (summedOf j ≡ 0)
 Kin (branchItem line block branch taken) j = (startOf j ≡ none) × (checksumOf j ≡ none) × (summedOf j ≡ orZero (takenOf j))
 Kin (lineItem line count checksum) j = (startOf j ≡ none) × (summedOf j ≡ countOf j)
 
@@ -163,7 +194,7 @@ branch-summed line block branch none = refl
 branch-summed line block branch (some t) = refl
 
 kin : (i j : Item) → itemKey i ≡ itemKey j → Kin i j
-unfolding startOf takenOf checksumOf summedOf countOf
+unfolding extentOf takenOf checksumOf summedOf countOf
 kin i j e =
     by-key Kin (λ p q. (refl, refl, refl)) (λ name s t c d. (refl, refl)) (λ line block branch s t. (refl, refl, branch-summed line block branch t))
     (λ line c d s t. (refl, refl)) i j e
@@ -202,12 +233,12 @@ module _ (first : Item) (rest : List Item) (h : (j : Item) → Member j (first �
   each j m = kin first j (h j m)
 
   pub joined-start : startOf (joinedItem is) ≡ given (map startOf is)
-  unfolding joinedItem joinedAs startOf
+  unfolding joinedItem joinedAs extentOf
   joined-start = go first each
     where
       go : (i : Item) → ((j : Item) → Member j is → Kin i j) → startOf (joinedAs i is) ≡ given (map startOf is)
       go (sectionItem spelling) k = given-none startOf is (λ j m. k j m .0)
-      go (functionItem name start count) k = refl
+      go (functionItem name extent count) k = extent-start _ _
       go (branchItem line block branch taken) k = given-none startOf is (λ j m. k j m .0)
       go (lineItem line count checksum) k = given-none startOf is (λ j m. k j m .0)
 
@@ -217,7 +248,7 @@ module _ (first : Item) (rest : List Item) (h : (j : Item) → Member j (first �
     where
       go : (i : Item) → ((j : Item) → Member j is → Kin i j) → checksumOf (joinedAs i is) ≡ given (map checksumOf is)
       go (sectionItem spelling) k = given-none checksumOf is (λ j m. k j m .1)
-      go (functionItem name start count) k = given-none checksumOf is (λ j m. k j m .0)
+      go (functionItem name extent count) k = given-none checksumOf is (λ j m. k j m .0)
       go (branchItem line block branch taken) k = given-none checksumOf is (λ j m. k j m .1)
       go (lineItem line count checksum) k = refl
 
@@ -227,7 +258,7 @@ module _ (first : Item) (rest : List Item) (h : (j : Item) → Member j (first �
     where
       go : (i : Item) → ((j : Item) → Member j is → Kin i j) → summedOf (joinedAs i is) ≡ total (map summedOf is)
       go (sectionItem spelling) k = total-zero summedOf is (λ j m. k j m .2)
-      go (functionItem name start count) k = total-zero summedOf is (λ j m. k j m .1)
+      go (functionItem name extent count) k = total-zero summedOf is (λ j m. k j m .1)
       go (branchItem line block branch taken) k =
           branch-summed line block branch (totalGiven (map takenOf is))
           ∙ orZero-total takenOf is

@@ -1,6 +1,7 @@
 -- Points that the requirements leave open, as docs/DECISIONS.md decides them, and the refusals that the Rust does not know: one claim about
 -- the definitions, on the smallest inputs, and one proof, by computation. Assumes nothing.
 use Prim.Native.Nat.{ℕ, _+_, _*_}
+use Prim.Native.String.{String}
 use mathlib.Core.Path.{_≡_, refl}
 use mathlib.Core.Bool.{true, false}
 use mathlib.Core.List.{List, [], _∷_, _++_}
@@ -8,6 +9,7 @@ use mathlib.Core.Option.{none, some}
 use lib.ListN.{length, replicate}
 use Rattle.model.specs.declared.Mode.{Mode}
 use Rattle.model.specs.declared.Mode.the-variants.{Checked, Lossy}
+use Rattle.model.specs.declared.EndLine.the-variants as El
 use Rattle.model.specs.declared.Part.{Part}
 use Rattle.model.specs.declared.Range.{Range}
 use Rattle.model.specs.declared.Record.{Record as LentRecord}
@@ -57,6 +59,10 @@ most = ascii "18446744073709551615"
 abbrev pub section : Bytes → Bytes → Bytes
 section path held = ascii "SF:" ++ path ++ ascii "\nDA:" ++ held ++ ascii "\nend_of_record\n"
 
+-- a section with one function
+abbrev pub function : String → Bytes
+function held = ascii "FN:" ++ ascii held ++ ascii "\nend_of_record\n"
+
 abbrev pub part : ℕ → ℕ → Part
 part start len = record { start = start; len = len }
 
@@ -86,7 +92,7 @@ pub record Lines : Type 0 where
       (line (ascii "DA:x,+1") ≡ refuses 5 1 1) × (line (ascii "FN:+5") ≡ refuses 19 1 1) × (line (ascii "LF:+1,2") ≡ refuses 19 1 1)
   -- only number fields have a sign
   pub plus-elsewhere :
-      (line (ascii "FN:1,+f") ≡ gives (functionName 1 (ascii "+f")))
+      (line (ascii "FN:1,+f") ≡ gives (functionName 1 none (ascii "+f")))
       × (line (ascii "DA:1,2,+5") ≡ gives (lineData 1 2 (some (ascii "+5"))))
       × (line (ascii "TN:+5") ≡ gives (testName (ascii "+5")))
       × (line (ascii "end_of_record:+1") ≡ gives endOfRecord)
@@ -100,6 +106,35 @@ pub record Lines : Type 0 where
       × (number 9 (ascii "10x") ≡ refuses 6 0 0)
   -- a record keeps the values alone
   pub values-kept : line (ascii "BRDA:10,2,003,-") ≡ gives (branchData 10 2 3 none)
+  -- an end line is digits alone between two commas
+  pub end-form :
+      (line (ascii "FN:1,2") ≡ gives (functionName 1 none (ascii "2")))
+      × (line (ascii "FN:1,,x") ≡ gives (functionName 1 none (ascii ",x")))
+      × (line (ascii "FN:1,+2,f") ≡ gives (functionName 1 none (ascii "+2,f")))
+      × (line (ascii "FN:1, 2,f") ≡ gives (functionName 1 none (ascii " 2,f")))
+      × (line (ascii "FN:1,2x,f") ≡ gives (functionName 1 none (ascii "2x,f")))
+      × (line (ascii "FN:1,4294967296x,f") ≡ gives (functionName 1 none (ascii "4294967296x,f")))
+  -- its value is a u32, and at least the start line
+  pub end-value :
+      (line (ascii "FN:1,4294967296,f") ≡ refuses 6 1 2)
+      × (line (ascii "FN:1,0000000000000000000000000000002,f") ≡ gives (functionName 1 (some 2) (ascii "f")))
+      × (line (ascii "FN:5,5,f") ≡ gives (functionName 5 (some 5) (ascii "f")))
+      × (line (ascii "FN:5,4,f") ≡ refuses 23 1 0)
+  -- the name is all behind the second comma
+  pub end-name :
+      (line (ascii "FN:1,2,") ≡ gives (functionName 1 (some 2) []))
+      × (line (ascii "FN:1,2,3,f") ≡ gives (functionName 1 (some 2) (ascii "3,f")))
+      × (line (ascii "FN:5,4,") ≡ refuses 23 1 0)
+  -- the fields come first
+  pub end-order :
+      (line (ascii "FN:5") ≡ refuses 2 1 2)
+      × (line (ascii "FN:+9,1,f") ≡ refuses 19 1 1)
+      × (line (ascii "FN:x,1,f") ≡ refuses 5 1 1)
+      × (line (ascii "FN:9999999999,1,f") ≡ refuses 6 1 1)
+  -- the printer refuses no end, and can print what does not read back
+  pub end-printed :
+      (printed (Lent.FunctionName 5 (El.Given 4) (part 0 1)) 20 ≡ gives (ascii "FN:5,4,a\n"))
+      × (withValues (printLine defaultTag (ascii "4,f") (Lent.FunctionName 5 El.Absent (part 0 3)) 20) ≡ gives (ascii "FN:5,4,f\n"))
   -- only exactly "-" is no checksum
   pub dash-comma : line (ascii "DA:1,2,-,") ≡ gives (lineData 1 2 (some (ascii "-,")))
   -- byte 10 is written, and counted in the needed length; the output stays where it is too short
@@ -145,6 +180,12 @@ pub record Texts : Type 0 where
       (text 8 (ascii "SF:a\nend_of_record\nSF:b\nend_of_record\n") ≡ gives [])
       × (text 8 (ascii "SF:a\nSF:b\nend_of_record\n") ≡ refuses 25 2 0)
       × (text 8 (ascii "DA:1,1\nSF:a\nDA:2,1\nend_of_record\n") ≡ gives (ascii "TN:\nSF:a\nDA:1,1\nDA:2,1\nLF:2\nLH:2\nend_of_record\n"))
+  -- FN gives start and end line anew, FNDA gives neither, and functions are ordered by start line; 23 comes before the entries are counted
+  pub end-later :
+      (text 8 (ascii "FN:1,9,f\nFN:1,f\nend_of_record\n") ≡ gives (ascii "TN:\nSF:\nFN:1,f\nFNDA:0,f\nFNF:1\nFNH:0\nend_of_record\n"))
+      × (text 8 (ascii "FN:1,9,f\nFNDA:3,f\nend_of_record\n") ≡ gives (ascii "TN:\nSF:\nFN:1,9,f\nFNDA:3,f\nFNF:1\nFNH:1\nend_of_record\n"))
+      × (text 3 (ascii "FN:2,2,a\nFN:1,9,b\nend_of_record\n") ≡ gives (ascii "TN:\nSF:\nFN:1,9,b\nFN:2,2,a\nFNDA:0,b\nFNDA:0,a\nFNF:2\nFNH:0\nend_of_record\n"))
+      × (text 0 (ascii "FN:5,4,f\n") ≡ refuses 23 1 0)
   -- 9 is met at the FNDA line
   pub calls-past : text 8 (ascii "FNDA:" ++ most ++ ascii ",f\nFNDA:1,f\nend_of_record\n") ≡ refuses 9 2 0
 
@@ -173,6 +214,17 @@ pub record Gathers : Type 0 where
       × (gathered Lossy 2 65_536 (section (ascii "a") (ascii "1,1") ∷ section (ascii "b") (ascii "1,1") ∷ []) ≡ refusesIn 10 1 0 0)
       × (gathered Lossy 8 65_536 ((ascii "FNDA:" ++ most ++ ascii ",f\nend_of_record\n") ∷ ascii "FNDA:1,f\nend_of_record\n" ∷ [])
       ≡ gives (ascii "TN:\nSF:\nFNDA:" ++ most ++ ascii ",f\nFNF:1\nFNH:1\nend_of_record\n"))
+  -- checked: the larger end line, or the one given, in both orders
+  pub end-joined :
+      (gathered Checked 8 65_536 (function "1,9,f" ∷ function "1,f" ∷ []) ≡ gives (ascii "TN:\nSF:\nFN:1,9,f\nFNDA:0,f\nFNF:1\nFNH:0\nend_of_record\n"))
+      × (gathered Checked 8 65_536 (function "1,f" ∷ function "1,9,f" ∷ []) ≡ gives (ascii "TN:\nSF:\nFN:1,9,f\nFNDA:0,f\nFNF:1\nFNH:0\nend_of_record\n"))
+      × (gathered Checked 8 65_536 (function "1,9,f" ∷ function "1,5,f" ∷ []) ≡ gives (ascii "TN:\nSF:\nFN:1,9,f\nFNDA:0,f\nFNF:1\nFNH:0\nend_of_record\n"))
+      × (gathered Checked 8 65_536 (function "1,5,f" ∷ function "1,9,f" ∷ []) ≡ gives (ascii "TN:\nSF:\nFN:1,9,f\nFNDA:0,f\nFNF:1\nFNH:0\nend_of_record\n"))
+      × (gathered Checked 8 65_536 (function "1,9,f" ∷ function "2,9,f" ∷ []) ≡ refusesIn 11 1 0 0)
+  -- lossy: the later FN wins with its end line or none, and FNDA changes neither line
+  pub end-lossy :
+      (gathered Lossy 8 65_536 (function "1,9,f" ∷ function "1,f" ∷ []) ≡ gives (ascii "TN:\nSF:\nFN:1,f\nFNDA:0,f\nFNF:1\nFNH:0\nend_of_record\n"))
+      × (gathered Lossy 8 65_536 (function "1,9,f" ∷ ascii "FNDA:1,f\nend_of_record\n" ∷ []) ≡ gives (ascii "TN:\nSF:\nFN:1,9,f\nFNDA:1,f\nFNF:1\nFNH:1\nend_of_record\n"))
   -- an output that is exactly as long as needed; an empty report needs none
   pub exact-fit :
       (gathered Checked 8 40 (section (ascii "a") (ascii "1,1") ∷ []) ≡ gives (ascii "TN:\nSF:a\nDA:1,1\nLF:1\nLH:1\nend_of_record\n"))
@@ -211,6 +263,12 @@ pub record Ranges : Type 0 where
   pub startless :
       withValues (filterText defaultTag (ascii "FN:3,f\nFNDA:1,g\nend_of_record\n") (range 9 9 ∷ []) 1 8_192 65_536)
       ≡ gives (ascii "TN:\nSF:\nFN:3,f\nFNDA:0,f\nFNF:1\nFNH:0\nend_of_record\n")
+  -- a start line bounds the function before it; a function's own end line stands in place of that bound
+  pub own-end :
+      (withValues (filterText defaultTag (ascii "FN:3,f\nFN:5,6,g\nend_of_record\n") (range 7 7 ∷ []) 1 8_192 65_536)
+      ≡ gives (ascii "TN:\nSF:\nend_of_record\n"))
+      × (withValues (filterText defaultTag (ascii "FN:3,20,f\nFN:9,g\nend_of_record\n") (range 9 9 ∷ []) 1 8_192 65_536)
+      ≡ gives (ascii "TN:\nSF:\nFN:3,20,f\nFN:9,g\nFNDA:0,f\nFNDA:0,g\nFNF:2\nFNH:0\nend_of_record\n"))
 
 -- ---- the proof
 
@@ -226,6 +284,11 @@ lines =
       plus-elsewhere = (refl, refl, refl, refl);
       digits-read = (refl, refl, refl, refl, refl, refl);
       values-kept = refl;
+      end-form = (refl, refl, refl, refl, refl, refl);
+      end-value = (refl, refl, refl, refl);
+      end-name = (refl, refl, refl);
+      end-order = (refl, refl, refl, refl);
+      end-printed = (refl, refl);
       dash-comma = refl;
       newline-counted = (refl, refl);
       part-outside = (refl, refl, refl, refl);
@@ -243,6 +306,7 @@ texts =
       ended = (refl, refl);
       second-path = (refl, refl, refl, refl);
       one-path-each = (refl, refl, refl);
+      end-later = (refl, refl, refl, refl);
       calls-past = refl;
     }
 
@@ -255,6 +319,8 @@ gathers =
       conflict-first = refl;
       checksum-first = refl;
       lossy = (refl, refl, refl, refl);
+      end-joined = (refl, refl, refl, refl, refl);
+      end-lossy = (refl, refl);
       exact-fit = (refl, refl, refl);
       spelling-first = (refl, refl);
       program = refl;
@@ -271,4 +337,5 @@ ranges =
       half-open = (refl, refl);
       filter-order = (refl, refl, refl);
       startless = refl;
+      own-end = (refl, refl);
     }

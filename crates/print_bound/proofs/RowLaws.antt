@@ -6,7 +6,7 @@ use mathlib.Core.Path.{_≡_, refl, sym, ap, _∙_}
 use mathlib.Core.Logic.{_≢_}
 use mathlib.Core.Bool.{Bool, true}
 use mathlib.Core.List.{List, [], _∷_, _++_}
-use mathlib.Core.Option.{none, some}
+use mathlib.Core.Option.{Option, none, some}
 use lib.ListN.{length, take, drop, length-take}
 use Rattle.table.specs.declared.Row.{Row}
 use Rattle.table.specs.Places.{tabulate}
@@ -16,10 +16,11 @@ use Rattle.table.proofs.TabulateLaws.{tabulate-split}
 use Rattle.model.specs.Bytes.{Bytes}
 use Rattle.model.specs.Limits.{u64-max}
 use Rattle.model.specs.Number.{decimal}
-use Rattle.model.specs.Report.{Entry, Report, sectionItem, functionItem, branchItem, lineItem}
+use Rattle.model.specs.Report.{Extent, Entry, Report, sectionItem, functionItem, branchItem, lineItem}
 use Rattle.format.proofs.DecimalLaws.{decimal-most}
-use Rattle.table_item.specs.Items.{part, itemOf}
+use Rattle.table_item.specs.Items.{part, extentIn, itemOf}
 use Rattle.table_section.specs.Sections.{testOf, pathOf, entryOf, entryAt}
+use Rattle.print_rows.specs.Emit.{endLen}
 use Rattle.print_rows.proofs.LentLaws.{item}
 use Rattle.print_bound.specs.Bound.{itemLines, sectionMost, entryMost, reportMost, FitsBound}
 use Rattle.print_bound.proofs.LengthLaws.{item-length}
@@ -60,22 +61,33 @@ module _ (text : Bytes) (r : Row) where
       go (suc (suc zero)) (suc m) l = omega (arith, item-length (branchItem (r .k1) (r .k2) (r .k3) (some (r .count))))
       go (suc (suc (suc k))) m l = absurd (omega arith)
 
-  pub function-max : (a n : ℕ) → r .tag / 2 ≡ 1 → a ≡ min (r .k2 + r .k2) u64-max → n ≡ min (a + 52) u64-max → min (entryMost (entryOf text r)) u64-max ≤ n
+  pub function-max : (a n : ℕ) → r .tag / 2 ≡ 1 → a ≡ min (r .k2 + r .k2) u64-max → n ≡ min (a + 73) u64-max → min (entryMost (entryOf text r)) u64-max ≤ n
   unfolding itemOf sectionMost
   function-max a n h e q = omega (arith, go (r .tag / 2) (r .tag % 2) h)
     where
-      go : (k m : ℕ) → k ≡ 1 → max k m ≤ r .k2 + r .k2 + 52
-      go zero m l = absurd (omega arith)
-      go (suc zero) zero l =
-          omega (arith, item-length (functionItem (part text (r .k1) (r .k2)) none (r .count)), part-max text (r .k1) (r .k2), decimal-most (r .count))
-      go (suc zero) (suc m) l =
+      name : Bytes
+      name = part text (r .k1) (r .k2)
+
+      end-max : (end : Option ℕ) → endLen end ≤ 21
+      end-max none = omega arith
+      end-max (some end) = omega (arith, decimal-most end)
+
+      -- FN and FNDA: two names, three numbers, and what stands between them
+      by-extent : (x : Option Extent) → length (itemLines (functionItem name x (r .count))) ≤ r .k2 + r .k2 + 73
+      by-extent none = omega (arith, item-length (functionItem name none (r .count)), part-max text (r .k1) (r .k2), decimal-most (r .count))
+      by-extent (some x) =
           omega (
             arith,
-            item-length (functionItem (part text (r .k1) (r .k2)) (some (r .k3)) (r .count)),
+            item-length (functionItem name (some x) (r .count)),
             part-max text (r .k1) (r .k2),
-            decimal-most (r .k3),
+            decimal-most (x .start),
+            end-max (x .end),
             decimal-most (r .count),
           )
+
+      go : (k m : ℕ) → k ≡ 1 → max k m ≤ r .k2 + r .k2 + 73
+      go zero m l = absurd (omega arith)
+      go (suc zero) m l = omega (arith, by-extent (extentIn m (r .k3)))
       go (suc (suc k)) m l = absurd (omega arith)
 
   pub section-row-max : (a n : ℕ) → r .tag / 2 ≤ 2 → r .tag / 2 ≢ 2 → r .tag / 2 ≢ 1 → a ≡ min (r .«test_len» + r .«path_len») u64-max

@@ -45,7 +45,7 @@ fn max_line_len(row: Row) -> u64
         return 9 + place + max_digits(row.count);
     }
     if kind == table_item::FUNCTION {
-        return saturating_add(saturating_add(row.k2, row.k2), 52);
+        return saturating_add(saturating_add(row.k2, row.k2), 73);
     }
     saturating_add(saturating_add(row.test_len, row.path_len), 80)
 }

@@ -1,21 +1,26 @@
 -- How long the lines of items are, and what a row says of that. Assumes nothing.
-use Prim.Native.Nat.{ℕ, _+_, _/_, _%_, _≤_, min}
+use Prim.Native.Nat.{ℕ, suc, _+_, _/_, _%_, _≤_, min}
 use native.Mathlib.Omega.{arith}
 use mathlib.Core.Path.{_≡_, refl, ap, _∙_}
 use mathlib.Core.Logic.{_≢_}
 use mathlib.Core.List.{List, [], _∷_}
-use mathlib.Core.Option.{none, some}
+use mathlib.Core.Option.{Option, none, some}
 use lib.ListN.{length, take, drop, length-append, length-take, length-drop}
 use Rattle.table.specs.declared.Row.{Row}
 use Rattle.model.specs.Bytes.{Bytes, joined}
 use Rattle.model.specs.Limits.{u64-max}
-use Rattle.model.specs.Line.{printTaken, printChecksum, printFields, printRecord}
+use Rattle.model.specs.Line.{printEnd, printTaken, printChecksum, printFields, printRecord}
 use Rattle.model.specs.Lists.{concatMap}
 use Rattle.model.specs.Number.{decimal}
-use Rattle.model.specs.Report.{Item, sectionItem, functionItem, branchItem, lineItem}
+use Rattle.model.specs.declared.EndLine.{EndLine}
+use Rattle.model.specs.Parts.{endIn}
+use Rattle.model.specs.Record.{functionName}
+use Rattle.model.specs.Report.{extentAt, Item, extentOf, endOf, sectionItem, functionItem, branchItem, lineItem}
 use Rattle.model.specs.Tags.{defaultTag}
 use Rattle.model.specs.Printing.{startRecord, dataRecord, printRecords}
-use Rattle.table_item.specs.Items.{part, itemOf, ItemInBounds}
+use Rattle.table_item.specs.Items.{part, startKey, itemOf, ItemInBounds}
+use Rattle.table_item.proofs.RowLaws.{started-kind, started-item}
+use Rattle.print_rows.specs.Emit.{endLen}
 use Rattle.print_rows.proofs.LentLaws.{item, item-is}
 use Rattle.print_rows.proofs.PassLaws.{lines}
 
@@ -23,7 +28,7 @@ use Rattle.print_rows.proofs.PassLaws.{lines}
 
 abbrev pub dataLen : Item → ℕ
 dataLen (sectionItem spelling) = 0
-dataLen (functionItem name start count) = 7 + length (decimal count) + length name
+dataLen (functionItem name extent count) = 7 + length (decimal count) + length name
 dataLen (branchItem line block branch none) = 10 + length (decimal line) + length (decimal block) + length (decimal branch)
 dataLen (branchItem line block branch (some taken)) = 9 + length (decimal line) + length (decimal block) + length (decimal branch) + length (decimal taken)
 dataLen (lineItem line count none) = 5 + length (decimal line) + length (decimal count)
@@ -32,7 +37,7 @@ dataLen (lineItem line count (some checksum)) = 6 + length (decimal line) + leng
 pub data-length : (i : Item) → length (lines (dataRecord i)) ≡ dataLen i
 unfolding dataRecord printRecords concatMap printRecord printFields joined printTaken printChecksum defaultTag
 data-length (sectionItem spelling) = refl
-data-length (functionItem name start count) = simp length-append (omega arith)
+data-length (functionItem name extent count) = simp length-append (omega arith)
 data-length (branchItem line block branch none) = simp length-append (omega arith)
 data-length (branchItem line block branch (some taken)) = simp length-append (omega arith)
 data-length (lineItem line count none) = simp length-append (omega arith)
@@ -42,15 +47,19 @@ data-length (lineItem line count (some checksum)) = simp length-append (omega ar
 abbrev pub startLen : Item → ℕ
 startLen (sectionItem spelling) = 0
 startLen (functionItem name none count) = 0
-startLen (functionItem name (some start) count) = 5 + length (decimal start) + length name
+startLen (functionItem name (some x) count) = 5 + length (decimal (x .start)) + endLen (x .end) + length name
 startLen (branchItem line block branch taken) = 0
 startLen (lineItem line count checksum) = 0
 
 pub start-length : (i : Item) → length (lines (startRecord i)) ≡ startLen i
-unfolding startRecord printRecords concatMap printRecord printFields joined defaultTag
+unfolding startRecord printRecords concatMap printRecord printFields printEnd joined defaultTag
 start-length (sectionItem spelling) = refl
 start-length (functionItem name none count) = refl
-start-length (functionItem name (some start) count) = simp length-append (omega arith)
+start-length (functionItem name (some x) count) = go (x .end)
+  where
+    go : (end : Option ℕ) → length (lines (functionName (x .start) end name ∷ [])) ≡ 5 + length (decimal (x .start)) + endLen end + length name
+    go none = simp length-append (omega arith)
+    go (some end) = simp length-append (omega arith)
 start-length (branchItem line block branch taken) = refl
 start-length (lineItem line count checksum) = refl
 
@@ -96,10 +105,11 @@ module _ (text : Bytes) (row : Row) where
         let z : row .tag / 2 ≡ 0 = omega arith in
         omega (arith, data-at 0 (row .tag % 2) z refl)
 
-    pub past-start : (a n : ℕ) → row .tag ≡ 3 → a ≡ length (decimal (row .k3)) → n ≡ min (at + (5 + a)) u64-max → r ≡ min (n + row .k2) u64-max
+    pub past-start : (start : ℕ) → startKey (extentOf (itemOf text row)) ≡ suc start → (end : EndLine) → endIn end ≡ endOf (itemOf text row)
+        → (a b n : ℕ) → a ≡ length (decimal start) → b ≡ endLen (endIn end) → n ≡ min (at + (5 + a + b)) u64-max → r ≡ min (n + row .k2) u64-max
         → r ≡ min (at + length (lines (startRecord (itemOf text row)))) u64-max
-    past-start a n e p h l =
-        let k : row .tag / 2 ≡ 1 = omega arith in
-        let m : row .tag % 2 ≡ 1 = omega arith in
-        let is = ap (λ (i : Item). length (lines (startRecord i))) (item-is text row 1 k ∙ ap (item text row 1) m) ∙ start-length (item text row 1 1) in
-        omega (arith, is, part-length text (row .k1) (row .k2) (good .name k))
+    past-start start is end g a b n p s h l =
+        let k = started-kind text row start is in
+        let long = ap (λ (i : Item). length (lines (startRecord i))) (started-item text row start is) ∙ start-length (functionItem (part text (row .k1) (row .k2)) (some (extentAt start (endOf (itemOf text row)))) (row .count)) in
+        let same : b ≡ endLen (endOf (itemOf text row)) = s ∙ ap endLen g in
+        omega (arith, long, same, part-length text (row .k1) (row .k2) (good .name k))

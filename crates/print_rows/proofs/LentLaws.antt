@@ -1,8 +1,8 @@
 -- The lent records of rows, and the lines that they print. Assumes nothing.
-use Prim.Native.Nat.{ℕ, zero, suc, _+_, _/_, _%_, _≤_, _<_}
+use Prim.Native.Nat.{ℕ, zero, suc, _+_, _-_, _/_, _%_, _≤_, _<_}
 use mathlib.Core.Path.{_≡_, refl, sym, ap, _∙_}
 use mathlib.Core.Logic.{_≢_}
-use mathlib.Core.Option.{none}
+use mathlib.Core.Option.{Option, none, some}
 use mathlib.Core.List.{[], _∷_, _++_, append-nil}
 use native.Mathlib.Omega.{arith}
 use lib.ListN.{length}
@@ -11,6 +11,8 @@ use mir.Syntax.{w32}
 use borrow.Author.Tests.{le-leb, lt-ltb}
 use Rattle.table.specs.declared.Row.{Row}
 use Rattle.model.specs.declared.Part.{Part}
+use Rattle.model.specs.declared.EndLine.{EndLine}
+use Rattle.model.specs.declared.EndLine.the-variants as El
 use Rattle.model.specs.declared.Taken.{Taken}
 use Rattle.model.specs.declared.Taken.the-variants as Tk
 use Rattle.model.specs.declared.Checksum.{Checksum}
@@ -20,17 +22,19 @@ use Rattle.model.specs.declared.Record.the-variants as Lent
 use Rattle.model.specs.Bytes.{Bytes, newline}
 use Rattle.model.specs.Answer.{accepted}
 use Rattle.model.specs.Lists.{concatMap}
+use Rattle.model.specs.Number.{decimal}
 use Rattle.model.specs.Record.{Record, testName, sourceFile, functionName, functionData, functionsFound, functionsHit, branchData, branchesFound, branchesHit, lineData, linesFound, linesHit, endOfRecord}
-use Rattle.model.specs.Report.{Item, sectionItem, functionItem, branchItem, lineItem, countOf}
-use Rattle.model.specs.Parts.{partOf, takenIn, checksumIn, recordIn}
+use Rattle.model.specs.Report.{extentAt, Item, extentOf, endOf, sectionItem, functionItem, branchItem, lineItem, countOf}
+use Rattle.model.specs.Parts.{partOf, endIn, takenIn, checksumIn, recordIn}
 use Rattle.model.specs.Line.{printRecord}
 use Rattle.model.specs.Tags.{defaultTag}
 use Rattle.model.specs.Printing.{startRecord, dataRecord, printRecords}
 use Rattle.model.specs.Valid.{ItemFits}
-use Rattle.table_item.specs.Items.{part, byKind, ifGiven, itemOf, ItemInBounds}
+use Rattle.table_item.specs.Items.{part, byKind, ifGiven, extentIn, startKey, itemOf, ItemInBounds}
+use Rattle.table_item.proofs.RowLaws.{started-kind, started-item}
 use Rattle.record_display.specs.Lines.{lineIn, counted}
 use Rattle.record_display.proofs.LineLaws.{part-there, line-made}
-use Rattle.print_rows.specs.Emit.{foundOf, hitOf, hitOne, lentPart, lentTaken, lentChecksum}
+use Rattle.print_rows.specs.Emit.{endLen, foundOf, hitOf, hitOne, lentPart, lentTaken, lentChecksum}
 
 -- ---- one record
 
@@ -82,6 +86,19 @@ checksum-in text zero start len h g = refl
 checksum-in text (suc zero) start len h g = rw (part-in text (lentPart start len) start len refl (g refl))
 checksum-in text (suc (suc m)) start len h g = absurd (omega arith)
 
+-- a key that is not 0 is one more than the start line
+pub key-start : {n k : ℕ} → k ≡ n → k ≢ 0 → n ≡ suc (k - 1)
+key-start e h = omega arith
+
+-- the length of an end line
+pub end-given : (end : EndLine) (line n : ℕ) → end ≡ El.Given line → n ≡ length (decimal line) → 1 + n ≡ endLen (endIn end)
+unfolding endIn
+end-given end line n e h = rw (e, h)
+
+pub end-absent : (end : EndLine) → end ≡ El.Absent → 0 ≡ endLen (endIn end)
+unfolding endIn
+end-absent end e = rw e
+
 -- ---- a row's records
 
 module _ (text : Bytes) (row : Row) where
@@ -90,7 +107,7 @@ module _ (text : Bytes) (row : Row) where
   item k m =
       byKind k
       (sectionItem (part text (row .path) (row .«path_len»)))
-      (functionItem (part text (row .k1) (row .k2)) (ifGiven m (row .k3)) (row .count))
+      (functionItem (part text (row .k1) (row .k2)) (extentIn m (row .k3)) (row .count))
       (branchItem (row .k1) (row .k2) (row .k3) (ifGiven m (row .count)))
       (lineItem (row .k1) (row .count) (ifGiven m (part text (row .k2) (row .k3))))
 
@@ -98,25 +115,30 @@ module _ (text : Bytes) (row : Row) where
   unfolding itemOf
   item-is k e = rw e
 
-  pub start-line : (p : Part) → row .tag ≡ 3 → ItemInBounds text row → p ≡ lentPart (row .k1) (row .k2) → lineIn text (Lent.FunctionName (row .k3) p) ≡ printRecords defaultTag (startRecord (itemOf text row))
-  unfolding itemOf startRecord recordIn
-  start-line p e g q =
-      rw e (one-line text (Lent.FunctionName (row .k3) p) (functionName (row .k3) (part text (row .k1) (row .k2))) (rw (part-in text p (row .k1) (row .k2) q (g .name (omega arith)))))
+  -- FN of a row that has a start line
+  module _ (start : ℕ) (is : startKey (extentOf (itemOf text row)) ≡ suc start) where
+    pub start-line : (end : EndLine) (p : Part) → endIn end ≡ endOf (itemOf text row) → ItemInBounds text row → p ≡ lentPart (row .k1) (row .k2)
+        → lineIn text (Lent.FunctionName start end p) ≡ printRecords defaultTag (startRecord (itemOf text row))
+    unfolding startRecord recordIn
+    start-line end p e g q =
+        one-line text (Lent.FunctionName start end p) (functionName start (endOf (itemOf text row)) (part text (row .k1) (row .k2)))
+        (rw (part-in text p (row .k1) (row .k2) q (g .name (started-kind text row start is)), e))
+        ∙ ap (λ (i : Item). printRecords defaultTag (startRecord i)) (sym (started-item text row start is))
 
-  pub no-start : row .tag ≢ 3 → printRecords defaultTag (startRecord (itemOf text row)) ≡ []
-  unfolding itemOf startRecord printRecords concatMap
-  no-start h = go (row .tag / 2) (row .tag % 2) (λ e. omega arith)
+    pub start-fits : ItemFits (itemOf text row) → Val.Fits w32 start
+    start-fits f = let g : ItemFits (functionItem (part text (row .k1) (row .k2)) (some (extentAt start (endOf (itemOf text row)))) (row .count)) = rw (started-item text row start is) at f in
+        record { fits = omega (arith, g .1 .start) }
+
+  pub no-start : startKey (extentOf (itemOf text row)) ≡ 0 → printRecords defaultTag (startRecord (itemOf text row)) ≡ []
+  unfolding extentOf startRecord printRecords concatMap
+  no-start e = go (itemOf text row) e
     where
-      go : (k m : ℕ) → (k ≡ 1 → m ≡ 0) → printRecords defaultTag (startRecord (item k m)) ≡ []
-      go zero m f = refl
-      go (suc zero) zero f = refl
-      go (suc zero) (suc m) f = absurd (omega (arith, f refl))
-      go (suc (suc zero)) m f = refl
-      go (suc (suc (suc k))) m f = refl
-
-  pub start-fits : row .tag ≡ 3 → ItemFits (itemOf text row) → Val.Fits w32 (row .k3)
-  unfolding itemOf
-  start-fits e f = record { fits = omega (arith, rw e at f .1) }
+      go : (i : Item) → startKey (extentOf i) ≡ 0 → printRecords defaultTag (startRecord i) ≡ []
+      go (sectionItem spelling) e = refl
+      go (functionItem name none count) e = refl
+      go (functionItem name (some x) count) e = absurd (omega arith)
+      go (branchItem line block branch taken) e = refl
+      go (lineItem line count checksum) e = refl
 
   pub function-line : (p : Part) → row .tag / 2 ≡ 1 → ItemInBounds text row → p ≡ lentPart (row .k1) (row .k2) → lineIn text (Lent.FunctionData (row .count) p) ≡ printRecords defaultTag (dataRecord (itemOf text row))
   unfolding dataRecord recordIn

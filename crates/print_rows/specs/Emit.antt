@@ -3,6 +3,7 @@ use Prim.Native.Nat.{ℕ, zero, suc, _+_, _*_, _≤_, _<_, min}
 use mathlib.Core.Path.{_≡_}
 use mathlib.Core.Bool.{Bool, true, false}
 use mathlib.Core.List.{List, _++_}
+use mathlib.Core.Option.{Option, none, some}
 use lib.Dec.{ltb}
 use lib.ListN.{length, take, drop}
 use Rattle.table.specs.Rows.{row-words, word, rowAt}
@@ -14,6 +15,7 @@ use Rattle.model.specs.declared.Checksum.the-variants as Ck
 use Rattle.model.specs.Order.{if_then_else_}
 use Rattle.model.specs.Bytes.{Bytes}
 use Rattle.model.specs.Limits.{u64-max}
+use Rattle.model.specs.Number.{decimal}
 use Rattle.model.specs.Record.{Record, functionsFound, functionsHit, branchesFound, branchesHit, linesFound, linesHit}
 use Rattle.model.specs.Report.{Item, countOf}
 use Rattle.model.specs.Printing.{startRecord, dataRecord}
@@ -72,6 +74,11 @@ hitOf kind n = byKind kind (functionsHit n) (functionsHit n) (branchesHit n) (li
 -- 1 for an item that is hit
 abbrev pub hitOne : Item → ℕ
 hitOne item = if ltb 0 (countOf item) then 1 else 0
+
+-- the length of an end line and the comma before it
+abbrev pub endLen : Option ℕ → ℕ
+endLen none = 0
+endLen (some end) = 1 + length (decimal end)
 
 -- ---- what records hold of rows
 

@@ -1,6 +1,7 @@
 // Prints rows as lines (SPEC 6), in one code for two passes: one measures, with an offset that
 // saturates at 2^64 − 1; one writes: "Each line is written into the rest of the output".
 use model::Checksum;
+use model::EndLine;
 use model::Part;
 use model::Record;
 use model::Taken;
@@ -9,7 +10,7 @@ use table::Row;
 ghost use mathlib.Core.Path.{_≡_};
 ghost use mathlib.Core.Bool.{true};
 ghost use mathlib.Core.List.{List, [], _∷_};
-ghost use Prim.Native.Nat.{ℕ, _+_, _%_, _≤_, min};
+ghost use Prim.Native.Nat.{ℕ, suc, _+_, _%_, _≤_, min};
 ghost use lib.ListN.{length};
 ghost use Rattle.table.specs.Places.{tabulate};
 ghost use Rattle.model.specs.Lists.{concatMap};
@@ -17,12 +18,13 @@ ghost use Rattle.model.specs.Answer.{accepted};
 ghost use Rattle.model.specs.Limits.{u32-max, u64-max};
 ghost use Rattle.model.specs.Record.{testName, sourceFile, endOfRecord};
 ghost use Rattle.model.specs.Tags.{defaultTag};
-ghost use Rattle.model.specs.Parts.{recordIn};
+ghost use Rattle.model.specs.Report.{extentOf};
+ghost use Rattle.model.specs.Parts.{endIn, recordIn};
 ghost use Rattle.model.specs.Printing.{startRecord, dataRecord, group, hits, printRecords};
 ghost use Rattle.model.specs.Valid.{ItemFits};
-ghost use Rattle.table_item.specs.Items.{part, itemOf, ItemInBounds};
+ghost use Rattle.table_item.specs.Items.{part, startKey, itemOf, ItemInBounds};
 ghost use Rattle.record_display.specs.Lines.{lineIn, counted};
-ghost use Rattle.print_rows.specs.Emit.{RoomFor, Emitted, Numbered, Printable, numberedItem, passRecords, foundOf, hitOf, lentPart, lentTaken, lentChecksum, hitOne};
+ghost use Rattle.print_rows.specs.Emit.{endLen, RoomFor, Emitted, Numbered, Printable, numberedItem, passRecords, foundOf, hitOf, lentPart, lentTaken, lentChecksum, hitOne};
 
 // The place behind n bytes, held at 2^64 − 1.
 fn saturating_add(at: usize, n: usize) -> usize
@@ -35,7 +37,7 @@ fn saturating_add(at: usize, n: usize) -> usize
 }
 
 // One record's line. A record with a part outside text has none.
-pub fn emit_record(text: &[u8], record: Record, out: &mut [u8], at: usize, write: bool) -> usize
+fn emit_record(text: &[u8], record: Record, out: &mut [u8], at: usize, write: bool) -> usize
     requires { ⌜ RoomFor write (now out) at (lineIn (now text) «record») ⌝ }
     ensures { λ r. ⌜ Emitted write (now (out .entry)) (now (out .exit)) at (lineIn (now (text .entry)) «record») r ⌝ }
 {
@@ -49,13 +51,23 @@ pub fn emit_record(text: &[u8], record: Record, out: &mut [u8], at: usize, write
     saturating_add(at, record_display::line_len(text, record))
 }
 
-// The offset behind the FN of a function that has a start, computed from its row.
-fn measure_start(row: Row, at: usize) -> usize
-    requires { ⌜ row .tag ≡ 3 ⌝ }
+// The length of an end line and the comma before it.
+fn end_len(end: EndLine) -> usize
+    ensures { λ r. ⌜ (r ≡ endLen (endIn end)) × (r ≤ 21) ⌝ }
+{
+    match end {
+        EndLine::Given(line) => 1 + format::decimal_len(line as u64),
+        EndLine::Absent => 0,
+    }
+}
+
+// The offset behind the FN of a function that has a start line, computed from its row.
+fn measure_start(row: Row, start: u64, at: usize) -> usize
+    requires { ⌜ ((text : List ℕ) → startKey (extentOf (itemOf text row)) ≡ suc start) ⌝ }
     ensures { λ r. ⌜ ((text : List ℕ) → ItemInBounds text row → r ≡ min (at + length (printRecords defaultTag (startRecord (itemOf text row)))) u64-max) ⌝ }
 {
-    let number = 5 + format::decimal_len(row.k3);
-    saturating_add(saturating_add(at, number), row.k2 as usize)
+    let numbers = 5 + format::decimal_len(start) + end_len(table_item::end_line(row));
+    saturating_add(saturating_add(at, numbers), row.k2 as usize)
 }
 
 // FN, where a function has a start.
@@ -64,17 +76,20 @@ fn emit_start(text: &[u8], row: Row, out: &mut [u8], at: usize, write: bool) -> 
     requires { ⌜ RoomFor write (now out) at (printRecords defaultTag (startRecord (itemOf (now text) row))) ⌝ }
     ensures { λ r. ⌜ Emitted write (now (out .entry)) (now (out .exit)) at (printRecords defaultTag (startRecord (itemOf (now (text .entry)) row))) r ⌝ }
 {
-    if row.tag != table_item::FUNCTION * 2 + 1 {
+    let key = table_item::start_key(row);
+    if key == 0 {
         return at;
     }
+    let start = key - 1;
     if write {
         let record = Record::FunctionName {
-            start: row.k3 as u32,
+            start: start as u32,
+            end: table_item::end_line(row),
             name: part_of(row.k1, row.k2),
         };
         return emit_record(text, record, out, at, write);
     }
-    measure_start(row, at)
+    measure_start(row, start, at)
 }
 
 fn part_of(start: u64, len: u64) -> Part

@@ -13,6 +13,7 @@ use Rattle.model.specs.declared.Kind.{Kind}
 use Rattle.model.specs.declared.Kind.the-variants as Kd
 use Rattle.model.specs.declared.Part.{Part}
 use Rattle.model.specs.declared.Refusal.{Refusal}
+use Rattle.model.specs.declared.EndLine.the-variants as E
 use Rattle.model.specs.declared.Taken.the-variants as T
 use Rattle.model.specs.declared.Checksum.the-variants as C
 use Rattle.model.specs.declared.Record.{Record}
@@ -22,11 +23,11 @@ use Rattle.model.specs.Answer.{Answer, accepted, refused, _>>=_, refuse, refuse
 use Rattle.model.specs.Number.{decimal}
 use Rattle.model.specs.Record as Model
 use Rattle.model.specs.Tags.{defaultTag}
-use Rattle.model.specs.Line.{printFields, printTaken, printChecksum, printRecord}
+use Rattle.model.specs.Line.{printEnd, printFields, printTaken, printChecksum, printRecord}
 use Rattle.model.specs.Limits.{u64-max}
 use Rattle.model.specs.Output.{written, outputAfter}
 use Rattle.model.specs.Calls.{writeAnswer}
-use Rattle.model.specs.Parts.{partOf, takenIn, checksumIn, recordIn, printLine}
+use Rattle.model.specs.Parts.{endIn, partOf, takenIn, checksumIn, recordIn, printLine}
 use Rattle.format.specs.Put.{over}
 use Rattle.format.proofs.PutLaws.{written-fits}
 use Rattle.record_display.specs.Fields.{FieldsOf, separated, numberTexts, lastLen, lastField, inside, sepAfter, headOf, max-head, fieldsText, lineText, Fitting, neededAt, kindOf, numbersOf, lastOf}
@@ -68,10 +69,11 @@ module _ (t : Bytes) where
   part-not p e = rw e
 
   record-inside : (a : Record) → inside (length t) (lastOf a) ≡ true → (made : Model.Record) × (recordIn t a ≡ accepted made) × (printRecord defaultTag made ++ (10 ∷ []) ≡ printed t a)
-  unfolding inside recordIn takenIn checksumIn printRecord printFields printTaken printChecksum joined printed separated lastField
+  unfolding inside recordIn endIn takenIn checksumIn printRecord printFields printEnd printTaken printChecksum joined printed separated lastField
   record-inside (TestName p) e = (Model.testName (take (p .len) (drop (p .start) t)), rw (part-there p e), line-fields Kd.TestName (take (p .len) (drop (p .start) t)) [])
   record-inside (SourceFile p) e = (Model.sourceFile (take (p .len) (drop (p .start) t)), rw (part-there p e), line-fields Kd.SourceFile (take (p .len) (drop (p .start) t)) [])
-  record-inside (FunctionName n p) e = (Model.functionName n (take (p .len) (drop (p .start) t)), rw (part-there p e), line-fields Kd.FunctionName (decimal n) (take (p .len) (drop (p .start) t) ∷ []))
+  record-inside (FunctionName n (E.Given l) p) e = (Model.functionName n (some l) (take (p .len) (drop (p .start) t)), rw (part-there p e), line-fields Kd.FunctionName (decimal n) (decimal l ∷ take (p .len) (drop (p .start) t) ∷ []))
+  record-inside (FunctionName n E.Absent p) e = (Model.functionName n none (take (p .len) (drop (p .start) t)), rw (part-there p e), line-fields Kd.FunctionName (decimal n) (take (p .len) (drop (p .start) t) ∷ []))
   record-inside (FunctionData n p) e = (Model.functionData n (take (p .len) (drop (p .start) t)), rw (part-there p e), line-fields Kd.FunctionData (decimal n) (take (p .len) (drop (p .start) t) ∷ []))
   record-inside (FunctionsFound n) e = (Model.functionsFound n, refl, line-fields Kd.FunctionsFound (decimal n) [])
   record-inside (FunctionsHit n) e = (Model.functionsHit n, refl, line-fields Kd.FunctionsHit (decimal n) [])
@@ -101,7 +103,7 @@ module _ (t : Bytes) where
   unfolding inside recordIn checksumIn
   record-outside (TestName p) e = rw (part-not p e)
   record-outside (SourceFile p) e = rw (part-not p e)
-  record-outside (FunctionName n p) e = rw (part-not p e)
+  record-outside (FunctionName n end p) e = rw (part-not p e)
   record-outside (FunctionData n p) e = rw (part-not p e)
   record-outside (FunctionsFound n) e = no-way e
   record-outside (FunctionsHit n) e = no-way e

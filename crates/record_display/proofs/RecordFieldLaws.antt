@@ -13,10 +13,12 @@ use mir.Syntax.{w64}
 use borrow.Author.Tests.{leb-true, le-leb}
 use Rattle.model.specs.declared.Kind.{Kind}
 use Rattle.model.specs.declared.Kind.the-variants as Kd
+use Rattle.model.specs.declared.EndLine.{EndLine}
+use Rattle.model.specs.declared.Part.{Part}
 use Rattle.model.specs.declared.Taken.{Taken}
 use Rattle.model.specs.declared.Checksum.{Checksum}
 use Rattle.model.specs.declared.Record.{Record}
-use Rattle.model.specs.declared.Record.the-variants.{BranchData, LineData}
+use Rattle.model.specs.declared.Record.the-variants.{FunctionName, BranchData, LineData}
 use Rattle.model.specs.Bytes.{Bytes}
 use Rattle.model.specs.Number.{decimal}
 use Rattle.model.specs.Tags.{defaultTag}
@@ -32,13 +34,16 @@ use Rattle.format.proofs.OverLaws.{second-room, last-within, last-out, last-kep
 pub fields-is : (a b : Record) (s : Fields) → a ≡ b → FieldsOf b s → FieldsOf a s
 fields-is a b s e h = rw e h
 
+pub fields-end : (n : ℕ) (t u : EndLine) (p : Part) (s : Fields) → t ≡ u → FieldsOf (FunctionName n u p) s → FieldsOf (FunctionName n t p) s
+fields-end n t u p s e h = rw e h
+
 pub fields-taken : (l b c : ℕ) (t u : Taken) (s : Fields) → t ≡ u → FieldsOf (BranchData l b c u) s → FieldsOf (BranchData l b c t) s
 fields-taken l b c t u s e h = rw e h
 
 pub fields-checksum : (l n : ℕ) (t u : Checksum) (s : Fields) → t ≡ u → FieldsOf (LineData l n u) s → FieldsOf (LineData l n t) s
 fields-checksum l n t u s e h = rw e h
 
-pub ruleset field-laws = (fields-is, fields-taken, fields-checksum)
+pub ruleset field-laws = (fields-is, fields-end, fields-taken, fields-checksum)
 
 -- the last field's length
 module _ (t : Bytes) where

@@ -10,6 +10,8 @@ use Rattle.model.specs.declared.Kind.{Kind}
 use Rattle.model.specs.declared.Kind.the-variants as Kd
 use Rattle.model.specs.declared.Part.{Part}
 use Rattle.model.specs.declared.Refusal.{Refusal}
+use Rattle.model.specs.declared.EndLine.{EndLine}
+use Rattle.model.specs.declared.EndLine.the-variants as E
 use Rattle.model.specs.declared.Taken.{Taken}
 use Rattle.model.specs.declared.Taken.the-variants as T
 use Rattle.model.specs.declared.Checksum.{Checksum}
@@ -25,6 +27,10 @@ use Rattle.record_display.specs.declared.fields.Fields.{Fields}
 use Rattle.record_display.specs.declared.tag.Tag.{Tag}
 
 -- the numbers of a record, then "-" or a text
+abbrev pub endNumber : EndLine → List ℕ
+endNumber (E.Given n) = n ∷ []
+endNumber E.Absent = []
+
 abbrev pub takenNumber : Taken → List ℕ
 takenNumber (T.Given n) = n ∷ []
 takenNumber T.Absent = []
@@ -40,7 +46,7 @@ checksumLast C.Absent = L.Nothing
 abbrev pub kindOf : Record → Kind
 kindOf (TestName p) = Kd.TestName
 kindOf (SourceFile p) = Kd.SourceFile
-kindOf (FunctionName n p) = Kd.FunctionName
+kindOf (FunctionName n e p) = Kd.FunctionName
 kindOf (FunctionData n p) = Kd.FunctionData
 kindOf (FunctionsFound n) = Kd.FunctionsFound
 kindOf (FunctionsHit n) = Kd.FunctionsHit
@@ -55,7 +61,7 @@ kindOf EndOfRecord = Kd.EndOfRecord
 abbrev pub numbersOf : Record → List ℕ
 numbersOf (TestName p) = []
 numbersOf (SourceFile p) = []
-numbersOf (FunctionName n p) = n ∷ []
+numbersOf (FunctionName n e p) = n ∷ endNumber e
 numbersOf (FunctionData n p) = n ∷ []
 numbersOf (FunctionsFound n) = n ∷ []
 numbersOf (FunctionsHit n) = n ∷ []
@@ -70,7 +76,7 @@ numbersOf EndOfRecord = []
 abbrev pub lastOf : Record → Last
 lastOf (TestName p) = L.Text p
 lastOf (SourceFile p) = L.Text p
-lastOf (FunctionName n p) = L.Text p
+lastOf (FunctionName n e p) = L.Text p
 lastOf (FunctionData n p) = L.Text p
 lastOf (FunctionsFound n) = L.Nothing
 lastOf (FunctionsHit n) = L.Nothing

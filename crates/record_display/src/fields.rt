@@ -5,6 +5,7 @@ ghost use mathlib.Core.Bool.{true};
 ghost use lib.ListN.{length};
 ghost use Rattle.record_display.specs.Fields.{FieldsOf, lastLen, inside};
 use model::Checksum;
+use model::EndLine;
 use model::Kind;
 use model::Part;
 use model::Record;
@@ -41,11 +42,19 @@ pub fn fields_of(record: Record) -> Fields
             count: 0,
             last: Last::Text(path),
         },
-        Record::FunctionName { start, name } => Fields {
-            kind: Kind::FunctionName,
-            numbers: [start as u64, 0, 0, 0],
-            count: 1,
-            last: Last::Text(name),
+        Record::FunctionName { start, end, name } => match end {
+            EndLine::Given(line) => Fields {
+                kind: Kind::FunctionName,
+                numbers: [start as u64, line as u64, 0, 0],
+                count: 2,
+                last: Last::Text(name),
+            },
+            EndLine::Absent => Fields {
+                kind: Kind::FunctionName,
+                numbers: [start as u64, 0, 0, 0],
+                count: 1,
+                last: Last::Text(name),
+            },
         },
         Record::FunctionData { count, name } => Fields {
             kind: Kind::FunctionData,

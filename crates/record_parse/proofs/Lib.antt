@@ -1,4 +1,5 @@
 pub mod FieldLaws
+pub mod EndLaws
 pub mod LineLaws
 pub mod NumberLaws
 pub mod TagLaws

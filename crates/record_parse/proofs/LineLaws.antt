@@ -9,13 +9,15 @@ use native.Mathlib.Omega.{arith}
 use native.Mathlib.Numerals.{add-one}
 use lib.Dec.{eqb}
 use lib.ListN.{length, take, drop, take-append-drop}
+use borrow.Author.Tests.{le-leb, lt-leb}
 use mir.Val.{Fits}
 use mir.Syntax.{w32, w64}
 use types.Run.{OneOf}
 use denote.Enum.Declared.{tagOf}
 use Rattle.model.specs.declared.Fault.{Fault}
-use Rattle.model.specs.declared.Fault.the-variants.{FieldNotFound, TooManyFields}
+use Rattle.model.specs.declared.Fault.the-variants.{EndBeforeStart, FieldNotFound, TooManyFields}
 use Rattle.model.specs.declared.Part.{Part}
+use Rattle.model.specs.declared.EndLine.the-variants as El
 use Rattle.model.specs.declared.Checksum.{Checksum}
 use Rattle.model.specs.declared.Checksum.the-variants as Ck
 use Rattle.model.specs.declared.Taken.the-variants as Tk
@@ -28,8 +30,8 @@ use Rattle.model.specs.Bytes.{Bytes, ascii, comma, compareBytes, sameBytes, bef
 use Rattle.model.specs.Answer.{Answer, accepted, refused, _>>=_, refuse, refuseField}
 use Rattle.model.specs.Limits.{u32-max, u64-max}
 use Rattle.model.specs.Record.{Record, functionName, functionData, branchData, lineData}
-use Rattle.model.specs.Line.{fromField, inField, numberField, textField, takenField, checksumField, lastBefore, readOne}
-use Rattle.model.specs.Parts.{endPart, lentTaken, lentChecksum, lentFrom}
+use Rattle.model.specs.Line.{readFunction, withEnd, beginsWithEnd, fromField, inField, numberField, textField, takenField, checksumField, lastBefore, readOne}
+use Rattle.model.specs.Parts.{lentEnd, endPart, lentTaken, lentChecksum, lentFrom}
 use Rattle.scan.specs.declared.Number.the-variants as N
 use Rattle.scan.specs.Scan.{numberIn, NumberRead}
 use Rattle.model.specs.Number.{readNumber, readDigits}
@@ -43,7 +45,7 @@ use Rattle.record_parse.specs.declared.fields.Field.the-variants.{Last, 
 use Rattle.record_parse.proofs.fields.Field.{the-type}
 use Rattle.record_parse.specs.Answers.{Answers, read, refusal}
 use Rattle.record_parse.specs.Fields.{refusedAt, numberRefusal, NumberField, partFrom, checksumFrom}
-use Rattle.record_parse.specs.Lines.{TakenRead, countLent, countMade}
+use Rattle.record_parse.specs.Lines.{FunctionRead, EndRead, TakenRead, countLent, countMade}
 use Rattle.record_parse.specs.declared.lines.Total.{Total}
 use Rattle.record_parse.specs.declared.lines.Total.the-variants as Ct
 use Rattle.record_parse.proofs.FieldLaws.{
@@ -141,13 +143,61 @@ module _ {body line : Bytes} {k at : ℕ} (here : FieldAt body line k at) (p : P
   there : p ≡ endPart line (drop at line)
   there = is ∙ part-rest line at (here .within)
 
-  pub name-read : (start : ℕ) → Answers line (Read (Lent.FunctionName start p)) (textField k body >>= λ name. accepted (functionName start name))
+  -- a name, with the end line that comes before it or none
+  name-read : (start : ℕ) (end : Option ℕ) → Answers line (Read (Lent.FunctionName start (lentEnd end) p)) (accepted (functionName start end (drop at line)))
   unfolding lentFrom
-  name-read start = rw field (read (functionName start (drop at line)) (Lent.FunctionName start p) (ap (λ (q : Part). Lent.FunctionName start q) there))
+  name-read start end = read (functionName start end (drop at line)) (Lent.FunctionName start (lentEnd end) p) (ap (λ (q : Part). Lent.FunctionName start (lentEnd end) q) there)
 
   pub data-read : (count : ℕ) → Answers line (Read (Lent.FunctionData count p)) (textField k body >>= λ name. accepted (functionData count name))
   unfolding lentFrom
   data-read count = rw field (read (functionData count (drop at line)) (Lent.FunctionData count p) (ap (λ (q : Part). Lent.FunctionData count q) there))
+
+-- ---- the end line of FN
+
+module _ (start : ℕ) {line : Bytes} {at : ℕ} (within : at ≤ length line) {got : Field} (seen : NumberField u32-max at (part line at) got) where
+  end-at : (body : Bytes) → fromField 2 body ≡ some (drop at line) → FieldAt body line 2 at
+  end-at body here = record { is = here; within = within }
+
+  pub end-up : (r : LineAnswer) → NotMore got → r ≡ numberRefusal 2 got → EndRead start line at r
+  end-up r other q = record { is = λ body here. more-up (end-at body here) seen _ r other q (asks-text body 3 _) }
+
+  module _ (v n : ℕ) (e : got ≡ More v n) where
+    name-at : (body : Bytes) → fromField 2 body ≡ some (drop at line) → FieldAt body line 3 n
+    name-at body here = next-field (end-at body here) seen v n e
+
+    pub end-below : (r : LineAnswer) → v < start → r ≡ refusedAt EndBeforeStart 0 → EndRead start line at r
+    unfolding withEnd textField
+    end-below r low q =
+        record {
+          is = λ body here. more-then (end-at body here) seen _ v n r e
+              (refused-up EndBeforeStart 0 q (rw (name-at body here .is, textField) (rw (lt-leb start v low))));
+        }
+
+    pub end-given : (p : Part) → start ≤ v → p ≡ partFrom n (part line n) → EndRead start line at (Read (Lent.FunctionName start (El.Given v) p))
+    unfolding withEnd textField lentEnd
+    end-given p high q =
+        record {
+          is = λ body here. more-then (end-at body here) seen _ v n _ e
+              (rw (name-at body here .is, textField) (rw (le-leb start v high) (name-read (name-at body here) p q start (some v))));
+        }
+
+module _ (start : ℕ) (line : Bytes) (at : ℕ) (within : at ≤ length line) (b : Bool) (is : b ≡ beginsWithEnd (part line at)) where
+  begins : beginsWithEnd (drop at line) ≡ b
+  begins = sym (is ∙ ap beginsWithEnd (to-end line at))
+
+  pub function-end : (r : LineAnswer) → b ≡ true → EndRead start line at r → FunctionRead start line at r
+  unfolding readFunction
+  function-end r t w = record { is = λ body here. rw (begins, t) (w .is body here) }
+
+  pub function-plain : (p : Part) → b ≡ false → p ≡ partFrom at (part line at) → FunctionRead start line at (Read (Lent.FunctionName start El.Absent p))
+  unfolding readFunction lentEnd
+  function-plain p f q =
+      record { is = λ body here. rw (begins, f) (name-read {body = body} {k = 2} (record { is = here; within = within }) p q start none) }
+
+pub function-read : {body line : Bytes} {at : ℕ} → FieldAt body line 2 at → (start : ℕ) (r : LineAnswer) → FunctionRead start line at r
+    → Answers line r (textField 2 body >>= λ rest. readFunction start body rest)
+unfolding textField
+function-read {body} here start r w = rw (here .is, textField) (w .is body (here .is))
 
 -- ---- a checksum: DA
 
@@ -315,4 +365,4 @@ module _ {body line : Bytes} {at max : ℕ} (got : Field) (seen : NumberField ma
   pub fourth-field : FieldAt body line 3 at → FieldAt body line 4 n
   fourth-field here = next-field here seen v n is
 
-pub ruleset line-laws = (first-field, second-field, third-field, fourth-field, more-then, bad-up, name-read, data-read, line-read, line-last, taken-read)
+pub ruleset line-laws = (first-field, second-field, third-field, fourth-field, more-then, bad-up, data-read, line-read, line-last, taken-read)

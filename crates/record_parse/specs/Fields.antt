@@ -1,8 +1,10 @@
 -- What the field readers promise, in the model's definitions. Assumes nothing.
-use Prim.Native.Nat.{ℕ, _+_, _≤_}
+use Prim.Native.Nat.{ℕ, suc, _+_, _≤_}
 use mathlib.Core.Path.{_≡_}
 use lib.ListN.{length}
-use mathlib.Core.Bool.{cond}
+use mathlib.Core.Bool.{Bool, false, cond}
+use mathlib.Core.List.{[], _∷_}
+use lib.Dec.{ltb, eqb}
 use Rattle.model.specs.declared.Fault.{Fault}
 use Rattle.model.specs.declared.Fault.the-variants.{FieldNotFound, TooManyFields}
 use Rattle.model.specs.declared.Part.{Part}
@@ -11,7 +13,8 @@ use Rattle.model.specs.declared.Checksum.the-variants as Ck
 use Rattle.model.specs.declared.LineAnswer.{LineAnswer}
 use Rattle.model.specs.declared.LineAnswer.the-variants.{Refused}
 use Rattle.model.specs.Order.{if_then_else_}
-use Rattle.model.specs.Bytes.{Bytes, ascii, sameBytes}
+use Rattle.model.specs.Bytes.{Bytes, ascii, comma, sameBytes}
+use Rattle.model.specs.Number.{isDigit}
 use Rattle.scan.specs.declared.Number.{Number}
 use Rattle.scan.specs.declared.Number.the-variants as N
 use Rattle.scan.specs.Scan.{numberIn}
@@ -47,6 +50,11 @@ pub record NumberField (max start : ℕ) (rest : Bytes) (r : Field) : Type 0 whe
   pub is : r ≡ inLine start (numberIn max rest)
   pub long : nextOf r ≤ start + length rest
   pub most : valueOf r ≤ max
+
+-- whether an end line comes first, where so many digits have come before
+unfoldable pub endBehind : ℕ → Bytes → Bool
+endBehind seen [] = false
+endBehind seen (b ∷ bs) = if isDigit b then endBehind (suc seen) bs else if eqb b comma then ltb 0 seen else false
 
 abbrev pub partFrom : ℕ → Bytes → Part
 partFrom start rest = record { start = start; len = length rest }

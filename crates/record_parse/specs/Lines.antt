@@ -4,6 +4,7 @@ use mathlib.Core.Path.{_≡_}
 use mathlib.Core.Bool.{true, false}
 use mathlib.Core.Option.{Option, none, some}
 use lib.Dec.{ltb}
+use lib.ListN.{drop}
 use Rattle.model.specs.declared.Fault.the-variants.{UnknownRecord}
 use Rattle.model.specs.declared.Kind.{Kind}
 use Rattle.model.specs.declared.Kind.the-variants as Kd
@@ -13,7 +14,7 @@ use Rattle.model.specs.declared.Record.the-variants as Lent
 use Rattle.model.specs.Order.{if_then_else_}
 use Rattle.model.specs.Bytes.{Bytes, sameBytes}
 use Rattle.model.specs.Answer.{Answer, _>>=_, refuse}
-use Rattle.model.specs.Limits.{u64-max}
+use Rattle.model.specs.Limits.{u32-max, u64-max}
 use Rattle.model.specs.Record.{
   Record,
   functionsFound,
@@ -25,7 +26,7 @@ use Rattle.model.specs.Record.{
   linesHit,
 }
 use Rattle.model.specs.Tags.{defaultTag}
-use Rattle.model.specs.Line.{fromField, takenField, lastBefore, readBody}
+use Rattle.model.specs.Line.{fromField, numberField, textField, takenField, lastBefore, withEnd, readFunction, readBody}
 use Rattle.record_parse.specs.declared.lines.Total.{Total}
 use Rattle.record_parse.specs.declared.lines.Total.the-variants as Ct
 use Rattle.record_parse.specs.declared.lines.TotalAnswer.{TotalAnswer}
@@ -36,6 +37,17 @@ use Rattle.record_parse.specs.Answers.{Answers}
 pub record TakenRead (line block branch : ℕ) (rest : Bytes) (r : LineAnswer) : Type 0 where
   pub is : (whole body : Bytes) → fromField 4 body ≡ some rest
       → Answers whole r (takenField u64-max 4 body >>= λ taken. lastBefore 5 body (branchData line block branch taken))
+
+-- ---- FN
+
+-- the answer for every FN body whose field 2, an end line, is at a position of the line
+pub record EndRead (start : ℕ) (line : Bytes) (at : ℕ) (r : LineAnswer) : Type 0 where
+  pub is : (body : Bytes) → fromField 2 body ≡ some (drop at line)
+      → Answers line r (numberField u32-max 2 body >>= λ end. textField 3 body >>= λ name. withEnd start end name)
+
+-- the answer for every FN body whose field 2 is at a position of the line
+pub record FunctionRead (start : ℕ) (line : Bytes) (at : ℕ) (r : LineAnswer) : Type 0 where
+  pub is : (body : Bytes) → fromField 2 body ≡ some (drop at line) → Answers line r (readFunction start body (drop at line))
 
 -- ---- the six kinds that hold one number
 

@@ -2,6 +2,8 @@
 ghost use mathlib.Core.Path.{_≡_};
 ghost use Prim.Native.Nat.{_+_, _^_, _≤_, _<_};
 ghost use lib.ListN.{length};
+ghost use Rattle.model.specs.Number.{isDigit};
+ghost use Rattle.model.specs.Line.{beginsWithEnd};
 ghost use Rattle.scan_digits.specs.Word.{ShortRead};
 ghost use Rattle.record_parse.specs.Fields.{refusedAt, numberRefusal, NumberField, partFrom, checksumFrom};
 use model::Checksum;
@@ -77,6 +79,34 @@ pub(crate) fn number_field(start: usize, rest: &[u8], short: Short, max: u64) ->
         }
         Short::Unknown => long_field(start, rest, max),
     }
+}
+
+fn is_digit(b: u8) -> bool
+    ensures { λ r. ⌜ r ≡ isDigit b ⌝ }
+{
+    if b < b'0' {
+        return false;
+    }
+    b <= b'9'
+}
+
+// Whether an end line comes first: digits alone, one or more, up to a comma.
+pub(crate) fn begins_with_end(rest: &[u8]) -> bool
+    ensures { λ r. ⌜ r ≡ beginsWithEnd (now (rest .entry)) ⌝ }
+{
+    let mut i = 0;
+    while i < rest.len() {
+        let b = rest[i];
+        if is_digit(b) {
+            i += 1;
+        } else {
+            if b == b',' {
+                return 0 < i;
+            }
+            return false;
+        }
+    }
+    false
 }
 
 // A text, which is all that is left, commas included.

@@ -7,8 +7,9 @@ ghost use Rattle.model.specs.Line.{readBody, readOne};
 ghost use Rattle.model.specs.declared.Kind.the-variants as Kind;
 ghost use Rattle.scan_digits.specs.Word.{ShortRead};
 ghost use Rattle.record_parse.specs.Answers.{Answers};
-ghost use Rattle.record_parse.specs.Lines.{TakenRead, countLent, countMade, CountOf};
+ghost use Rattle.record_parse.specs.Lines.{EndRead, FunctionRead, TakenRead, countLent, countMade, CountOf};
 use super::fields::Field;
+use super::fields::begins_with_end;
 use super::fields::checksum_field;
 use super::fields::long_field;
 use super::fields::number_field;
@@ -16,6 +17,7 @@ use super::fields::number_refusal;
 use super::fields::refused;
 use super::fields::text_field;
 use model::Checksum;
+use model::EndLine;
 use model::Fault;
 use model::LineAnswer;
 use model::Record;
@@ -41,7 +43,39 @@ pub(crate) enum TotalAnswer {
     Unknown,
 }
 
-// FN: a start line and a name.
+// The end of an FN body that has an end line: that line, which must not be below the start line, and a name.
+fn read_end(line: &[u8], at: usize, start: u32) -> LineAnswer
+    requires { ⌜ at ≤ length (now line) ⌝ }
+    ensures { λ r. ⌜ EndRead start (now (line .entry)) at r ⌝ }
+{
+    let short = scan_digits::short_number(line, &line[at..]);
+    let second = number_field(at, &line[at..], short, MAX_U32);
+    let Field::More { value, next } = second else {
+        return number_refusal(second, 2);
+    };
+    let last = value as u32;
+    if last < start {
+        return refused(Fault::EndBeforeStart, 0);
+    }
+    let name = text_field(next, &line[next..]);
+    let end = EndLine::Given(last);
+    LineAnswer::Read(Record::FunctionName { start, end, name })
+}
+
+// What follows FN's start line: an end line and a name, or a name.
+fn read_function(line: &[u8], at: usize, start: u32) -> LineAnswer
+    requires { ⌜ at ≤ length (now line) ⌝ }
+    ensures { λ r. ⌜ FunctionRead start (now (line .entry)) at r ⌝ }
+{
+    if begins_with_end(&line[at..]) {
+        return read_end(line, at, start);
+    }
+    let name = text_field(at, &line[at..]);
+    let end = EndLine::Absent;
+    LineAnswer::Read(Record::FunctionName { start, end, name })
+}
+
+// FN: a start line, perhaps an end line, and a name.
 pub(crate) fn read_function_name(line: &[u8], at: usize) -> LineAnswer
     requires { ⌜ at ≤ length (now line) ⌝ }
     ensures { λ r. ⌜ Answers (now (line .entry)) r (readBody Kind.FunctionName (drop at (now (line .entry)))) ⌝ }
@@ -51,9 +85,7 @@ pub(crate) fn read_function_name(line: &[u8], at: usize) -> LineAnswer
     let Field::More { value, next } = first else {
         return number_refusal(first, 1);
     };
-    let start = value as u32;
-    let name = text_field(next, &line[next..]);
-    LineAnswer::Read(Record::FunctionName { start, name })
+    read_function(line, next, value as u32)
 }
 
 // FNDA: a count and a name.

@@ -15,6 +15,7 @@ use Rattle.ordmap.proofs.Results.{accepted-inj, not-accepted, impossible}
 use Rattle.table.specs.declared.Row.{Row}
 use Rattle.model.specs.declared.Fault.the-variants.{PartOutside}
 use Rattle.model.specs.declared.Part.{Part}
+use Rattle.model.specs.declared.EndLine.{EndLine}
 use Rattle.model.specs.declared.Taken.{Taken}
 use Rattle.model.specs.declared.Checksum.{Checksum}
 use Rattle.model.specs.declared.Checksum.the-variants as Ck
@@ -23,9 +24,9 @@ use Rattle.model.specs.declared.Record.the-variants as Lent
 use Rattle.model.proofs.Record.{the-type}
 use Rattle.model.specs.Bytes.{Bytes}
 use Rattle.model.specs.Answer.{Answer, accepted, refuse}
-use Rattle.model.specs.Report.{sectionItem, functionItem, branchItem, lineItem}
-use Rattle.model.specs.Parts.{partOf, takenIn}
-use Rattle.table_item.specs.Items.{part, ifGiven, partIn, PartInside, checksumPart, ChecksumInside, byKind, kindOf, function-kind, itemOf, Makes}
+use Rattle.model.specs.Report.{extentAt, Extent, sectionItem, functionItem, branchItem, lineItem}
+use Rattle.model.specs.Parts.{partOf, endIn, takenIn}
+use Rattle.table_item.specs.Items.{part, ifGiven, extentIn, partIn, PartInside, checksumPart, ChecksumInside, byKind, kindOf, function-kind, itemOf, Makes}
 use Rattle.report_parser.specs.Effect.{no-part, textPart, PartWithin, ChecksumWithin, TextsWithin, movedPart, movedChecksum, AddsItem, RowOf}
 
 -- ---- parts
@@ -73,11 +74,15 @@ checksum-inside text at len Ck.Absent h w = tt
 abbrev textless : List ℕ
 textless = 4 ∷ 5 ∷ 6 ∷ 7 ∷ 8 ∷ 9 ∷ 10 ∷ 11 ∷ 12 ∷ []
 
+-- the record as a match has it
+pub text-as : (lent found : LentRecord) (p : Part) → lent ≡ found → p ≡ textPart found → p ≡ textPart lent
+text-as lent found p e h = rw e h
+
 -- a record of another kind has no text
 pub no-text : (lent : LentRecord) → OneOf textless (tagOf the-type lent) → no-part ≡ textPart lent
 no-text (Lent.TestName p) h = absurd (miss textless 0 tt h)
 no-text (Lent.SourceFile p) h = absurd (miss textless 1 tt h)
-no-text (Lent.FunctionName start p) h = absurd (miss textless 2 tt h)
+no-text (Lent.FunctionName start end p) h = absurd (miss textless 2 tt h)
 no-text (Lent.FunctionData count p) h = absurd (miss textless 3 tt h)
 no-text (Lent.FunctionsFound found) h = refl
 no-text (Lent.FunctionsHit hit) h = refl
@@ -89,17 +94,17 @@ no-text (Lent.LinesFound found) h = refl
 no-text (Lent.LinesHit hit) h = refl
 no-text Lent.EndOfRecord h = refl
 
-function-row : (text : Bytes) (r : Row) (name : Bytes) (start : Option ℕ) (count : ℕ) → itemOf text r ≡ functionItem name start count → kindOf r ≡ function-kind
+function-row : (text : Bytes) (r : Row) (name : Bytes) (extent : Option Extent) (count : ℕ) → itemOf text r ≡ functionItem name extent count → kindOf r ≡ function-kind
 unfolding itemOf
-function-row text r name start count e = go (kindOf r) e
+function-row text r name extent count e = go (kindOf r) e
   where
     go : (kind : ℕ)
         → byKind kind
         (sectionItem (part text (r .path) (r .«path_len»)))
-        (functionItem (part text (r .k1) (r .k2)) (ifGiven (r .tag % 2) (r .k3)) (r .count))
+        (functionItem (part text (r .k1) (r .k2)) (extentIn (r .tag % 2) (r .k3)) (r .count))
         (branchItem (r .k1) (r .k2) (r .k3) (ifGiven (r .tag % 2) (r .count)))
         (lineItem (r .k1) (r .count) (ifGiven (r .tag % 2) (part text (r .k2) (r .k3))))
-        ≡ functionItem name start count → kind ≡ function-kind
+        ≡ functionItem name extent count → kind ≡ function-kind
     go zero q = impossible cc
     go (suc zero) q = refl
     go (suc (suc zero)) q = impossible cc
@@ -113,10 +118,10 @@ pub row-as : {at len : ℕ} {lent found : LentRecord} {r : Row} → lent ≡ fou
 row-as e ω = rw e ω
 
 module _ {at len : ℕ} {r : Row} where
-  pub start-of : {start : ℕ} {p q : Part} → q ≡ movedPart at p → TextsWithin len (Lent.FunctionName start p)
-      → Makes r (λ text. functionItem (partIn text q) (some start) 0) (λ text. PartInside text q) → RowOf at len (Lent.FunctionName start p) r
-  start-of {start} {p} f w μ = record {
-    is = λ text. μ .is text ∙ rw f (ap (λ (b : Bytes). functionItem b (some start) 0) (moved-is text at p));
+  pub start-of : {start : ℕ} {end : EndLine} {p q : Part} → q ≡ movedPart at p → TextsWithin len (Lent.FunctionName start end p)
+      → Makes r (λ text. functionItem (partIn text q) (some (extentAt start (endIn end))) 0) (λ text. PartInside text q) → RowOf at len (Lent.FunctionName start end p) r
+  start-of {start} {end} {p} f w μ = record {
+    is = λ text. μ .is text ∙ rw f (ap (λ (b : Bytes). functionItem b (some (extentAt start (endIn end))) 0) (moved-is text at p));
     inner = λ text h. μ .inner text (rw f (omega (arith, w .text)));
     adds = λ k. absurd (omega arith);
   }
@@ -148,7 +153,7 @@ itemless = 0 ∷ 1 ∷ 4 ∷ 5 ∷ 7 ∷ 8 ∷ 10 ∷ 11 ∷ 12 ∷ []
 no-item : (lent : LentRecord) → OneOf itemless (tagOf the-type lent) → AddsItem lent → ⊥
 no-item (Lent.TestName p) h a = a
 no-item (Lent.SourceFile p) h a = a
-no-item (Lent.FunctionName start p) h a = absurd (miss itemless 2 tt h)
+no-item (Lent.FunctionName start end p) h a = absurd (miss itemless 2 tt h)
 no-item (Lent.FunctionData count p) h a = absurd (miss itemless 3 tt h)
 no-item (Lent.FunctionsFound found) h a = a
 no-item (Lent.FunctionsHit hit) h a = a

@@ -20,7 +20,7 @@ use Rattle.model.specs.Order.{if_then_else_}
 use Rattle.model.specs.Answer.{Answer, accepted, _>>=_}
 use Rattle.model.specs.Record.{Record, testName, sourceFile, functionName, functionData, lineData, endOfRecord}
 use Rattle.model.specs.Report.{Item}
-use Rattle.model.specs.Parts.{partOf, checksumIn, recordIn}
+use Rattle.model.specs.Parts.{endIn, partOf, checksumIn, recordIn}
 use Rattle.model.specs.Reading.{State as ModelState, enterItem, ignored, effect}
 use Rattle.table_item.specs.Items.{partIn, PartInside, checksumPart, itemOf}
 use Rattle.table_item.specs.Combining.{combineOf, Adds}
@@ -94,7 +94,7 @@ never e = impossible cc
 adding-adds : (lent : LentRecord) → addingKind (kindNumber lent) ≡ true → AddsItem lent
 adding-adds (Lent.TestName p) e = never e
 adding-adds (Lent.SourceFile p) e = never e
-adding-adds (Lent.FunctionName start p) e = tt
+adding-adds (Lent.FunctionName start end p) e = tt
 adding-adds (Lent.FunctionData count p) e = tt
 adding-adds (Lent.FunctionsFound found) e = never e
 adding-adds (Lent.FunctionsHit hit) e = never e
@@ -145,7 +145,7 @@ read : (len : ℕ) (bytes : Bytes) (lent : LentRecord) {made : Record} → recor
 unfolding recordIn effect
 read len bytes (Lent.TestName p) e = let t = text-read len bytes p testName e in does-as (record { text = t .0; checksum = tt }) (omega arith) (t .1) (λ s. refl)
 read len bytes (Lent.SourceFile p) e = let t = text-read len bytes p sourceFile e in does-as (record { text = t .0; checksum = tt }) (omega arith) (t .1) (λ s. refl)
-read len bytes (Lent.FunctionName start p) e = let t = text-read len bytes p (functionName start) e in does-as (record { text = t .0; checksum = tt }) (omega arith) (t .1) (λ s. refl)
+read len bytes (Lent.FunctionName start end p) e = let t = text-read len bytes p (functionName start (endIn end)) e in does-as (record { text = t .0; checksum = tt }) (omega arith) (t .1) (λ s. refl)
 read len bytes (Lent.FunctionData count p) e = let t = text-read len bytes p (functionData count) e in does-as (record { text = t .0; checksum = tt }) (omega arith) (t .1) (λ s. refl)
 read len bytes (Lent.FunctionsFound found) e = does-as (record { text = omega arith; checksum = tt }) (omega arith) (accepted-inj e) (λ s. refl)
 read len bytes (Lent.FunctionsHit hit) e = does-as (record { text = omega arith; checksum = tt }) (omega arith) (accepted-inj e) (λ s. refl)

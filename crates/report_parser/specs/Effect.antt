@@ -13,8 +13,8 @@ use Rattle.model.specs.declared.Record.the-variants as Lent
 use Rattle.model.specs.Bytes.{Bytes}
 use Rattle.model.specs.Answer.{accepted}
 use Rattle.model.specs.Record.{Record}
-use Rattle.model.specs.Report.{Item, functionItem, branchItem, lineItem}
-use Rattle.model.specs.Parts.{takenIn, recordIn}
+use Rattle.model.specs.Report.{extentAt, Item, functionItem, branchItem, lineItem}
+use Rattle.model.specs.Parts.{endIn, takenIn, recordIn}
 use Rattle.model.specs.Reading.{effect}
 use Rattle.table_item.specs.Items.{part, partIn, checksumPart, kindOf, function-kind, itemOf, ItemRow}
 use Rattle.section.specs.declared.State.{State}
@@ -27,7 +27,7 @@ use Rattle.section.specs.Reading.{StepBy}
 abbrev pub kindNumber : LentRecord → ℕ
 kindNumber (Lent.TestName p) = 0
 kindNumber (Lent.SourceFile p) = 1
-kindNumber (Lent.FunctionName start p) = 2
+kindNumber (Lent.FunctionName start end p) = 2
 kindNumber (Lent.FunctionData count p) = 3
 kindNumber (Lent.FunctionsFound found) = 4
 kindNumber (Lent.FunctionsHit hit) = 5
@@ -46,7 +46,7 @@ no-part = record { start = 0; len = 0 }
 abbrev pub textPart : LentRecord → Part
 textPart (Lent.TestName p) = p
 textPart (Lent.SourceFile p) = p
-textPart (Lent.FunctionName start p) = p
+textPart (Lent.FunctionName start end p) = p
 textPart (Lent.FunctionData count p) = p
 textPart (Lent.FunctionsFound found) = no-part
 textPart (Lent.FunctionsHit hit) = no-part
@@ -61,7 +61,7 @@ textPart Lent.EndOfRecord = no-part
 abbrev pub checksumOf : LentRecord → Checksum
 checksumOf (Lent.TestName p) = Ck.Absent
 checksumOf (Lent.SourceFile p) = Ck.Absent
-checksumOf (Lent.FunctionName start p) = Ck.Absent
+checksumOf (Lent.FunctionName start end p) = Ck.Absent
 checksumOf (Lent.FunctionData count p) = Ck.Absent
 checksumOf (Lent.FunctionsFound found) = Ck.Absent
 checksumOf (Lent.FunctionsHit hit) = Ck.Absent
@@ -77,7 +77,7 @@ checksumOf Lent.EndOfRecord = Ck.Absent
 abbrev pub AddsItem : LentRecord → Type 0
 AddsItem (Lent.TestName p) = ⊥
 AddsItem (Lent.SourceFile p) = ⊥
-AddsItem (Lent.FunctionName start p) = Unit {0}
+AddsItem (Lent.FunctionName start end p) = Unit {0}
 AddsItem (Lent.FunctionData count p) = Unit {0}
 AddsItem (Lent.FunctionsFound found) = ⊥
 AddsItem (Lent.FunctionsHit hit) = ⊥
@@ -94,7 +94,7 @@ AddsItem Lent.EndOfRecord = ⊥
 abbrev pub itemIn : Bytes → LentRecord → Item
 itemIn bytes (Lent.TestName p) = lineItem 0 0 none
 itemIn bytes (Lent.SourceFile p) = lineItem 0 0 none
-itemIn bytes (Lent.FunctionName start p) = functionItem (partIn bytes p) (some start) 0
+itemIn bytes (Lent.FunctionName start end p) = functionItem (partIn bytes p) (some (extentAt start (endIn end))) 0
 itemIn bytes (Lent.FunctionData count p) = functionItem (partIn bytes p) none count
 itemIn bytes (Lent.FunctionsFound found) = lineItem 0 0 none
 itemIn bytes (Lent.FunctionsHit hit) = lineItem 0 0 none

@@ -33,7 +33,11 @@ fn kind_number(record: Record) -> u8
     match record {
         Record::TestName(_) => 0,
         Record::SourceFile(_) => 1,
-        Record::FunctionName { start: _, name: _ } => 2,
+        Record::FunctionName {
+            start: _,
+            end: _,
+            name: _,
+        } => 2,
         Record::FunctionData { count: _, name: _ } => FUNCTION_DATA,
         Record::FunctionsFound(_) => 4,
         Record::FunctionsHit(_) => 5,
@@ -63,7 +67,11 @@ fn text_part(record: Record) -> Part
     match record {
         Record::TestName(name) => name,
         Record::SourceFile(path) => path,
-        Record::FunctionName { start: _, name } => name,
+        Record::FunctionName {
+            start: _,
+            end: _,
+            name,
+        } => name,
         Record::FunctionData { count: _, name } => name,
         _ => Part { start: 0, len: 0 },
     }
@@ -96,8 +104,8 @@ fn item_row(record: Record, at: usize, len: usize) -> Row
     ensures { λ r. ⌜ RowOf at len «record» r ⌝ }
 {
     match record {
-        Record::FunctionName { start, name } => {
-            return start_row(move_part(name, at, len), start);
+        Record::FunctionName { start, end, name } => {
+            return start_row(move_part(name, at, len), start, end);
         }
         Record::FunctionData { count, name } => {
             return calls_row(move_part(name, at, len), count);

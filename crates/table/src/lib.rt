@@ -22,7 +22,7 @@ pub const TAG_WORD: usize = 4;
 // | kind     | k1                      | k2              | k3              | count | optional   |
 // |----------|-------------------------|-----------------|-----------------|-------|------------|
 // | header   | cached insert position  |                 |                 |       |            |
-// | function | name, offset            | name, length    | start line      | calls | start line |
+// | function | name, offset            | name, length    | start, end line | calls | end line   |
 // | branch   | line                    | block           | branch          | taken | taken      |
 // | line     | line                    | checksum, offset| checksum, length| runs  | checksum   |
 pub struct Row {
@@ -55,7 +55,7 @@ pub fn read_row(words: &[u64], j: usize) -> Row
     }
 }
 
-pub fn write_row(words: &mut [u64], j: usize, row: Row)
+fn write_row(words: &mut [u64], j: usize, row: Row)
     requires { ⌜ j * row-words + row-words ≤ length (now words) ⌝ }
     ensures { λ _. ⌜ Written (now (words .entry)) (now (words .exit)) j row ⌝ }
 {
@@ -138,7 +138,7 @@ pub fn move_row(words: &mut [u64], index: usize, used: usize, to: usize, from: u
 }
 
 // Moves the n rows at `from` to `to`, and shifts the rows from there on up by n. `spare` is the offset of n free words.
-pub fn move_block(
+fn move_block(
     words: &mut [u64],
     index: usize,
     used: usize,
@@ -158,7 +158,7 @@ pub fn move_block(
 }
 
 // Swaps the n rows at `lo` and the n at `mid`. `spare` is the offset of n free words.
-pub fn swap_equal_blocks(
+fn swap_equal_blocks(
     words: &mut [u64],
     index: usize,
     used: usize,

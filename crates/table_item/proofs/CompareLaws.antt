@@ -13,7 +13,7 @@ use Rattle.ordmap.proofs.Orderings.{said, Says, says}
 use Rattle.model.specs.Order.{isLess}
 use Rattle.model.specs.Bytes.{Bytes, compareBytes}
 use Rattle.model.proofs.KeyOrder.{bytes-order}
-use Rattle.model.specs.Report.{sectionItem, functionItem, branchItem, lineItem, itemKey, compareItems}
+use Rattle.model.specs.Report.{Extent, sectionItem, functionItem, branchItem, lineItem, itemKey, compareItems}
 use Rattle.table_item.specs.Items.{part, kindOf, function-kind, branch-kind, line-kind, byKind, itemOf, ItemInBounds, ItemRow}
 
 -- a row that the store handed out
@@ -43,7 +43,7 @@ less-is a b = go (compare a b) (says a b)
 abbrev restOf : ℕ → Bytes → Row → List ℕ
 restOf kind text r = byKind kind [] (part text (r .k1) (r .k2)) (r .k1 ∷ r .k2 ∷ r .k3 ∷ []) (r .k1 ∷ [])
 
-key-by : (kind : ℕ) (p n : Bytes) (s : Option ℕ) (m l b h : ℕ) (t : Option ℕ) (x y : ℕ) (z : Option Bytes) → kind ≤ line-kind
+key-by : (kind : ℕ) (p n : Bytes) (s : Option Extent) (m l b h : ℕ) (t : Option ℕ) (x y : ℕ) (z : Option Bytes) → kind ≤ line-kind
     → itemKey (byKind kind (sectionItem p) (functionItem n s m) (branchItem l b h t) (lineItem x y z)) ≡ kind ∷ byKind kind [] n (l ∷ b ∷ h ∷ []) (x ∷ [])
 unfolding itemKey
 key-by zero p n s m l b h t x y z i = refl

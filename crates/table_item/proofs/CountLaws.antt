@@ -10,9 +10,9 @@ use Rattle.model.specs.declared.Fault.the-variants.{CallOverflow}
 use Rattle.model.specs.Limits.{u64-max}
 use Rattle.model.specs.Bytes.{Bytes}
 use Rattle.model.specs.Answer.{accepted, refuse, _>>=_}
-use Rattle.model.specs.Report.{Item, sectionItem, functionItem, branchItem, lineItem, countOf, sum}
+use Rattle.model.specs.Report.{Extent, Item, sectionItem, functionItem, branchItem, lineItem, countOf, sum}
 use Rattle.model.specs.Reading.{addCalls}
-use Rattle.table_item.specs.Items.{part, kindOf, function-kind, byKind, ifGiven, itemOf, ItemRow}
+use Rattle.table_item.specs.Items.{part, kindOf, function-kind, byKind, extentIn, itemOf, ItemRow}
 use Rattle.table_item.specs.Combining.{Adds, combineOf}
 
 abbrev pub withCount : Row → ℕ → Row
@@ -32,12 +32,12 @@ pub inner-count : {text : Bytes} {r : Row} (n : ℕ) → ItemRow text r → Item
 inner-count n ι = record { good = record { kind = ι .good .kind; name = ι .good .name; checksum = ι .good .checksum }; inner = ι .inner }
 
 pub function-item : (text : Bytes) (r : Row) → kindOf r ≡ function-kind
-    → itemOf text r ≡ functionItem (part text (r .k1) (r .k2)) (ifGiven (r .tag % 2) (r .k3)) (r .count)
+    → itemOf text r ≡ functionItem (part text (r .k1) (r .k2)) (extentIn (r .tag % 2) (r .k3)) (r .count)
 unfolding itemOf
 function-item text r e = rw e
 
 -- what is no function is replaced
-other-item : (kind : ℕ) → kind ≢ function-kind → (p n : Bytes) (s : Option ℕ) (m l b h : ℕ) (t : Option ℕ) (x y : ℕ) (z : Option Bytes) (later : Item)
+other-item : (kind : ℕ) → kind ≢ function-kind → (p n : Bytes) (s : Option Extent) (m l b h : ℕ) (t : Option ℕ) (x y : ℕ) (z : Option Bytes) (later : Item)
     → accepted later ≡ addCalls (byKind kind (sectionItem p) (functionItem n s m) (branchItem l b h t) (lineItem x y z)) later
 unfolding addCalls
 other-item zero e p n s m l b h t x y z later = refl
@@ -58,17 +58,17 @@ module _ (text : Bytes) (old r : Row) where
   combined-other false e = refl
 
   added : kindOf old ≡ function-kind → kindOf r ≡ function-kind → addCalls (itemOf text old) (itemOf text r)
-      ≡ (sum CallOverflow (old .count) (r .count) >>= λ total. accepted (functionItem (part text (old .k1) (old .k2)) (ifGiven (old .tag % 2) (old .k3)) total))
+      ≡ (sum CallOverflow (old .count) (r .count) >>= λ total. accepted (functionItem (part text (old .k1) (old .k2)) (extentIn (old .tag % 2) (old .k3)) total))
   unfolding addCalls countOf
   added a b = ap₂ addCalls (function-item text old a) (function-item text r b)
 
   module _ (adds : Bool) (e : not adds ≡ false) (a : kindOf old ≡ function-kind) (b : Adds adds r) where
     both : combineOf adds (itemOf text old) (itemOf text r)
-        ≡ (sum CallOverflow (old .count) (r .count) >>= λ total. accepted (functionItem (part text (old .k1) (old .k2)) (ifGiven (old .tag % 2) (old .k3)) total))
+        ≡ (sum CallOverflow (old .count) (r .count) >>= λ total. accepted (functionItem (part text (old .k1) (old .k2)) (extentIn (old .tag % 2) (old .k3)) total))
     both = go adds e b
       where
         go : (adds : Bool) → not adds ≡ false → Adds adds r → combineOf adds (itemOf text old) (itemOf text r)
-            ≡ (sum CallOverflow (old .count) (r .count) >>= λ total. accepted (functionItem (part text (old .k1) (old .k2)) (ifGiven (old .tag % 2) (old .k3)) total))
+            ≡ (sum CallOverflow (old .count) (r .count) >>= λ total. accepted (functionItem (part text (old .k1) (old .k2)) (extentIn (old .tag % 2) (old .k3)) total))
         go true e b = added a b
         go false e b = cc
 

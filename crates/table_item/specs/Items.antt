@@ -1,14 +1,16 @@
 -- The item that a row is, together with the text. Assumes nothing.
-use Prim.Native.Nat.{ℕ, zero, suc, _+_, _/_, _%_, _≤_}
+use Prim.Native.Nat.{ℕ, zero, suc, _+_, _*_, _/_, _%_, _≤_}
 use mathlib.Core.Path.{_≡_}
 use mathlib.Core.Option.{Option, none, some}
 use lib.ListN.{length, take, drop}
 use Rattle.table.specs.declared.Row.{Row}
 use Rattle.model.specs.declared.Part.{Part}
+use Rattle.model.specs.declared.EndLine.{EndLine}
+use Rattle.model.specs.declared.EndLine.the-variants as El
 use Rattle.model.specs.declared.Checksum.{Checksum}
 use Rattle.model.specs.declared.Checksum.the-variants.{Given, Absent}
 use Rattle.model.specs.Bytes.{Bytes}
-use Rattle.model.specs.Report.{Item, sectionItem, functionItem, branchItem, lineItem}
+use Rattle.model.specs.Report.{Extent, extentAt, Item, sectionItem, functionItem, branchItem, lineItem}
 
 -- the part of the text that has a start and a length
 abbrev pub part : Bytes → ℕ → ℕ → Bytes
@@ -16,7 +18,7 @@ part text start len = take len (drop start text)
 
 -- ---- kinds
 
--- the tag is twice the kind, and one more where the start line, the taken count or the checksum is given
+-- the tag is twice the kind, and one more where the end line, the taken count or the checksum is given
 abbrev pub kindOf : Row → ℕ
 kindOf r = r .tag / 2
 
@@ -45,13 +47,40 @@ abbrev pub ifGiven : {A : Type 0} → ℕ → A → Option A
 ifGiven zero a = none
 ifGiven (suc k) a = some a
 
+-- ---- functions
+
+-- line numbers are below this
+abbrev pub line-numbers : ℕ
+line-numbers = 4_294_967_296
+
+-- what FN says, in one word: 0 where there is no FN; one more than the start line; or, where the tag says that an end line is given, the
+-- start line and `line-numbers` times the end line
+abbrev pub extentIn : ℕ → ℕ → Option Extent
+extentIn zero zero = none
+extentIn zero (suc start) = some (extentAt start none)
+extentIn (suc k) both = some (extentAt (both % line-numbers) (some (both / line-numbers)))
+
+-- the tag and the word of an FN
+abbrev pub extentTag : EndLine → ℕ
+extentTag (El.Given line) = 3
+extentTag El.Absent = 2
+
+abbrev pub extentWord : ℕ → EndLine → ℕ
+extentWord start (El.Given line) = start + line * line-numbers
+extentWord start El.Absent = start + 1
+
+-- functions without a start line come first
+abbrev pub startKey : Option Extent → ℕ
+startKey none = 0
+startKey (some x) = suc (x .start)
+
 -- ---- items
 
 unfoldable pub itemOf : Bytes → Row → Item
 itemOf text r =
     byKind (kindOf r)
     (sectionItem (part text (r .path) (r .«path_len»)))
-    (functionItem (part text (r .k1) (r .k2)) (ifGiven (r .tag % 2) (r .k3)) (r .count))
+    (functionItem (part text (r .k1) (r .k2)) (extentIn (r .tag % 2) (r .k3)) (r .count))
     (branchItem (r .k1) (r .k2) (r .k3) (ifGiven (r .tag % 2) (r .count)))
     (lineItem (r .k1) (r .count) (ifGiven (r .tag % 2) (part text (r .k2) (r .k3))))
 

@@ -2,6 +2,7 @@
 // the lent text, so a row means an item only together with the text.
 use compare::Order;
 use model::Checksum;
+use model::EndLine;
 use model::Part;
 use model::Taken;
 use table::Row;
@@ -12,15 +13,15 @@ ghost use Prim.Native.Nat.{ℕ, _+_, _≤_};
 ghost use lib.ListN.{length};
 ghost use Rattle.model.specs.Order.{isLess};
 ghost use Rattle.model.specs.Bytes.{compareBytes};
-ghost use Rattle.model.specs.Report.{functionItem, branchItem, lineItem, compareItems};
-ghost use Rattle.model.specs.Parts.{takenIn};
+ghost use Rattle.model.specs.Report.{extentAt, functionItem, branchItem, lineItem, extentOf, endOf, compareItems};
+ghost use Rattle.model.specs.Parts.{endIn, takenIn};
 ghost use Rattle.compare.specs.Orders.{orderOf};
 ghost use Rattle.table.specs.Places.{PartitionPoint};
-ghost use Rattle.table_item.specs.Items.{part, itemOf, ItemInBounds, ItemRow, partIn, PartInside, checksumPart, ChecksumInside, itemRow, Makes};
+ghost use Rattle.table_item.specs.Items.{part, extentTag, extentWord, startKey, itemOf, ItemInBounds, ItemRow, partIn, PartInside, checksumPart, ChecksumInside, itemRow, Makes};
 ghost use Rattle.table_item.specs.SortedItems.{itemFrom, SortedItems, FoundPlace};
 ghost use Rattle.table_item.specs.Combining.{Adds, combineOf, seenOne, InnerOne};
 
-// The kinds of a row; a section's header row is the first. The tag is twice the kind, plus one where the start line,
+// The kinds of a row; a section's header row is the first. The tag is twice the kind, plus one where the end line,
 // the taken count or the checksum is given.
 pub const SECTION: u64 = 0;
 
@@ -34,17 +35,63 @@ pub const LINE: u64 = 3;
 // specs/Items.antt.
 pub const TOMBSTONE: u64 = 1;
 
-// "FN:10,main"
-pub fn start_row(name: Part, start: u32) -> Row
-    ensures { λ r. ⌜ Makes r (λ text. functionItem (partIn text name) (some start) 0) (λ text. PartInside text name) ⌝ }
+// So many lines have numbers: `line-numbers` in specs/Items.antt.
+const LINE_NUMBERS: u64 = 4294967296;
+
+// The tag of a function that FN names: whether an end line is given.
+fn extent_tag(end: EndLine) -> u64
+    ensures { λ r. ⌜ r ≡ extentTag end ⌝ }
+{
+    match end {
+        EndLine::Given(_line) => FUNCTION * 2 + 1,
+        EndLine::Absent => FUNCTION * 2,
+    }
+}
+
+// Start and end line as one word. The tag says which of the two forms it has.
+fn extent_word(start: u32, end: EndLine) -> u64
+    ensures { λ r. ⌜ r ≡ extentWord start end ⌝ }
+{
+    match end {
+        EndLine::Given(line) => start as u64 + line as u64 * LINE_NUMBERS,
+        EndLine::Absent => start as u64 + 1,
+    }
+}
+
+// "FN:10,main", "FN:10,12,main"
+pub fn start_row(name: Part, start: u32, end: EndLine) -> Row
+    ensures { λ r. ⌜ Makes r (λ text. functionItem (partIn text name) (some (extentAt start (endIn end))) 0) (λ text. PartInside text name) ⌝ }
 {
     item_row(
-        FUNCTION * 2 + 1,
+        extent_tag(end),
         name.start as u64,
         name.len as u64,
-        start as u64,
+        extent_word(start, end),
         0,
     )
+}
+
+// 0 where there is no start line, and otherwise one more than that line.
+pub fn start_key(row: Row) -> u64
+    ensures { λ r. ⌜ ((text : List ℕ) → r ≡ startKey (extentOf (itemOf text row))) ⌝ }
+{
+    if row.tag / 2 != FUNCTION {
+        return 0;
+    }
+    if row.tag % 2 == 0 {
+        return row.k3;
+    }
+    row.k3 % LINE_NUMBERS + 1
+}
+
+// The line where FN says that a function ends.
+pub fn end_line(row: Row) -> EndLine
+    ensures { λ r. ⌜ ((text : List ℕ) → endIn r ≡ endOf (itemOf text row)) ⌝ }
+{
+    if row.tag != FUNCTION * 2 + 1 {
+        return EndLine::Absent;
+    }
+    EndLine::Given((row.k3 / LINE_NUMBERS) as u32)
 }
 
 // "FNDA:1,main"
@@ -161,7 +208,7 @@ pub fn comes_before(text: &[u8], x: Row, y: Row) -> bool
 }
 
 // Binary search: how many of the n items from position `at` on come before the key.
-pub fn lower_bound_item(
+fn lower_bound_item(
     text: &[u8],
     words: &[u64],
     index: usize,

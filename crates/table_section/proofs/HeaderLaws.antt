@@ -12,7 +12,7 @@ use Rattle.table.specs.Store.{row, Store}
 use Rattle.table.proofs.PlaceLaws.{by-eq, by-lt}
 use Rattle.model.specs.Bytes.{Bytes}
 use Rattle.model.specs.Path.{Path, components}
-use Rattle.model.specs.Report.{Item, sectionItem, functionItem, branchItem, lineItem, Entry, Report, SectionKey, inSection}
+use Rattle.model.specs.Report.{Extent, Item, sectionItem, functionItem, branchItem, lineItem, Entry, Report, SectionKey, inSection}
 use Rattle.model.specs.Reading.{spellingOf}
 use Rattle.model.proofs.KeyOrder.{sections-order}
 use Rattle.table_item.specs.Items.{kindOf, tombstone-tag, byKind, itemOf, ItemInBounds}
@@ -69,7 +69,7 @@ pub section-item : (text : Bytes) (r : Row) → kindOf r ≡ 0 → itemOf text r
 unfolding itemOf
 section-item text r e = rw e
 
-other-kind : (path : Bytes) (key : SectionKey) (es : Report) (kind : ℕ) → kind ≢ 0 → (p n : Bytes) (s : Option ℕ) (m l b h : ℕ) (u : Option ℕ)
+other-kind : (path : Bytes) (key : SectionKey) (es : Report) (kind : ℕ) → kind ≢ 0 → (p n : Bytes) (s : Option Extent) (m l b h : ℕ) (u : Option ℕ)
     (x y : ℕ) (z : Option Bytes)
     → spellingOf path (inSection key (byKind kind (sectionItem p) (functionItem n s m) (branchItem l b h u) (lineItem x y z)) ∷ es) ≡ path
 unfolding spellingOf

@@ -19,7 +19,7 @@ ghost use Rattle.table_section.specs.Sections.{keyOf, NamesInBounds, row
 ghost use Rattle.table_section.specs.Splice.{withSection, SectionSet, HeaderRow, Spliced};
 
 // Compares two parts of the text as paths. Equal parts at one offset are not read.
-pub fn compare_path_parts(text: &[u8], a: u64, n: u64, b: u64, m: u64) -> Order
+fn compare_path_parts(text: &[u8], a: u64, n: u64, b: u64, m: u64) -> Order
     requires { ⌜ (a + n ≤ length (now text)) × (b + m ≤ length (now text)) ⌝ }
     ensures { λ r. ⌜ orderOf r ≡ comparePaths (components (part (now (text .entry)) a n)) (components (part (now (text .entry)) b m)) ⌝ }
 {
@@ -46,7 +46,7 @@ pub fn compare_sections(text: &[u8], x: Row, y: Row) -> Order
 }
 
 // A key is past an entry that is less, and past one that is equal if `equal`.
-pub fn is_past(order: Order, equal: bool) -> bool
+fn is_past(order: Order, equal: bool) -> bool
     ensures { λ r. ⌜ r ≡ isPast equal (orderOf order) ⌝ }
 {
     match order {
@@ -195,7 +195,7 @@ pub fn with_section(row: Row, key: Row) -> Row
 }
 
 // Gives the n rows from position `from` on the section's test name and path.
-pub fn set_section(words: &mut [u64], index: usize, used: usize, from: usize, n: usize, key: Row)
+fn set_section(words: &mut [u64], index: usize, used: usize, from: usize, n: usize, key: Row)
     requires { ⌜ Store (now words) index used × (from + n ≤ used) ⌝ }
     ensures { λ _. ⌜ SectionSet (now (words .entry)) (now (words .exit)) index used from n key ⌝ }
 {

@@ -112,16 +112,21 @@ pub fn shown(bytes: &[u8]) -> String {
 #[cfg(test)]
 mod tests {
     use super::*;
+    use crate::ends::{Read, END_BEFORE_START};
     use crate::interface::{LEN, START};
+    use crate::plus;
     use crate::stand_in::Wrong;
 
     struct StandIn(Wrong);
 
     impl StandIn {
         fn expected(&self, line: &[u8]) -> Expected {
-            let unsigned = line.strip_suffix(b"+2").map(|begun| [begun, b"2"].concat());
-            match (self.0, unsigned) {
-                (Wrong::PlusTaken, Some(unsigned)) => Expected::of(&unsigned),
+            match (self.0, line) {
+                (Wrong::PlusTaken, b"DA:1,+2") => Expected::of(b"DA:1,2"),
+                (Wrong::EqualEndRefused, b"FN:3,3,f") => Expected::of(b"FN:3,2,f"),
+                (Wrong::EndIsName, _) => {
+                    Expected::by(line, |line| plus::read_line(line).map(Read::without_end))
+                }
                 _ => Expected::of(line),
             }
         }
@@ -156,13 +161,15 @@ mod tests {
 
     fn compared(wrong: Wrong) -> Comparison<StandIn> {
         let mut comparison = Comparison::new(StandIn(wrong));
-        let lines: [&[u8]; 6] = [
+        let lines: [&[u8]; 8] = [
             b"TN:a",
             b"FN:",
             b"DA:1,2,",
             b"SF:\xff",
             b"BRDA:1,2,3,4\n",
             b"DA:1,+2",
+            b"FN:3,3,f",
+            b"FN:3,2,f",
         ];
         for line in lines
             .iter()
@@ -181,8 +188,12 @@ mod tests {
         assert_eq!(comparison.differences.count, 0);
         assert_eq!(comparison.compared(), THOROUGH_ONE_IN * 5 + 1);
         assert_eq!(comparison.tally.apart, THOROUGH_ONE_IN);
-        assert_eq!(comparison.tally.thorough, 6);
-        assert_eq!(comparison.tally.too_short, 5 + 8 + 5 + 13);
+        for number in [0, END_BEFORE_START] {
+            let with_end = comparison.tally.with_end[number as usize];
+            assert_eq!(with_end, THOROUGH_ONE_IN);
+        }
+        assert_eq!(comparison.tally.thorough, 8);
+        assert_eq!(comparison.tally.too_short, 5 + 8 + 5 + 13 + 9);
     }
 
     #[test]
@@ -192,6 +203,8 @@ mod tests {
             Wrong::NewlineMissing,
             Wrong::PathOrder,
             Wrong::PlusTaken,
+            Wrong::EndIsName,
+            Wrong::EqualEndRefused,
         ];
         for wrong in Wrong::of_printing().chain(others) {
             assert!(

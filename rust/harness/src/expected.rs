@@ -1,10 +1,13 @@
-//! What the port must answer: the Rust's answer to a line, or 19 where a number has a plus sign, in the words of the C interface.
+//! What the port must answer: the Rust's answer to a line, 19 where a number has a plus sign, and the end line of an FN, in the words of the
+//! C interface.
 
+use crate::ends::{self, Read};
 use crate::interface::{
     Words, EQUAL, FIELD, FIRST_NUMBER, GIVEN, GREATER, KIND, LEN, LESS, LINE, NEEDED,
     OUTPUT_TOO_SHORT, START, TEXT, WORDS, WRITTEN,
 };
-use crate::plus::{self, SIGNED_NUMBER};
+use crate::lines::trimmed;
+use crate::plus::SIGNED_NUMBER;
 use oracle::{Fault, Record, Refusal};
 use std::borrow::Cow;
 use std::cmp::Ordering;
@@ -19,6 +22,19 @@ pub struct Answer {
     pub words: Words,
 }
 
+/// What an answer rests on.
+#[derive(Debug, Clone, Copy, PartialEq, Eq)]
+pub enum Basis {
+    /// The Rust's answer.
+    Rust,
+    /// The Rust gives another answer, and a refusal was asked for: a number has a plus sign, or a section a second SF. The Rust is still
+    /// asked about all that comes before.
+    Refusal,
+    /// An FN has an end line, which the Rust takes for a part of the name. It is asked about the same without end lines, and these are put in
+    /// by what SPEC says of them.
+    Ends,
+}
+
 pub struct Expected {
     /// What reading the line answers.
     pub read: Answer,
@@ -26,32 +42,37 @@ pub struct Expected {
     pub printed: Option<Vec<u8>>,
     /// The line is not UTF-8, so the Rust could only be asked about one that stands in for it.
     pub outside: bool,
-    /// The Rust answers otherwise, as was asked for: a number has a plus sign.
-    pub apart: bool,
+    pub basis: Basis,
 }
 
 impl Expected {
     pub fn of(line: &[u8]) -> Self {
+        Expected::by(line, ends::read_line)
+    }
+
+    /// By what a reader tells of the line.
+    pub fn by(line: &[u8], read_line: impl Fn(&[u8]) -> Result<Read, Fault>) -> Self {
         let outside = std::str::from_utf8(line).is_err();
         let asked = if outside {
             Cow::Owned(stub(line))
         } else {
             Cow::Borrowed(line)
         };
-        match plus::read_line(&asked) {
-            Ok(record) => Expected {
-                read: read(&record, &asked),
-                printed: Some(printed(&record, line)),
-                outside,
-                apart: false,
-            },
-            Err(Fault::Refused(refusal)) => Expected {
-                read: refused(refusal),
-                printed: None,
-                outside,
-                apart: refusal.number == SIGNED_NUMBER,
-            },
+        let (read, printed) = match read_line(&asked) {
+            Ok(told) => (read(&told, &asked), Some(printed(&told, line))),
+            Err(Fault::Refused(refusal)) => (refused(refusal), None),
             Err(Fault::Outside) => unreachable!("a line that is UTF-8 can be asked"),
+        };
+        let basis = match read.number {
+            _ if ends::has_end(&asked) => Basis::Ends,
+            SIGNED_NUMBER => Basis::Refusal,
+            _ => Basis::Rust,
+        };
+        Expected {
+            read,
+            printed,
+            outside,
+            basis,
         }
     }
 
@@ -71,13 +92,14 @@ fn stub(line: &[u8]) -> Vec<u8> {
 
 // ---- reading
 
-fn read(record: &Record, line: &[u8]) -> Answer {
+fn read(Read { record, end }: &Read, line: &[u8]) -> Answer {
     let mut words = [0; WORDS];
     words[KIND] = record.kind() as u64 + 1;
-    for (place, number) in numbers(record).into_iter().enumerate() {
+    let numbers = numbers(record).into_iter().chain(end.map(u64::from));
+    for (place, number) in numbers.enumerate() {
         words[FIRST_NUMBER + place] = number;
     }
-    words[GIVEN] = given(record).into();
+    words[GIVEN] = (end.is_some() || given(record)).into();
     if let Some(text) = text(record) {
         let start = start_of_text(text.len(), line);
         assert_eq!(text, &line[start..start + text.len()]);
@@ -87,7 +109,7 @@ fn read(record: &Record, line: &[u8]) -> Answer {
     Answer { number: 0, words }
 }
 
-/// The numbers in the order of their fields; a taken count that is none counts as 0.
+/// The Rust's numbers in the order of their fields; a taken count that is none counts as 0.
 fn numbers(record: &Record) -> Vec<u64> {
     match *record {
         Record::TestName { .. } | Record::SourceFile { .. } | Record::EndOfRecord => vec![],
@@ -130,12 +152,7 @@ fn text(record: &Record) -> Option<&[u8]> {
 
 /// The Rust hands out a copy. A text is always the last field, so it ends where the line does, bytes 10 and 13 dropped.
 fn start_of_text(len: usize, line: &[u8]) -> usize {
-    let dropped = line
-        .iter()
-        .rev()
-        .take_while(|&&byte| byte == b'\n' || byte == b'\r')
-        .count();
-    line.len() - dropped - len
+    trimmed(line).len() - len
 }
 
 /// An answer that has one word: what was written, how many pairs there are, or whether one is held.
@@ -159,8 +176,8 @@ pub fn refused(refusal: Refusal) -> Answer {
 // ---- printing
 
 /// The text is taken from the line itself, which the record may only stand in for.
-fn printed(record: &Record, line: &[u8]) -> Vec<u8> {
-    let mut printed = oracle::print_record(record);
+fn printed(Read { record, end }: &Read, line: &[u8]) -> Vec<u8> {
+    let mut printed = ends::print_record(record, *end);
     if let Some(text) = text(record) {
         let start = start_of_text(text.len(), line);
         printed.truncate(printed.len() - text.len());
@@ -215,6 +232,9 @@ mod tests {
         assert_eq!(words(b"TN:a,b\n"), (0, [1, 0, 0, 0, 0, 0, 3, 3]));
         assert_eq!(words(b"SF:/m.c\r\n"), (0, [2, 0, 0, 0, 0, 0, 3, 4]));
         assert_eq!(words(b"FN:07,f"), (0, [3, 7, 0, 0, 0, 0, 6, 1]));
+        assert_eq!(words(b"FN:07,08,f"), (0, [3, 7, 8, 0, 0, 1, 9, 1]));
+        assert_eq!(words(b"FN:7,,f"), (0, [3, 7, 0, 0, 0, 0, 5, 2]));
+        assert_eq!(words(b"FN:0,0,"), (0, [3, 0, 0, 0, 0, 1, 7, 0]));
         assert_eq!(words(b"FNDA:2,f,g"), (0, [4, 2, 0, 0, 0, 0, 7, 3]));
         assert_eq!(words(b"FNF:3"), (0, [5, 3, 0, 0, 0, 0, 0, 0]));
         assert_eq!(words(b"FNH:3"), (0, [6, 3, 0, 0, 0, 0, 0, 0]));
@@ -236,13 +256,22 @@ mod tests {
         assert_eq!(words(b"BRDA:1,0,0,"), (4, [0, 1, 4, 0, 0, 0, 0, 0]));
         assert_eq!(words(b"LF:1,2"), (3, [0, 1, 0, 0, 0, 0, 0, 0]));
         assert_eq!(words(b"BRDA:1,0,0,+5"), (19, [0, 1, 4, 0, 0, 0, 0, 0]));
+        assert_eq!(words(b"FN:7,6,f"), (23, [0, 1, 0, 0, 0, 0, 0, 0]));
+        assert_eq!(words(b"FN:7,4294967296,f"), (6, [0, 1, 2, 0, 0, 0, 0, 0]));
     }
 
     #[test]
-    fn a_line_with_a_plus_sign_is_kept_apart() {
-        let apart = |line: &[u8]| Expected::of(line).apart;
-        assert!(apart(b"DA:+1,x") && apart(b"FN:+1,\xff"));
-        assert!(!apart(b"DA:x,+1") && !apart(b"TN:+1") && !apart(b"DA:1,2"));
+    fn plus_signs_and_end_lines_are_kept_apart() {
+        let basis = |line: &[u8]| Expected::of(line).basis;
+        for line in [&b"DA:+1,x"[..], b"FN:+1,\xff"] {
+            assert_eq!(basis(line), Basis::Refusal);
+        }
+        for line in [&b"DA:x,+1"[..], b"TN:+1", b"DA:1,2", b"FN:1,2", b"FN:1,,f"] {
+            assert_eq!(basis(line), Basis::Rust);
+        }
+        for line in [&b"FN:1,2,f"[..], b"FN:2,1,\xff", b"FN:+1,2,f"] {
+            assert_eq!(basis(line), Basis::Ends);
+        }
     }
 
     #[test]
@@ -251,6 +280,8 @@ mod tests {
         assert!(name.outside);
         assert_eq!(name.read.words, [3, 7, 0, 0, 0, 0, 6, 3]);
         assert_eq!(name.printed.unwrap(), b"FN:7,\xff\xfe,\n");
+        let end = Expected::of(b"FN:07,8,\xff,\n");
+        assert_eq!(end.printed.unwrap(), b"FN:7,8,\xff,\n");
         assert_eq!(words(b"FN:7\xff,f"), (5, [0, 1, 1, 0, 0, 0, 0, 0]));
         assert_eq!(words(b"TN\xff:a"), (1, [0, 1, 0, 0, 0, 0, 0, 0]));
     }

@@ -6,6 +6,7 @@
 pub mod calls;
 pub mod compare;
 pub mod differences;
+pub mod ends;
 pub mod expected;
 pub mod guarded;
 pub mod interface;

@@ -1,5 +1,5 @@
 //! Compares the port with the unchanged Rust on lines, paths, ranges, texts, filters and bundles, and with what include/lcov.h says on
-//! single number fields.
+//! single number fields. Where an FN has an end line, the Rust is asked about the same without end lines, and these are put in here.
 //!
 //!     harness [--seed N] [--minutes M | [--lines N] [--numbers N] [--ranges N] [--reports N]]
 //!

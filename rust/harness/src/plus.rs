@@ -1,6 +1,6 @@
 //! Number fields that begin with a plus sign. The Rust takes the sign; the port refuses the field with 19, as was asked for.
 
-use crate::lines::LAYOUTS;
+use crate::lines::{trimmed, LAYOUTS};
 use oracle::{Fault, Record, Refusal};
 use std::ops::Range;
 
@@ -35,14 +35,13 @@ fn refusal(line: &[u8]) -> Option<Refusal> {
 
 /// The first number field that begins with a plus sign: its number from 1, and where it stands in the line.
 fn first_signed(line: &[u8]) -> Option<(u32, Range<usize>)> {
-    let ends = |byte: &u8| matches!(byte, b'\n' | b'\r');
-    let len = line.len() - line.iter().rev().take_while(|&byte| ends(byte)).count();
-    let colon = line[..len].iter().position(|&byte| byte == b':')?;
+    let line = trimmed(line);
+    let colon = line.iter().position(|&byte| byte == b':')?;
     let tag = &line[..colon];
     let layout = LAYOUTS.iter().find(|layout| layout.tag.as_bytes() == tag)?;
     let mut start = colon + 1;
     for (number, form) in (1..).zip(layout.fields) {
-        let rest = line.get(start..len)?;
+        let rest = line.get(start..)?;
         let comma = rest.iter().position(|&byte| byte == b',');
         let end = start + comma.unwrap_or(rest.len());
         if !form.is_text() && rest.starts_with(b"+") {

@@ -1,6 +1,8 @@
-//! The recorded sample: lines and the Rust's answers to them, but 19 where a number has a plus sign, for a replay without Rust.
+//! The recorded sample: lines and the Rust's answers to them, but 19 where a number has a plus sign, and FN with its end line, for a replay
+//! without Rust.
 
-use crate::expected::Expected;
+use crate::ends::END_BEFORE_START;
+use crate::expected::{Basis, Expected};
 use crate::interface::{FIELD, KIND, LINE};
 use crate::lines::{random, systematic, LAYOUTS};
 use crate::plus::SIGNED_NUMBER;
@@ -10,9 +12,12 @@ use std::collections::HashSet;
 
 pub const SEED: u64 = 53;
 
-/// How often each answer comes: each of the thirteen kinds, and each refusal.
+/// How often each answer comes: each of the thirteen kinds, each refusal, and FN with an end line.
 const EACH: usize = 210;
-const ANSWERS: usize = LAYOUTS.len() + LINE_REFUSALS + 1;
+const SIGNED: usize = LAYOUTS.len() + LINE_REFUSALS;
+const WITH_END: usize = SIGNED + 1;
+const ENDS_BEFORE: usize = SIGNED + 2;
+const ANSWERS: usize = SIGNED + 3;
 
 const LONGEST: usize = 200;
 
@@ -82,15 +87,17 @@ fn candidate(rng: &mut Rng, listed: &[Vec<u8>]) -> Vec<u8> {
     }
 }
 
-/// Kinds first, then refusals, 19 the last; None for a line outside the domain of comparison.
+/// Kinds first, then refusals; None for a line outside the domain of comparison.
 fn answer_of(line: &[u8]) -> Option<usize> {
     let expected = Expected::of(line);
     if expected.outside {
         return None;
     }
     Some(match expected.read.number {
+        0 if expected.basis == Basis::Ends => WITH_END,
         0 => expected.read.words[KIND] as usize - 1,
-        SIGNED_NUMBER => ANSWERS - 1,
+        SIGNED_NUMBER => SIGNED,
+        END_BEFORE_START => ENDS_BEFORE,
         number => LAYOUTS.len() + number as usize - 1,
     })
 }
@@ -119,7 +126,7 @@ pub fn decoded(mut bytes: &[u8]) -> Option<Vec<Vec<u8>>> {
     Some(lines)
 }
 
-/// What the Rust answers to the lines, or 19.
+/// What the port must answer to the lines.
 pub fn answers(lines: &[Vec<u8>]) -> Vec<u8> {
     lines.iter().flat_map(|line| answer(line)).collect()
 }
@@ -164,6 +171,11 @@ mod tests {
             let came = lines.iter().filter(|line| answer_of(line) == Some(answer));
             assert_eq!(came.count(), EACH);
         }
+        let too_large = answers(&lines)
+            .split(|&byte| byte == b'\n')
+            .filter(|answer| answer == b"refused 6 0 1 2")
+            .count();
+        assert!(too_large > 0);
     }
 
     #[test]
@@ -181,10 +193,12 @@ mod tests {
             b"FN:5".to_vec(),
             b"LF:1,2".to_vec(),
             b"DA:01,+2,-".to_vec(),
+            b"FN:01,02,f".to_vec(),
+            b"FN:2,1,f".to_vec(),
+            b"FN:2,4294967296,f".to_vec(),
         ];
-        assert_eq!(
-            answers(&lines),
-            b"DA:1,2\nrefused 2 0 1 2\nrefused 3 0 1 0\nrefused 19 0 1 2\n"
-        );
+        let expected = "DA:1,2\nrefused 2 0 1 2\nrefused 3 0 1 0\nrefused 19 0 1 2\n\
+            FN:1,2,f\nrefused 23 0 1 0\nrefused 6 0 1 2\n";
+        assert_eq!(answers(&lines), expected.as_bytes());
     }
 }

@@ -28,6 +28,10 @@ pub enum Wrong {
 
     // with lines and texts
     PlusTaken,
+    EndIsName,
+
+    // with lines
+    EqualEndRefused,
 
     // with number fields
     PlusIsBadDigit,

@@ -1,6 +1,6 @@
 //! How often each kind of answer came.
 
-use crate::expected::Expected;
+use crate::expected::{Basis, Expected};
 use crate::interface::{EQUAL, GREATER, KIND, LESS};
 use crate::lines::LAYOUTS;
 use std::fmt;
@@ -36,7 +36,7 @@ pub const NAMES: [&str; NUMBERS] = [
     "",
     "",
     "",
-    "",
+    "end before start",
     "",
     "second SF",
 ];
@@ -51,6 +51,8 @@ pub struct Tally {
     pub outside: [u64; 2],
     /// Lines that the Rust answers otherwise: a number has a plus sign.
     pub apart: u64,
+    /// FN with an end line, by the number of the answer.
+    pub with_end: [u64; NUMBERS],
     /// Pairs of paths by their order.
     pub paths: [u64; 3],
     /// Lines asked again with every length of answer and of output.
@@ -62,12 +64,13 @@ pub struct Tally {
 impl Tally {
     pub fn count_line(&mut self, expected: &Expected) {
         let number = expected.read.number as usize;
-        let counted = match (expected.outside, number) {
-            _ if expected.apart => &mut self.apart,
-            (true, 0) => &mut self.outside[0],
-            (true, _) => &mut self.outside[1],
-            (false, 0) => &mut self.read[expected.read.words[KIND] as usize - 1],
-            (false, number) => &mut self.refused[number - 1],
+        let counted = match (expected.basis, expected.outside, number) {
+            (Basis::Refusal, ..) => &mut self.apart,
+            (Basis::Ends, ..) => &mut self.with_end[number],
+            (Basis::Rust, true, 0) => &mut self.outside[0],
+            (Basis::Rust, true, _) => &mut self.outside[1],
+            (Basis::Rust, false, 0) => &mut self.read[expected.read.words[KIND] as usize - 1],
+            (Basis::Rust, false, number) => &mut self.refused[number - 1],
         };
         *counted += 1;
     }
@@ -76,7 +79,7 @@ impl Tally {
         self.paths[order as usize] += 1;
     }
 
-    /// Those that were compared.
+    /// Those that were compared with the Rust.
     pub fn lines(&self) -> u64 {
         self.read.iter().sum::<u64>()
             + self.refused.iter().sum::<u64>()
@@ -84,7 +87,7 @@ impl Tally {
     }
 
     pub fn asked(&self) -> u64 {
-        self.lines() + self.apart
+        self.lines() + self.apart + self.with_end.iter().sum::<u64>()
     }
 
     pub fn pairs(&self) -> u64 {
@@ -106,8 +109,15 @@ impl fmt::Display for Tally {
                 ("outside, read", self.outside[0]),
                 ("outside, refused", self.outside[1]),
                 ("lines", self.lines()),
-                ("lines apart, not compared", self.apart),
-                ("  of both with every length", self.thorough),
+                ("plus sign, 19", self.apart),
+            ],
+        )?;
+        numbered(f, "end line", self.with_end.map(|count| [count]))?;
+        rows(
+            f,
+            &[
+                ("all lines", self.asked()),
+                ("  of them with every length", self.thorough),
                 ("  outputs too short", self.too_short),
                 ("paths, less", self.paths[LESS as usize]),
                 ("paths, equal", self.paths[EQUAL as usize]),
@@ -115,6 +125,22 @@ impl fmt::Display for Tally {
             ],
         )
     }
+}
+
+/// What the Rust answers otherwise for some reason: a row for each number that came.
+pub fn numbered<const N: usize>(
+    f: &mut fmt::Formatter,
+    why: &str,
+    counts: [[u64; N]; NUMBERS],
+) -> fmt::Result {
+    let came = counts
+        .iter()
+        .enumerate()
+        .filter(|(_, cells)| cells.iter().any(|&cell| cell > 0));
+    for (number, cells) in came {
+        row(f, &format!("{why}, {number} {}", NAMES[number]), cells)?;
+    }
+    Ok(())
 }
 
 /// A row for each count.
@@ -126,7 +152,7 @@ pub fn rows(f: &mut fmt::Formatter, counts: &[(&str, u64)]) -> fmt::Result {
 
 /// What was counted, and the cells beside it.
 pub fn row(f: &mut fmt::Formatter, what: &str, cells: &[impl fmt::Display]) -> fmt::Result {
-    write!(f, "{what:<29}")?;
+    write!(f, "{what:<30}")?;
     for cell in cells {
         write!(f, "{cell:>10}")?;
     }

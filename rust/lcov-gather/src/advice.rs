@@ -9,6 +9,9 @@ pub const CUT: &str = "the file is cut; get it again";
 
 pub const UNENDED: &str = "an end_of_record is missing before this line";
 
+const ENDS_BEFORE: &str =
+    "a function ends on its start line or on a later one; capture the file again, or correct the line";
+
 pub const DAMAGED: &str = "a count is damaged; leave the file out, as --keep-going does";
 
 pub const LARGE_SECTION: &str = "capture that source file without branches, or in parts";
@@ -18,11 +21,14 @@ pub const LARGE_FILE: &str =
 
 /// For a line that is refused by itself; `part` is what is refused of it.
 pub fn for_line(refusal: &Refusal, line: &[u8], part: &[u8]) -> String {
+    if refusal.number == 23 {
+        return ENDS_BEFORE.to_owned();
+    }
     let Some(form) = Form::of(line) else {
         return for_tag(part, refusal.line);
     };
     let place = refusal.field.saturating_sub(1) as usize;
-    let field = form.fields.get(place).copied();
+    let field = form.fields_of(line).nth(place);
     let words = format!("the line has the form {}", form.words());
     match (refusal.number, field) {
         (5, Some(Field::Count(_))) if is_negative(part) => {

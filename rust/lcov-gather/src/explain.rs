@@ -81,7 +81,7 @@ pub fn explain(refusal: &Refusal, sources: Sources, rules: Rules) -> String {
         rules,
     };
     let explained = match refusal.number {
-        1..=6 | 19 => case.of_line(),
+        1..=6 | 19 | 23 => case.of_line(),
         7 | 25 => case.of_unended(),
         8 => Some(case.of_end()),
         9 => case.of_calls(),
@@ -183,6 +183,9 @@ pub fn line_words(refusal: &Refusal, line: &[u8]) -> String {
     let part = match refusal.number {
         1 => tag_of(line),
         3 => excess_of(line),
+        // FNL of lcov 2.3 has an index before the start line.
+        23 if line.starts_with(b"FNL:") => field_of(line, 3),
+        23 => field_of(line, 2),
         _ => field_of(line, refusal.field),
     };
     let advice = advice::for_line(refusal, line, &line[part.clone()]);

@@ -1,6 +1,7 @@
 //! The form of a line: its tag, its fields, and where they stand in it.
 
 use self::Field::{Count, Small, Text};
+use crate::record::begins_with_end;
 use std::ops::Range;
 
 /// A tag and its fields.
@@ -42,11 +43,14 @@ impl Field {
     }
 }
 
+/// FN gives it or not.
+const END: Field = Small("END");
+
 /// In the order of SPEC 2.4.
 pub const FORMS: [Form; 13] = [
     form("TN", &[Text("NAME")]),
     form("SF", &[Text("PATH")]),
-    form("FN", &[Small("START"), Text("NAME")]),
+    form("FN", &[Small("START"), END, Text("NAME")]),
     form("FNDA", &[Count("COUNT"), Text("NAME")]),
     form("FNF", &[Small("FOUND")]),
     form("FNH", &[Small("HIT")]),
@@ -78,6 +82,13 @@ impl Form {
         FORMS.into_iter().find(|form| form.tag.as_bytes() == tag)
     }
 
+    /// The fields that a line of the form has or lacks: an end line only where the line gives one.
+    pub fn fields_of(&self, line: &[u8]) -> impl Iterator<Item = Field> {
+        let has_end = begins_with_end(&line[field_of(line, 2).start..]);
+        let fields = self.fields.iter().copied();
+        fields.filter(move |&field| field != END || has_end)
+    }
+
     /// As `DA:LINE,COUNT[,CHECKSUM]`.
     pub fn words(&self) -> String {
         let mut words = self.tag.to_owned();
@@ -85,7 +96,7 @@ impl Form {
             let name = field.name();
             match (place, name) {
                 (0, _) => words += &format!(":{name}"),
-                (_, "CHECKSUM") => words += &format!("[,{name}]"),
+                (_, "CHECKSUM" | "END") => words += &format!("[,{name}]"),
                 _ => words += &format!(",{name}"),
             }
         }
@@ -136,7 +147,7 @@ mod tests {
             let needed: Vec<&str> = form
                 .fields
                 .iter()
-                .filter(|field| field.name() != "CHECKSUM")
+                .filter(|field| !matches!(field.name(), "CHECKSUM" | "END"))
                 .map(|_| "1")
                 .collect();
             let line = |fields: &[&str]| format!("{}:{}", form.tag, fields.join(","));
@@ -165,8 +176,24 @@ mod tests {
         let words = |line: &str| Form::of(line.as_bytes()).map(|form| form.words());
         assert_eq!(words("DA:1").unwrap(), "DA:LINE,COUNT[,CHECKSUM]");
         assert_eq!(words("BRDA").unwrap(), "BRDA:LINE,BLOCK,BRANCH,TAKEN");
+        assert_eq!(words("FN:1").unwrap(), "FN:START[,END],NAME");
         assert_eq!(words("end_of_record").unwrap(), "end_of_record");
         assert_eq!(words("da:1"), None);
+    }
+
+    #[test]
+    fn the_end_line_is_a_field_where_it_is_given() {
+        let names = |line: &str| {
+            let fields = Form::of(line.as_bytes())
+                .unwrap()
+                .fields_of(line.as_bytes());
+            fields.map(Field::name).collect::<Vec<_>>()
+        };
+        assert_eq!(names("FN:1,2,f"), ["START", "END", "NAME"]);
+        for line in ["FN:1,f", "FN:1,2", "FN:1,2x,f", "FN:1", "FN"] {
+            assert_eq!(names(line), ["START", "NAME"], "{line}");
+        }
+        assert_eq!(names("DA:1,2,3"), ["LINE", "COUNT", "CHECKSUM"]);
     }
 
     #[test]

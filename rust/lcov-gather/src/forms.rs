@@ -1,17 +1,14 @@
 //! Lines that other producers write, read as records that the library knows (`--as-geninfo` alone).
 //!
 //! A count below 0 is read as 0, and in BRDA as `-`: so lcov reads them. A block `e5` in BRDA, which lcov 2.x writes of a branch that an exception takes, is read
-//! as block 5 + 2^31. FNL and FNA of lcov 2.3 are read as FN and FNDA. All other lines stay as they are, for the library to take or refuse.
+//! as block 5 + 2^31. FNL and FNA of lcov 2.3 are read as FN, with the end line if FNL gives one, and FNDA. All other lines stay as they are, for the library to take or refuse.
 
-use crate::record::{self, without_end, Record};
+use crate::record::{self, begins_with_end, without_end, Record};
 use std::collections::HashMap;
 use std::ops::AddAssign;
 
 /// The blocks of exceptions begin here.
 pub const EXCEPTION: u32 = 1 << 31;
-
-/// What is told of an FN with an end line.
-pub const END_LINE: &str = "FN with an end line, as lcov 2.0 writes it, is not read; capture by lcov 1.16, or remove the end lines";
 
 /// How many lines of a file have each form.
 #[derive(Debug, Clone, Copy, Default, PartialEq, Eq)]
@@ -98,41 +95,54 @@ fn exception(field: &[u8]) -> Option<u32> {
     block.checked_add(EXCEPTION).filter(|_| block < EXCEPTION)
 }
 
-/// Whether the name of an FN begins with the end line that lcov 2.0 writes: digits and a comma.
-pub fn has_end_line(name: &[u8]) -> bool {
-    let digits = name.iter().take_while(|byte| byte.is_ascii_digit()).count();
-    digits > 0 && name.get(digits) == Some(&b',')
+/// Where a function starts and, where FNL says so, ends.
+#[derive(Debug, Clone, Copy, PartialEq, Eq)]
+pub struct Extent {
+    pub start: u32,
+    pub end: Option<u32>,
+}
+
+impl Extent {
+    /// The FN line of a name.
+    pub fn line(self, name: &[u8]) -> Vec<u8> {
+        let numbers = match self.end {
+            Some(end) => format!("FN:{},{end},", self.start),
+            None => format!("FN:{},", self.start),
+        };
+        [numbers.as_bytes(), name, b"\n"].concat()
+    }
 }
 
 /// What an FNL or FNA line of a section gives.
 #[derive(Debug, PartialEq, Eq)]
 pub enum Given<'a> {
-    /// FNL: the index has its start line.
+    /// FNL: the index has its lines.
     Start,
+    /// FNL whose end line is below its start line, which the library refuses in FN.
+    Backwards(Extent),
     /// FNA: a function.
     Function {
-        start: u32,
+        extent: Extent,
         count: u64,
         name: &'a [u8],
         is_negative: bool,
     },
     /// FNA of an index that no FNL before it gives.
     Unknown(u32),
+    /// FNA of a name that FN would take for an end line and a name, since its FNL gives no end line.
+    Ambiguous(&'a [u8]),
 }
 
-/// The start lines of a section's functions by their indices. Several names may share one.
+/// The lines of a section's functions by their indices. Several names may share one.
 #[derive(Default)]
-pub struct Functions(HashMap<u32, u32>);
+pub struct Functions(HashMap<u32, Extent>);
 
 impl Functions {
     /// None for a line that is neither FNL nor FNA, or not well formed.
     pub fn take<'a>(&mut self, line: &'a [u8]) -> Option<Given<'a>> {
         let line = without_end(line);
         if let Some(body) = line.strip_prefix(b"FNL:") {
-            let fields: Option<Vec<u32>> = body.split(|&byte| byte == b',').map(number).collect();
-            let fields = fields.filter(|fields| matches!(fields.len(), 2 | 3))?;
-            self.0.insert(fields[0], fields[1]);
-            return Some(Given::Start);
+            return self.take_lines(body);
         }
         let mut fields = line.strip_prefix(b"FNA:")?.splitn(3, |&byte| byte == b',');
         let index: u32 = number(fields.next()?)?;
@@ -140,15 +150,34 @@ impl Functions {
         let name = fields.next()?;
         let is_negative = is_negative(count);
         let count = if is_negative { 0 } else { number(count)? };
-        let Some(&start) = self.0.get(&index) else {
+        let Some(&extent) = self.0.get(&index) else {
             return Some(Given::Unknown(index));
         };
+        if extent.end.is_none() && begins_with_end(name) {
+            return Some(Given::Ambiguous(name));
+        }
         Some(Given::Function {
-            start,
+            extent,
             count,
             name,
             is_negative,
         })
+    }
+
+    /// The body of FNL: index, start line and perhaps end line.
+    fn take_lines<'a>(&mut self, body: &[u8]) -> Option<Given<'a>> {
+        let fields: Option<Vec<u32>> = body.split(|&byte| byte == b',').map(number).collect();
+        let (index, start, end) = match fields?[..] {
+            [index, start] => (index, start, None),
+            [index, start, end] => (index, start, Some(end)),
+            _ => return None,
+        };
+        let extent = Extent { start, end };
+        self.0.insert(index, extent);
+        match end {
+            Some(end) if end < start => Some(Given::Backwards(extent)),
+            _ => Some(Given::Start),
+        }
     }
 }
 
@@ -178,10 +207,9 @@ fn line_in_place(bytes: &[u8], functions: &mut Functions) -> Vec<u8> {
     }
     match functions.take(bytes) {
         Some(Given::Start) => b"FNF:0\n".to_vec(),
-        Some(Given::Function { start, name, .. }) => {
-            [format!("FN:{start},").as_bytes(), name, b"\n"].concat()
-        }
-        Some(Given::Unknown(_)) | None => bytes.to_vec(),
+        Some(Given::Backwards(extent)) => extent.line(b""),
+        Some(Given::Function { extent, name, .. }) => extent.line(name),
+        Some(Given::Unknown(_) | Given::Ambiguous(_)) | None => bytes.to_vec(),
     }
 }
 
@@ -257,23 +285,43 @@ mod tests {
     }
 
     #[test]
+    fn end_lines_of_functions() {
+        let mut functions = Functions::default();
+        let [backwards, open] =
+            [(9, Some(8)), (30, None)].map(|(start, end)| Extent { start, end });
+        let refused = Some(Given::Backwards(backwards));
+        assert_eq!(functions.take(b"FNL:2,9,8\n"), refused);
+        assert_eq!(functions.take(b"FNL:2,9,9\n"), Some(Given::Start));
+        assert_eq!(functions.take(b"FNL:3,30\n"), Some(Given::Start));
+        let ambiguous = Some(Given::Ambiguous(b"2,h"));
+        assert_eq!(functions.take(b"FNA:3,3,2,h"), ambiguous);
+        assert_eq!(backwards.line(b"2,g"), b"FN:9,8,2,g\n");
+        assert_eq!(open.line(b"h"), b"FN:30,h\n");
+    }
+
+    #[test]
     fn functions_by_index() {
         let mut functions = Functions::default();
         assert_eq!(functions.take(b"FNA:0,1,f"), Some(Given::Unknown(0)));
         assert_eq!(functions.take(b"FNL:0,10,20\n"), Some(Given::Start));
         assert_eq!(functions.take(b"FNL:1,30\n"), Some(Given::Start));
-        let function = |start, count, name, is_negative| {
+        let function = |extent, count, name, is_negative| {
             Some(Given::Function {
-                start,
+                extent,
                 count,
                 name,
                 is_negative,
             })
         };
-        let both = [&b"FNA:0,7,f<a,b>\r\n"[..], b"FNA:0,7,g\n"];
-        assert_eq!(functions.take(both[0]), function(10, 7, b"f<a,b>", false));
-        assert_eq!(functions.take(both[1]), function(10, 7, b"g", false));
-        assert_eq!(functions.take(b"FNA:1,-3,h"), function(30, 0, b"h", true));
+        let extent = |start, end| Extent { start, end };
+        let both = [&b"FNA:0,7,f<a,b>\r\n"[..], b"FNA:0,7,2,g\n"];
+        let (ended, open) = (extent(10, Some(20)), extent(30, None));
+        assert_eq!(
+            functions.take(both[0]),
+            function(ended, 7, b"f<a,b>", false)
+        );
+        assert_eq!(functions.take(both[1]), function(ended, 7, b"2,g", false));
+        assert_eq!(functions.take(b"FNA:1,-3,h"), function(open, 0, b"h", true));
         for wrong in [
             "FNL:1",
             "FNL:1,2,3,4",
@@ -285,14 +333,6 @@ mod tests {
             "FN:1,f",
         ] {
             assert_eq!(functions.take(wrong.as_bytes()), None, "{wrong}");
-        }
-    }
-
-    #[test]
-    fn end_lines_of_lcov_2_0() {
-        assert!(has_end_line(b"168,name"));
-        for name in ["name", "168", "168name,x", ",x", ""] {
-            assert!(!has_end_line(name.as_bytes()), "{name}");
         }
     }
 }

@@ -144,7 +144,7 @@ impl Items {
 
 fn item_of(line: u32, record: Record) -> Option<Item> {
     let (key, given, count) = match record {
-        Record::Function { start, name } => {
+        Record::Function { start, name, .. } => {
             (Key::Function(name.to_vec()), Some(Given::Start(start)), 0)
         }
         Record::Calls { name, .. } => (Key::Function(name.to_vec()), None, 0),

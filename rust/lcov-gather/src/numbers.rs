@@ -36,9 +36,11 @@ impl Numbers {
 /// The number fields of a line, each with the greatest number that it may hold; none where the tag is unknown.
 fn fields(line: &[u8]) -> impl Iterator<Item = (&[u8], u64)> {
     let line = without_end(line);
-    let form = Form::of(line).map_or(&[][..], |form| form.fields);
+    let forms = Form::of(line)
+        .into_iter()
+        .flat_map(|form| form.fields_of(line));
     let body = line.get(tag_of(line).end + 1..).unwrap_or_default();
-    let fields = body.split(|&byte| byte == b',').zip(form);
+    let fields = body.split(|&byte| byte == b',').zip(forms);
     fields.filter_map(|(field, form)| Some((field, form.greatest()?)))
 }
 
@@ -72,6 +74,10 @@ mod tests {
             ("TN:5", (0, 0)),
             ("SF:55", (0, 0)),
             ("FN:12,34", (1, 2)),
+            ("FN:12,034,f", (2, 5)),
+            ("FN:12,34,5,f", (2, 4)),
+            ("FN:12,34x,5", (1, 2)),
+            ("FN:12,+34,5", (1, 2)),
             ("FNDA:012,f", (1, 3)),
             ("FNF:1", (1, 1)),
             ("FNH:22", (1, 2)),
@@ -101,6 +107,7 @@ mod tests {
             ("FNA:0,7,f", (0, 0)),
             ("DA:1,+2", (1, 1)),
             ("DA:4294967296,2", (1, 1)),
+            ("FN:1,4294967296,f", (1, 1)),
             ("DA", (0, 0)),
             ("DA:", (0, 0)),
         ] {

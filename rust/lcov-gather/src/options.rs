@@ -17,7 +17,7 @@ use std::thread;
 const NAME: &str = "lcov-gather";
 
 /// More are used only where they are asked for: each takes some 4 MB.
-const THREADS: usize = 4;
+const THREADS: usize = 3;
 
 const ABOUT: &str = "\
 Joins LCOV tracefiles into one and prints it: every count is the sum over all
@@ -172,7 +172,7 @@ fn reading_arguments() -> [Arg; 5] {
         flag("as-geninfo", as_geninfo).conflicts_with("as-written"),
         flag("as-written", as_written),
         value("threads", "N", value_parser!(u16).range(1..).into())
-            .help("Use N threads; without it, as many as there are processors, at most 4"),
+            .help("Use N threads; without it, as many as there are processors, at most 3"),
         value("lines", "FILE:RANGES", value_parser!(OsString))
             .action(ArgAction::Append)
             .help(lines),

@@ -3,10 +3,11 @@
 //! A piece is what one section of a file says, or a part of it. The library gathers the pieces of each group, so that each record that
 //! counts has to be in exactly one piece, and no key twice in a piece. Nothing here is proved.
 
-use crate::forms::{self, Forms, Functions, Given};
+use crate::forms::{self, Extent, Forms, Functions, Given};
 use crate::order::{Order, Run};
 use crate::record::{lines, parse, ItemRun, Line, Record};
 use crate::sections::ordered;
+use crate::shown::shown;
 use lcov_sys::{GREATER, LESS};
 use std::cmp::Ordering;
 use std::collections::hash_map::{Entry, HashMap};
@@ -208,17 +209,11 @@ impl<'t> Cutter<'t> {
             .get_or_insert_with(|| Section::at(start, number))
     }
 
-    /// What matters only where records that come again add: what this command refuses, and blocks that exceptions have too.
+    /// What matters only where records that come again add: blocks that exceptions have too.
     #[inline]
     fn look(&mut self, line: &Line<'t>) {
-        match &line.record {
-            Some(Record::Function { name, .. }) if forms::has_end_line(name) => {
-                self.done.refuse(line.number, forms::END_LINE.to_owned());
-            }
-            Some(record) if forms::is_large_block(record) => {
-                self.done.large_block.get_or_insert(line.number);
-            }
-            _ => {}
+        if line.record.as_ref().is_some_and(forms::is_large_block) {
+            self.done.large_block.get_or_insert(line.number);
         }
     }
 
@@ -373,21 +368,27 @@ impl<'a> Split<'a> {
         }
         match self.functions.take(bytes) {
             Some(Given::Start) => self.done.forms.functions += 1,
+            Some(Given::Backwards(extent)) => self.put(0, &extent.line(b""), number),
             Some(Given::Function {
-                start,
+                extent,
                 count,
                 name,
                 is_negative,
             }) => {
                 self.done.forms.functions += 1;
                 self.done.forms.negative += u64::from(is_negative);
-                let line = [format!("FN:{start},").as_bytes(), name, b"\n"].concat();
-                self.take_record(&line, Record::Function { start, name }, number);
+                let Extent { start, end } = extent;
+                let function = Record::Function { start, end, name };
+                self.take_record(&extent.line(name), function, number);
                 let calls = [format!("FNDA:{count},").as_bytes(), name, b"\n"].concat();
                 self.take_record(&calls, Record::Calls { count, name }, number);
             }
             Some(Given::Unknown(index)) => {
                 let what = format!("FNA names index {index}, which no FNL before it in its section gives; capture the file again");
+                self.done.refuse(number, what);
+            }
+            Some(Given::Ambiguous(name)) => {
+                let what = format!("FNA names function {}, whose digits FN would take for an end line; give FNL its end line", shown(name));
                 self.done.refuse(number, what);
             }
             None => self.put(0, bytes, number),

@@ -12,6 +12,7 @@ pub enum Record<'a> {
     SourceFile(&'a [u8]),
     Function {
         start: u32,
+        end: Option<u32>,
         name: &'a [u8],
     },
     Calls {
@@ -296,8 +297,18 @@ pub fn without_end(mut line: &[u8]) -> &[u8] {
 }
 
 fn function(body: &[u8]) -> Option<Record<'_>> {
-    let (start, name) = key_number(body)?;
-    Some(Record::Function { start, name })
+    let (start, rest) = key_number(body)?;
+    let (end, name) = match begins_with_end(rest) {
+        true => key_number(rest).map(|(end, name)| (Some(end), name))?,
+        false => (None, rest),
+    };
+    Some(Record::Function { start, end, name })
+}
+
+/// Whether what follows the first comma of FN begins with an end line: digits alone, one or more, and a comma. Otherwise it is a name.
+pub fn begins_with_end(rest: &[u8]) -> bool {
+    let digits = rest.iter().take_while(|byte| byte.is_ascii_digit()).count();
+    digits > 0 && rest.get(digits) == Some(&b',')
 }
 
 fn calls(body: &[u8]) -> Option<Record<'_>> {
@@ -465,6 +476,43 @@ mod tests {
         assert!(runs > 5_000, "{runs}");
         let large = b"BRDA:2,2147483648,0,1\n";
         assert_eq!(lines(large).branch_run(), None);
+    }
+
+    #[test]
+    fn end_lines_of_functions() {
+        let read = |line: &str| match parse(line.as_bytes()) {
+            Some(Record::Function { start, end, name }) => {
+                Some((start, end, String::from_utf8(name.to_vec()).unwrap()))
+            }
+            _ => None,
+        };
+        for (line, end, name) in [
+            ("FN:1,2,f", Some(2), "f"),
+            ("FN:1,2,\r\n", Some(2), ""),
+            ("FN:1,2,3,f", Some(2), "3,f"),
+            ("FN:1,000000000000000000000000000002,f", Some(2), "f"),
+            ("FN:1,4294967295,f", Some(u32::MAX), "f"),
+            ("FN:1,2", None, "2"),
+            ("FN:1,,x", None, ",x"),
+            ("FN:1,+2,f", None, "+2,f"),
+            ("FN:1, 2,f", None, " 2,f"),
+            ("FN:1,2x,f", None, "2x,f"),
+            (
+                "FN:1,99999999999999999999999x,f",
+                None,
+                "99999999999999999999999x,f",
+            ),
+            ("FN:1,", None, ""),
+        ] {
+            assert_eq!(read(line), Some((1, end, name.to_owned())), "{line}");
+        }
+        for line in [
+            "FN:1,4294967296,f",
+            "FN:x,2,f",
+            "FN:1,99999999999999999999999,f",
+        ] {
+            assert_eq!(read(line), None, "{line}");
+        }
     }
 
     #[test]

@@ -220,6 +220,24 @@ fn sums_past_the_largest_number() {
 }
 
 #[test]
+fn functions_say_where_they_end() {
+    prints(
+        &[&section("FN:138,168,name FNDA:2,name")],
+        "TN: SF:m FN:138,168,name FNDA:2,name FNF:1 FNH:1 end_of_record",
+    );
+    for texts in [["FN:1,9,f", "FN:1,5,f"], ["FN:1,5,f", "FN:1,9,f"]] {
+        prints(
+            &[&section(texts[0]), &section(texts[1])],
+            "TN: SF:m FN:1,9,f FNDA:0,f FNF:1 FNH:0 end_of_record",
+        );
+    }
+    refuses(
+        &[&section("FN:168,138,name")],
+        "t0:2: end line below the start line (refusal 23)",
+    );
+}
+
+#[test]
 fn a_block_that_is_no_number() {
     refuses(
         &[&section("BRDA:1,e0,0,1")],

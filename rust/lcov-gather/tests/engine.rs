@@ -110,7 +110,9 @@ fn line(random: &mut Random, faults: usize) -> String {
             "LF:x",
             "FNDA:18446744073709551615,f",
             "FN:9,f",
-            "FN:9,g",
+            "FN:9,10,g",
+            "FN:9,8,f",
+            "FN:1,4294967296,f",
             "DA:1,18446744073709551615",
             "DA:2,18446744073709551615,s",
             "DA:3,1,other",
@@ -121,7 +123,10 @@ fn line(random: &mut Random, faults: usize) -> String {
         return random.of(&wrong).to_owned();
     }
     match random.below(7) {
-        0 => format!("FN:1,{}", random.of(&["f", "g", "h"])),
+        0 => {
+            let end = random.of(&["", "1,", "5,", "9,"]);
+            format!("FN:1,{end}{}", random.of(&["f", "g", "h"]))
+        }
         1 => format!("FNDA:{},{}", random.below(3), random.of(&["f", "g", "h"])),
         2 => format!(
             "BRDA:{},0,0,{}",

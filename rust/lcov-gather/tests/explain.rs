@@ -64,7 +64,7 @@ fn fields_that_are_missing_or_too_many() {
 
 #[test]
 fn numbers() {
-    let form = "  help: the line has the form FN:START,NAME";
+    let form = "  help: the line has the form FN:START[,END],NAME";
     explains("SF:a FN:,f", 4, &["  2 | FN:,f", "    |    ^", form]);
     let form = "  help: the line has the form FNDA:COUNT,NAME";
     explains(
@@ -85,6 +85,27 @@ fn numbers() {
         &format!("SF:a BRDA:1,0,0,{taken}"),
         6,
         &[&format!("  2 | BRDA:1,0,0,{taken}"), &carets, greatest],
+    );
+}
+
+#[test]
+fn end_lines() {
+    let greatest = "  help: END is at most 4294967295";
+    explains(
+        "SF:a FN:1,4294967296,f",
+        6,
+        &["  2 | FN:1,4294967296,f", "    |      ^^^^^^^^^^", greatest],
+    );
+    let help = "  help: a function ends on its start line or on a later one; capture the file again, or correct the line";
+    explains(
+        "SF:a FN:138,68,f",
+        23,
+        &["  2 | FN:138,68,f", "    |        ^^", help],
+    );
+    let newer = text("SF:a DA:1,1 FNL:0,138,68 end_of_record");
+    assert_eq!(
+        explained(&["--as-geninfo"], &[&newer], 23),
+        ["  3 | FNL:0,138,68", "    |           ^^", help]
     );
 }
 

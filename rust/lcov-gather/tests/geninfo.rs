@@ -153,12 +153,22 @@ fn a_refusal_names_the_line_of_the_file() {
 fn functions_of_lcov_2_3() {
     gives(
         &["SF:x FNL:0,10,20 FNA:0,3,f<int,char> FNA:0,4,g FNL:1,30 FNA:1,0,h FNF:3 FNH:2 end SF:x FNL:0,30,31 FNA:0,5,h end"],
-        "TN: SF:x FN:10,f<int,char> FN:10,g FN:30,h FNDA:3,f<int,char> FNDA:4,g FNDA:5,h FNF:3 FNH:3 end",
+        "TN: SF:x FN:10,20,f<int,char> FN:10,20,g FN:30,31,h FNDA:3,f<int,char> FNDA:4,g FNDA:5,h FNF:3 FNH:3 end",
         &["a: lines FNL or FNA, read as FN and FNDA: 7"],
     );
     refuses(
         &["SF:x FNL:0,10 FNA:0,1,f end SF:y FNA:0,1,g end"],
         "a:6: FNA names index 0, which no FNL before it in its section gives; capture the file again",
+    );
+    // Names that begin as an end line does.
+    gives(
+        &["SF:x FNL:0,1,9 FNA:0,3,2,f end"],
+        "TN: SF:x FN:1,9,2,f FNDA:3,2,f FNF:1 FNH:1 end",
+        &["a: lines FNL or FNA, read as FN and FNDA: 2"],
+    );
+    refuses(
+        &["SF:x FNL:0,1 FNA:0,3,2,f end"],
+        "a:3: FNA names function 2,f, whose digits FN would take for an end line; give FNL its end line",
     );
 }
 
@@ -200,23 +210,6 @@ fn counts_below_0() {
         &["SF:x FN:1,f FNDA:-3,f BRDA:1,0,0,-7 BRDA:1,0,1,7 DA:1,-1071 DA:2,5 end SF:y DA:1,-1,sum end"],
         "TN: SF:x FN:1,f FNDA:0,f FNF:1 FNH:0 BRDA:1,0,0,- BRDA:1,0,1,7 BRF:2 BRH:1 DA:1,0 DA:2,5 LF:2 LH:1 end TN: SF:y DA:1,0,sum LF:1 LH:0 end",
         &["a: lines with a count below 0, read as 0, or in BRDA as '-': 4"],
-    );
-}
-
-#[test]
-fn end_lines_of_lcov_2_0_are_refused() {
-    let told = "FN with an end line, as lcov 2.0 writes it, is not read; capture by lcov 1.16, or remove the end lines";
-    refuses(
-        &["SF:x DA:1,1 end SF:x FN:138,168,name end"],
-        &format!("a:5: {told}"),
-    );
-    refuses(
-        &["SF:x FN:1,2,f end", "SF:x DA:1,x end"],
-        &format!("a:2: {told}"),
-    );
-    refuses(
-        &["SF:x DA:1,x end SF:x FN:1,2,f end"],
-        "a:2: field 2: bad digit (refusal 5)",
     );
 }
 
@@ -266,7 +259,7 @@ fn the_order_of_sections_does_not_matter() {
 fn random_line(random: &mut Random) -> String {
     let name = random.of(&["f", "g", "h"]);
     match random.below(4) {
-        0 => format!("FN:1,{name}"),
+        0 => format!("FN:1,{}{name}", random.of(&["", "1,", "4,", "9,"])),
         1 => format!("FNDA:{},{name}", random.below(5)),
         2 => {
             let taken = random.of(&["-", "0", "1", "7"]);
@@ -279,8 +272,24 @@ fn random_line(random: &mut Random) -> String {
 /// Test name, path, tag and key of a record.
 type Key = (String, PathBuf, String);
 
-/// What a text says, each key with the sum of its counts: `-` alone is none, and FN has its start. In what is printed each key comes once, so
-/// that these are its values.
+/// Start line, end line and name.
+fn function(body: &str) -> (&str, Option<u128>, &str) {
+    let (start, rest) = body.split_once(',').unwrap();
+    match rest.split_once(',') {
+        Some((end, name)) if end.parse::<u128>().is_ok() => (start, end.parse().ok(), name),
+        _ => (start, None, rest),
+    }
+}
+
+fn keep_larger(sums: &mut BTreeMap<Key, Option<u128>>, key: Key, end: Option<u128>) {
+    if end.is_some() {
+        let largest = sums.entry(key).or_insert(None);
+        *largest = end.max(*largest);
+    }
+}
+
+/// What a text says, each key with the sum of its counts: `-` alone is none, FN has its start, and its largest end line has a key of its own.
+/// In what is printed each key comes once, so that these are its values.
 fn sums(text: &str) -> BTreeMap<Key, Option<u128>> {
     let mut sums = BTreeMap::new();
     let (mut test, mut path) = ("", "");
@@ -295,9 +304,15 @@ fn sums(text: &str) -> BTreeMap<Key, Option<u128>> {
                 path = body;
                 continue;
             }
-            "FN" | "FNDA" => {
-                let (value, name) = body.split_once(',').unwrap();
-                (name, value)
+            "FN" => {
+                let (start, end, name) = function(body);
+                let key = (test.to_owned(), path.into(), format!("END {name}"));
+                keep_larger(&mut sums, key, end);
+                (name, start)
+            }
+            "FNDA" => {
+                let (count, name) = body.split_once(',').unwrap();
+                (name, count)
             }
             "BRDA" => body.rsplit_once(',').unwrap(),
             "DA" => {
@@ -403,7 +418,8 @@ fn replaces(items: &[&str]) -> bool {
     items.iter().any(|line| {
         let (tag, body) = line.split_once(':').unwrap();
         let key = match tag {
-            "FN" | "FNDA" => body.split_once(',').unwrap().1,
+            "FN" => function(body).2,
+            "FNDA" => body.split_once(',').unwrap().1,
             "BRDA" => body.rsplit_once(',').unwrap().0,
             _ => body.split(',').next().unwrap(),
         };

@@ -278,7 +278,10 @@ impl Random {
     fn line(&mut self) -> String {
         match self.below(8) {
             0 => format!("SF:{}", self.of(&["x", "x/.", "x//", "./x", "y", ""])),
-            1 => format!("FN:{},{}", self.of(&["1", "2"]), self.of(&["f", "g"])),
+            1 => {
+                let numbers = self.of(&["1", "2", "1,3", "2,9"]);
+                format!("FN:{numbers},{}", self.of(&["f", "g"]))
+            }
             2 => format!(
                 "FNDA:{},{}",
                 self.of(&["0", "1", "2"]),

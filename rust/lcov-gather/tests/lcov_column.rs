@@ -173,6 +173,12 @@ const CASES: &[Case] = &[
         writes("TN:a SF:a DA:1,1 LF:1 LH:1 end TN:a SF:b DA:1,1 LF:1 LH:1 end TN:b SF:a DA:1,1 LF:1 LH:1 end"),
     ),
     case(
+        "functions of another test",
+        &["TN:a SF:m FN:1,f FNDA:2,f DA:1,1 end TN:b SF:m DA:1,1 end"],
+        writes("TN:a SF:m FN:1,f FNDA:2,f FNF:1 FNH:1 DA:1,1 LF:1 LH:1 end TN:b SF:m FN:1,f FNF:0 FNH:0 DA:1,1 LF:1 LH:1 end"),
+        writes("TN:a SF:m FN:1,f FNDA:2,f FNF:1 FNH:1 DA:1,1 LF:1 LH:1 end TN:b SF:m DA:1,1 LF:1 LH:1 end"),
+    ),
+    case(
         "order of paths",
         &["SF:a-b DA:1,1 end SF:a/b DA:1,1 end"],
         writes("TN: SF:a-b FNF:0 FNH:0 DA:1,1 LF:1 LH:1 end TN: SF:a/b FNF:0 FNH:0 DA:1,1 LF:1 LH:1 end"),
@@ -347,7 +353,13 @@ const CASES: &[Case] = &[
         "FN with an end line",
         &["SF:m FN:138,168,name FNDA:2,name DA:138,2 end"],
         writes("TN: SF:m FN:138,168 FNDA:0,168 FNDA:2,name FNF:2 FNH:1 DA:138,2 LF:1 LH:1 end"),
-        writes("TN: SF:m FN:138,168,name FNDA:2,name FNDA:0,168,name FNF:2 FNH:1 DA:138,2 LF:1 LH:1 end"),
+        writes("TN: SF:m FN:138,168,name FNDA:2,name FNF:1 FNH:1 DA:138,2 LF:1 LH:1 end"),
+    ),
+    case(
+        "end line below the start line",
+        &["SF:m FN:168,138,name DA:138,2 end"],
+        writes("TN: SF:m FN:168,138 FNDA:0,138 FNF:1 FNH:0 DA:138,2 LF:1 LH:1 end"),
+        fails("t0:2: end line below the start line (refusal 23)"),
     ),
     case(
         "FNL and FNA",

@@ -20,6 +20,7 @@ fn by_library(line: &[u8]) -> Option<Record<'_>> {
         2 => Record::SourceFile(text),
         3 => Record::Function {
             start: a as u32,
+            end: (given == 1).then_some(b as u32),
             name: text,
         },
         4 => Record::Calls {
@@ -110,6 +111,31 @@ fn every_combination_of_fields() {
         }
     }
     assert!(taken > 20_000, "{taken}");
+}
+
+#[test]
+fn names_and_end_lines_of_functions() {
+    let zeros = "0".repeat(30);
+    for rest in [
+        "2,f",
+        "2,",
+        "2,3,f",
+        "1,f",
+        "2",
+        ",x",
+        "+2,f",
+        " 2,f",
+        "2x,f",
+        "4294967295,f",
+        "4294967296x,f",
+        &format!("{zeros}2,f"),
+    ] {
+        assert!(agrees(format!("FN:1,{rest}").as_bytes()), "{rest}");
+        assert!(agrees(format!("FN:1,{rest}\r\n").as_bytes()), "{rest}");
+    }
+    for refused in ["FN:1,4294967296,f", "FN:5,4,f", "FN:5,4,"] {
+        assert!(!agrees(refused.as_bytes()), "{refused}");
+    }
 }
 
 /// The audit must not add up what the library would refuse.

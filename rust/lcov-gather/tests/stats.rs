@@ -98,6 +98,16 @@ fn rewritten_files_have_the_same_numbers() {
     assert_eq!(told(&folder, &words), "a: 13 numbers, 22 digits\n");
 }
 
+#[test]
+fn an_end_line_is_a_number() {
+    let text = "SF:x\nFN:10,0020,f\nFN:30,+5,g\nFN:40,50\nend_of_record\n";
+    let folder = Folder::with(&[("a", text)]);
+    for options in [&[][..], &["--as-geninfo"], &["--as-written"]] {
+        let words = [options, &["--stats", "a"]].concat();
+        assert_eq!(told(&folder, &words), "a: 4 numbers, 10 digits\n");
+    }
+}
+
 /// The fields that the library reads count, and no others.
 #[test]
 fn lines_of_other_producers() {

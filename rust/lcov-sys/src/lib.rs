@@ -40,10 +40,10 @@ pub const EQUAL: u32 = 1;
 pub const GREATER: u32 = 2;
 
 calls! {
-    /// Reads one line: kind, four numbers, given, and the text's start and length, as include/lcov.h tells.
+    /// Reads one line: kind, four numbers, given, and the text's start and length, as include/lcov.h tells. Refuses with 1 to 6, 19 and 23.
     fn read_line = lcov_read_line(line: &[u8], answer: &mut [u64]) -> u32;
 
-    /// Reads one line and prints its record, with byte 10 after it, to `out`.
+    /// Reads one line and prints its record, with byte 10 after it, to `out`. Refuses with 1 to 6, 14, 19 and 23.
     fn print_line = lcov_print_line(line: &[u8], out: &mut [u8], answer: &mut [u64]) -> u32;
 
     /// Reads one number field, a number up to `max`: its value and how many digits were read are the first two words. Refuses with 4, 5, 6 and
@@ -53,19 +53,19 @@ calls! {
     /// Compares two paths by their components: [`LESS`], [`EQUAL`] or [`GREATER`].
     fn compare_paths = lcov_compare_paths(a: &[u8], b: &[u8]) -> u32;
 
-    /// Reads one text and prints its report. Refuses with 1 to 10, 14, 19 and 25.
+    /// Reads one text and prints its report. Refuses with 1 to 10, 14, 19, 23 and 25.
     fn read_text = lcov_read_text(text: &[u8], scratch: &mut [u64], out: &mut [u8], answer: &mut [u64]) -> u32;
 
-    /// The checked gather. Refuses with 1 to 14, 16, 19 and 25.
+    /// The checked gather. Refuses with 1 to 14, 16, 19, 23 and 25.
     fn gather_with = lcov_gather_with(bundle: &[u8], scratch: &mut [u64], out: &mut [u8], answer: &mut [u64]) -> u32;
 
-    /// The lossy gather: the later given start line or checksum wins. Refuses with 1 to 10, 13, 14, 16, 19 and 25.
+    /// The lossy gather: the later given start line, with its end line or none, or checksum wins. Refuses with 1 to 10, 13, 14, 16, 19, 23 and 25.
     fn gather_lossy = lcov_gather_lossy(bundle: &[u8], scratch: &mut [u64], out: &mut [u8], answer: &mut [u64]) -> u32;
 
     /// The checked gather with 8,192 words of scratch inside, which allow 256 entries.
     fn gather = lcov_gather(bundle: &[u8], out: &mut [u8], answer: &mut [u64]) -> u32;
 
-    /// Reads one text and prints what of its report the first `used` pairs hold. Refuses with 18, 1 to 10, 14, 19 and 25.
+    /// Reads one text and prints what of its report the first `used` pairs hold. Refuses with 18, 1 to 10, 14, 19, 23 and 25.
     fn filter = lcov_filter(
         text: &[u8],
         pairs: &[[u32; 2]],

@@ -189,3 +189,20 @@ fn bytes_and_pairs_that_the_rust_can_not_hold_are_outside() {
         Ok(true)
     );
 }
+
+/// Where the port answers otherwise, as docs/DIFFERENCES.md says: the Rust's form of FN has no end line.
+#[test]
+fn an_end_line_is_a_part_of_the_name() {
+    let name = |line: &[u8]| match oracle::read_line(line) {
+        Ok(Record::FunctionName { name, .. }) => name,
+        other => panic!("{other:?}"),
+    };
+    assert_eq!(name(b"FN:138,168,name"), "168,name");
+    assert_eq!(name(b"FN:168,138,name"), "138,name");
+    let text = |end: &str| format!("FN:1,{end},f\nend_of_record\n");
+    let both = gathered(Mode::Checked, &[&text("9"), &text("5")]).unwrap();
+    assert!(both.contains("FN:1,5,f\nFN:1,9,f\nFNDA:0,5,f\nFNDA:0,9,f\n"));
+    let nested = b"FN:3,20,f\nFN:9,g\nend_of_record\n";
+    let left = "TN:\nSF:\nFN:9,g\nFNDA:0,g\nFNF:1\nFNH:0\nend_of_record\n";
+    assert_eq!(oracle::filter(nested, &[(9, 9)]).map(string).unwrap(), left);
+}

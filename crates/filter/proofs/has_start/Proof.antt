@@ -5,4 +5,4 @@ use Rattle.filter.proofs.has_start.Statement.{statement}
 use Rattle.filter.proofs.has_start.Tie as tie
 
 pub has-start-spec : {M : Type 1} → statement M
-has-start-spec = tie.close (tie.spec (λ c. search needs) (λ c. search needs) (λ c. λ text. start-given text _))
+has-start-spec = tie.close (tie.spec (λ c κs. search needs) (λ c. λ text. start-given text _ _ (c .start-key .ensures text)))

@@ -49,5 +49,5 @@ stays-spec =
     (λ c. let r = c .before .before .before .before .before in
     let s = start r in
     stays-until (ranges s) (now (s .args .words)) (s .args .at) (s .args .n) (s .args .rule) (r .read-row .result) (r .read-row .ensures)
-    (c .holds-at2 .result) (c .before .before .before .enum-told3 .given .1) (c .before .start-line .result) (c .before .before .end-before .result)
-    (c .before .start-line .ensures) (c .before .before .end-before .ensures) (c .holds-at2 .ensures)))
+    (c .holds-at2 .result) (c .before .before .before .enum-told3 .given .1) (c .before .start-line .result) (c .before .before .end-of .result)
+    (c .before .start-line .ensures) (c .before .before .end-of .ensures) (c .holds-at2 .ensures)))

@@ -12,4 +12,11 @@ measure-start-spec =
     (λ c. search needs)
     (λ c κs. search needs)
     (λ c κs. search needs)
-    (λ c. search (past-start, needs)))
+    (λ c. search needs)
+    (λ c κs. search needs)
+    (λ c κs. search needs)
+    (λ c. let e = c .before .before in
+    let l = e .before in
+    let s = l .before .before in
+    λ text g. past-start text (s .args .row) g (s .args .at) _ (s .args .start) (s .pre text) (l .end-line .result) (l .end-line .ensures text) _ _ _
+    (l .before .decimal-len .ensures .0) (e .end-len .ensures .0) (c .before .saturating-add .ensures) (c .saturating-add2 .ensures)))

@@ -136,7 +136,11 @@ fn shown_record(line: &[u8], words: Words) -> String {
             Form::Checksum => given(is_given.then(text)),
         }
     });
-    let shown: Vec<String> = iter::once(layout.tag.to_owned()).chain(values).collect();
+    let mut shown: Vec<String> = iter::once(layout.tag.to_owned()).chain(values).collect();
+    if layout.tag == "FN" && is_given {
+        let end = words[FIRST_NUMBER + 1];
+        shown.insert(2, end.to_string());
+    }
     shown.join(" ")
 }
 

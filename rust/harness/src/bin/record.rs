@@ -2,7 +2,7 @@
 //! crates/test_line_num/stdin and stdout, and the recorded bundles, tests/bundles/NAME.in and NAME.out; see tests/README.md.
 //!
 //!     record             writes the files
-//!     record --check     writes nothing, and fails unless the files are what would be written and what the Rust answers, or a refusal that it lacks
+//!     record --check     writes nothing, and fails unless the files are what would be written and what the Rust answers, or what it lacks
 
 use harness::ranges::recorded::{self as calls, Calls};
 use harness::reports::recorded::{self, Recorded};
@@ -60,12 +60,17 @@ fn check() -> Result<(), String> {
     let lines = sample::decoded(&recorded.lines).ok_or("lines.in is cut within a case")?;
     // first, since it tells of the Rust, whatever made the lines
     if sample::answers(&lines) != recorded.answers {
-        return Err("lines.out is not what the Rust answers to lines.in, or 19".to_owned());
+        return Err(
+            "lines.out is not what the Rust answers to lines.in, or what it lacks".to_owned(),
+        );
     }
     if sample::make() != recorded {
         return Err("the seed makes another sample: run `record`".to_owned());
     }
-    println!("{} recorded answers are the Rust's, or 19", lines.len());
+    println!(
+        "{} recorded answers are the Rust's, or what it lacks",
+        lines.len()
+    );
     Ok(())
 }
 

@@ -12,8 +12,11 @@ const FIELDS: &[u8] = b"1,-+\n";
 const TAG: &[u8] = b"ABDFHLNRST:";
 
 /// Lines that go on after sound fields, so that the short rest is about a later field.
-const BEGUN: [&str; 7] = [
+const BEGUN: [&str; 10] = [
     "FN:1,",
+    "FN:9,",
+    "FN:9,10,",
+    "FN:9,4294967296,",
     "FNDA:1,",
     "BRDA:1,",
     "BRDA:1,2,",
@@ -23,8 +26,9 @@ const BEGUN: [&str; 7] = [
 ];
 
 /// Numbers one digit before they pass their type.
-const NEARLY_TOO_LARGE: [&str; 6] = [
+const NEARLY_TOO_LARGE: [&str; 7] = [
     "FN:429496729",
+    "FN:1,429496729",
     "LH:429496729",
     "DA:429496729",
     "FNDA:1844674407370955161",

@@ -67,6 +67,12 @@ pub fn line_of<F: AsRef<[u8]>>(tag: &str, fields: &[F]) -> Vec<u8> {
     line
 }
 
+/// The line without the bytes 10 and 13 at its end.
+pub fn trimmed(line: &[u8]) -> &[u8] {
+    let is_end = |byte: &&u8| matches!(byte, b'\n' | b'\r');
+    &line[..line.len() - line.iter().rev().take_while(is_end).count()]
+}
+
 /// The lines that every run asks.
 pub fn systematic(visit: Visit) {
     exhaustive::all(visit);
@@ -76,6 +82,7 @@ pub fn systematic(visit: Visit) {
 #[cfg(test)]
 mod tests {
     use super::*;
+    use crate::ends::{END_BEFORE_START, NUMBER_TOO_LARGE};
     use crate::expected::Expected;
     use crate::tally::Tally;
     use crate::Rng;
@@ -88,11 +95,13 @@ mod tests {
 
     /// Every kind of answer inside the domain comes, and often.
     fn assert_all_answers(tally: &Tally, at_least: u64) {
+        let with_end = [0, NUMBER_TOO_LARGE, END_BEFORE_START];
         let counts = tally
             .read
             .iter()
             .chain(&tally.refused)
-            .chain([&tally.apart]);
+            .chain([&tally.apart])
+            .chain(with_end.map(|number| &tally.with_end[number as usize]));
         assert!(counts.min().unwrap() >= &at_least, "{tally}");
     }
 

@@ -13,6 +13,25 @@ pub fn all(visit: Visit) {
         bytes_changed(&sound_line(layout), visit);
         faults_combined(layout, visit);
     }
+    end_lines(&numbers, visit);
+}
+
+/// FN with each number, and each text, in the place of an end line, and with end lines around start lines that are near the ends of their
+/// type.
+fn end_lines(numbers: &[String], visit: Visit) {
+    for end in values_of(Form::U32, numbers) {
+        for name in ["f", "", "7,f"] {
+            visit(&line_of("FN", &["3", end, name]));
+        }
+    }
+    for start in [0, 1, 9, 10, 1 << 31, u32::MAX - 1, u32::MAX] {
+        for end in start.saturating_sub(2)..=start.saturating_add(2) {
+            let (start, end) = (start.to_string(), end.to_string());
+            visit(&line_of("FN", &[&start, &end, "f"]));
+            visit(&line_of("FN", &[&start, &format!("{:030}{end}", 0), "f"]));
+        }
+    }
+    bytes_changed(b"FN:3,12,f", visit);
 }
 
 fn sound_fields(layout: &Layout) -> Vec<&'static str> {
@@ -113,6 +132,7 @@ fn combine(tag: &str, left: usize, fields: &mut Vec<&'static str>, visit: Visit)
 #[cfg(test)]
 mod tests {
     use super::*;
+    use crate::ends::{END_BEFORE_START, END_FIELD, NUMBER_TOO_LARGE};
     use crate::expected::Expected;
     use crate::interface::FIELD;
     use crate::plus::SIGNED_NUMBER;
@@ -138,6 +158,8 @@ mod tests {
                 }
             }
         }
+        wanted.insert((b"FN".to_vec(), NUMBER_TOO_LARGE, END_FIELD.into()));
+        wanted.insert((b"FN".to_vec(), END_BEFORE_START, 0));
         all(&mut |line| {
             let read = Expected::of(line).read;
             let tag = line.split(|&byte| byte == b':').next().unwrap();

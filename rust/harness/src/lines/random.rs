@@ -33,6 +33,9 @@ pub fn line(rng: &mut Rng) -> Vec<u8> {
 pub fn plausible(rng: &mut Rng) -> Vec<u8> {
     let layout = rng.pick(&LAYOUTS);
     let mut fields: Vec<String> = layout.fields.iter().map(|&form| value(rng, form)).collect();
+    if layout.tag == "FN" && rng.one_in(2) {
+        fields.insert(1, end_line(rng, &fields[0]));
+    }
     match rng.below(12) {
         0 => fields.truncate(rng.below(fields.len() + 1)),
         1 => fields.push(text(rng)),
@@ -69,6 +72,17 @@ fn spelled(rng: &mut Rng, max: u64) -> String {
     let sign = if rng.one_in(SIGN_ONE_IN) { "+" } else { "" };
     let zeros = if rng.one_in(8) { rng.below(24) } else { 0 };
     format!("{sign}{}{value}", "0".repeat(zeros))
+}
+
+/// Most often near the start line, below it too.
+fn end_line(rng: &mut Rng, start: &str) -> String {
+    let start: u64 = start.parse().unwrap_or(0);
+    match rng.below(8) {
+        0 => rng.pick(&NUMBERS).to_owned(),
+        1 => spelled(rng, u64::from(u32::MAX)),
+        2 => format!("{:030}{start}", 0),
+        _ => (start.saturating_add(rng.below(5) as u64).saturating_sub(1)).to_string(),
+    }
 }
 
 fn text(rng: &mut Rng) -> String {

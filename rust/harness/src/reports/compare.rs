@@ -108,13 +108,10 @@ impl<P: Gatherer> Comparison<P> {
             self.tally.count_outside(asked);
             return self.without_the_rust(asked);
         };
-        if expected.apart {
-            self.tally.count_apart(asked);
-        } else {
-            self.tally.count_question(asked, &expected.told);
-        }
+        self.tally
+            .count_question(asked, expected.basis, &expected.told);
         self.usual_lengths(asked, &expected);
-        if self.tally.questions().is_multiple_of(THOROUGH_ONE_IN) {
+        if self.tally.asked().is_multiple_of(THOROUGH_ONE_IN) {
             self.every_length(asked, &expected);
         }
         let fits = expected.entries <= MAX_ENTRIES;
@@ -292,6 +289,7 @@ fn in_words(told: &Told) -> Result<&[u8], Answer> {
 #[cfg(test)]
 mod tests {
     use super::*;
+    use crate::ends::taken_out;
     use crate::reports::bundles;
     use crate::stand_in::Wrong;
 
@@ -309,9 +307,11 @@ mod tests {
                 _ => {}
             }
             let unsigned: Vec<u8> = without_signs(asked.bytes());
-            let asked = match asked {
-                Asked::Text(_) if self.0 == Wrong::PlusTaken => Asked::Text(&unsigned),
-                asked => asked,
+            let endless = taken_out(asked.bytes());
+            let asked = match (asked, self.0) {
+                (Asked::Text(_), Wrong::PlusTaken) => Asked::Text(&unsigned),
+                (Asked::Text(_), Wrong::EndIsName) => Asked::Text(&endless),
+                (asked, _) => asked,
             };
             let told = Expected::of(asked).unwrap().limited(asked, entries);
             self.0.print(in_words(&told), lent.out, lent.answer)
@@ -381,6 +381,8 @@ mod tests {
             "SF:a/b\nFN:2,f\nDA:2,1\nend_of_record\n",
             "DA:1,1\n",
             "SF:a\nBRDA:1,0,0,+1\nend_of_record\n",
+            "SF:a\nFN:1,2,f\nend_of_record\n",
+            "SF:a\nFN:2,1,f\nend_of_record\n",
         ];
         let wide = crate::reports::systematic::ascending(256);
         let mut comparison = Comparison::new(StandIn(wrong), 1);
@@ -402,7 +404,7 @@ mod tests {
     fn a_port_that_answers_as_expected_has_no_differences() {
         let comparison = compared(Wrong::Nothing);
         assert_eq!(comparison.differences.count, 0);
-        for number in [0, 8, 10, 11, 14, 16, 18, 19] {
+        for number in [0, 8, 10, 11, 14, 16, 18, 19, 23] {
             assert!(comparison.tally.calls_refused(number) > 0, "{number}");
         }
     }
@@ -418,12 +420,31 @@ mod tests {
             Wrong::InnerLimit,
             Wrong::FilterKeepsAll,
             Wrong::PlusTaken,
+            Wrong::EndIsName,
         ];
         for wrong in Wrong::of_printing().chain(others) {
             assert!(
                 compared(wrong).differences.count > 0,
                 "{wrong:?} is not seen"
             );
+        }
+    }
+
+    /// The starts agree, so that the end lines alone tell.
+    #[test]
+    fn end_lines_that_are_joined_wrongly_are_seen() {
+        let text = |end: &str| format!("SF:a\nFN:1,{end}f\nend_of_record\n");
+        for ends in [["9,", "5,"], ["9,", ""]] {
+            let bundle = bundles::of(&ends.map(text));
+            for (wrong, differences) in [
+                (Wrong::Nothing, false),
+                (Wrong::CheckedIsLossy, true),
+                (Wrong::LossyIsChecked, true),
+            ] {
+                let mut comparison = Comparison::new(StandIn(wrong), 1);
+                comparison.bundle(&bundle);
+                assert_eq!(comparison.differences.count > 0, differences, "{wrong:?}");
+            }
         }
     }
 

@@ -1,10 +1,16 @@
-//! What a reading, a filter or a gather must answer: the Rust's answer, and where SPEC 9.1 added a number, the count's.
+//! What a reading, a filter or a gather must answer: the Rust's answer, and where SPEC 9.1 added a number, the count's. Where an FN has an
+//! end line, the Rust answers to the texts without end lines, and the count has these.
 
-use super::reference::{self, Entries, SECOND_PATH, SUM_OF_CALLS, SUM_OF_RUNS, TOO_MANY_ENTRIES};
+use super::reference::{
+    self, Entries, Sections, SECOND_PATH, SUM_OF_CALLS, SUM_OF_RUNS, TOO_MANY_ENTRIES,
+};
 use super::{bundles, Asked};
+use crate::ends::{self, END_BEFORE_START, END_FIELD, NUMBER_TOO_LARGE};
+use crate::expected::Basis;
 use crate::plus::SIGNED_NUMBER;
 use crate::ranges::expected::told;
-use oracle::{Fault, Mode, Refusal, Report};
+use oracle::{Fault, Mode, Refusal};
+use std::borrow::Cow;
 
 /// The bytes to be written, or a refusal.
 pub type Told = Result<Vec<u8>, Refusal>;
@@ -17,9 +23,7 @@ pub struct Expected {
     pub told: Told,
     /// The most entries that there were at a time.
     pub entries: usize,
-    /// The Rust answers otherwise, as was asked for: a section has a second SF, or a number a plus sign. It is still asked about all that
-    /// comes before.
-    pub apart: bool,
+    pub basis: Basis,
 }
 
 impl Expected {
@@ -31,7 +35,7 @@ impl Expected {
                 return Some(Expected {
                     told: Err(Refusal::numbered(number)),
                     entries: 0,
-                    apart: false,
+                    basis: Basis::Rust,
                 })
             }
         };
@@ -39,19 +43,12 @@ impl Expected {
             return None;
         }
         let mut entries = Entries::limited(usize::MAX);
-        let counted = reference(asked, &texts, &mut entries);
-        let apart = matches!(&counted, Err(refusal) if is_asked_for(refusal.number));
-        let told = match counted {
-            Err(refusal) if apart => {
-                assert_taken_before(asked, &texts, refusal);
-                Err(refusal)
-            }
-            counted => agreed(counted, rust(asked, &texts)),
-        };
+        let counted = kept(asked, &texts, &mut entries);
+        let (told, basis) = settled(asked, &texts, counted);
         Some(Expected {
             told,
             entries: entries.most,
-            apart,
+            basis,
         })
     }
 
@@ -61,7 +58,8 @@ impl Expected {
             return self.told.clone();
         }
         let texts = texts_of(asked).expect("entries were read");
-        reference(asked, &texts, &mut Entries::limited(limit)).map(oracle::print_report)
+        let counted = kept(asked, &texts, &mut Entries::limited(limit));
+        counted.map(|sections| finished(asked, sections))
     }
 }
 
@@ -74,46 +72,66 @@ fn texts_of(asked: Asked<'_>) -> Result<Vec<&[u8]>, u32> {
     }
 }
 
-fn reference(asked: Asked, texts: &[&[u8]], entries: &mut Entries) -> Result<Report, Refusal> {
+/// What the count keeps before the filter.
+fn kept(asked: Asked, texts: &[&[u8]], entries: &mut Entries) -> reference::Told {
     match asked {
-        Asked::Text(text) => reference::read(text, entries),
-        Asked::Filter(text, list) => {
-            let mut report = reference::read(text, entries)?;
-            reference::filter(&mut report, &list.pairs[..list.used]);
-            Ok(report)
-        }
+        Asked::Text(text) | Asked::Filter(text, _) => reference::read(text, entries),
         Asked::Bundle(mode, _) => reference::gather(mode, texts, entries),
+    }
+}
+
+/// Filtered where that is asked, and printed.
+fn finished(asked: Asked, mut sections: Sections) -> Vec<u8> {
+    if let Asked::Filter(_, list) = asked {
+        reference::filter(&mut sections, &list.pairs[..list.used]);
+    }
+    reference::printed(sections)
+}
+
+/// What the port must answer, where the count is this.
+fn settled(asked: Asked, texts: &[&[u8]], counted: reference::Told) -> (Told, Basis) {
+    let plain: Vec<Cow<[u8]>> = texts.iter().map(|text| ends::taken_out(text)).collect();
+    let has_ends = plain.iter().any(|text| matches!(text, Cow::Owned(_)));
+    let plain: Vec<&[u8]> = plain.iter().map(AsRef::as_ref).collect();
+    let is_asked_for = matches!(&counted, Err(refusal) if is_taken_by_the_rust(texts, refusal));
+    let basis = match (has_ends, is_asked_for) {
+        (true, _) => Basis::Ends,
+        (_, true) => Basis::Refusal,
+        _ => Basis::Rust,
+    };
+    match counted {
+        Err(refusal) if is_asked_for => {
+            assert_taken_before(asked, &plain, refusal);
+            (Err(refusal), basis)
+        }
+        counted => {
+            let rust = rust(asked, &plain);
+            let without = counted.clone().map(reference::without_ends);
+            assert_agreed(without.map(|sections| finished(asked, sections)), rust);
+            (counted.map(|sections| finished(asked, sections)), basis)
+        }
     }
 }
 
 fn rust(asked: Asked, texts: &[&[u8]]) -> Result<Vec<u8>, Fault> {
     match asked {
-        Asked::Text(text) => oracle::read_text(text).map(oracle::print_report),
-        Asked::Filter(text, list) => oracle::filter(text, &told(&list.pairs[..list.used])),
+        Asked::Text(_) => oracle::read_text(texts[0]).map(oracle::print_report),
+        Asked::Filter(_, list) => oracle::filter(texts[0], &told(&list.pairs[..list.used])),
         Asked::Bundle(mode, _) => oracle::gather(mode, texts),
     }
 }
 
 /// The Rust decides. Where a sum of it passes its type, and only there, the count gives the number that SPEC 9.1 added.
-fn agreed(counted: Result<Report, Refusal>, rust: Result<Vec<u8>, Fault>) -> Told {
-    let counted = counted.map(oracle::print_report);
+fn assert_agreed(counted: Told, rust: Result<Vec<u8>, Fault>) {
     match rust {
         Err(Fault::Outside) => {
             let added = counted.as_ref().err().map(|refusal| refusal.number);
             assert!(matches!(added, Some(SUM_OF_CALLS | SUM_OF_RUNS)));
-            counted
         }
         Err(Fault::Refused(refusal)) => {
             assert_eq!(counted, Err(refusal), "the count is not the Rust's");
-            Err(refusal)
         }
-        Ok(printed) => {
-            assert!(
-                counted.as_ref() == Ok(&printed),
-                "the count is not the Rust's"
-            );
-            Ok(printed)
-        }
+        Ok(printed) => assert!(counted == Ok(printed), "the count is not the Rust's"),
     }
 }
 
@@ -138,7 +156,19 @@ fn assert_taken_before(asked: Asked, texts: &[&[u8]], refusal: Refusal) {
 
 /// Whether a refusal was asked for where the Rust gives none.
 fn is_asked_for(number: u32) -> bool {
-    matches!(number, SIGNED_NUMBER | SECOND_PATH)
+    matches!(number, SIGNED_NUMBER | END_BEFORE_START | SECOND_PATH)
+}
+
+/// Whether the Rust takes the refused line, or takes it without its end line.
+fn is_taken_by_the_rust(texts: &[&[u8]], refusal: &Refusal) -> bool {
+    let is_end_too_large = || {
+        let line = reference::lines(texts[refusal.text]).nth(refusal.line - 1);
+        line.is_some_and(ends::has_end)
+    };
+    match (refusal.number, refusal.field) {
+        (NUMBER_TOO_LARGE, END_FIELD) => is_end_too_large(),
+        (number, _) => is_asked_for(number),
+    }
 }
 
 /// Whether a number is one that the mode can give.
@@ -156,6 +186,7 @@ pub fn may_refuse(asked: Asked, number: u32) -> bool {
 #[cfg(test)]
 mod tests {
     use super::*;
+    use crate::ranges::List;
 
     const MAX: &[u8] = b"FNDA:18446744073709551615,f\nDA:1,18446744073709551615\nend_of_record\n";
 
@@ -200,48 +231,147 @@ mod tests {
         assert_eq!((refused.number, refused.text, refused.line), (10, 1, 0));
     }
 
+    /// What the answer to a text rests on; number, line and field of a refusal.
+    fn of_text(text: &str) -> (Basis, Option<(u32, usize, u32)>) {
+        let expected = Expected::of(Asked::Text(text.as_bytes())).unwrap();
+        let refusal = expected.told.err();
+        let place = refusal.map(|refusal| (refusal.number, refusal.line, refusal.field));
+        (expected.basis, place)
+    }
+
     #[test]
     fn a_second_path_is_kept_apart() {
-        let told = |text: &str| {
-            let expected = Expected::of(Asked::Text(text.as_bytes())).unwrap();
-            let place = expected.told.as_ref().err();
+        for (text, told) in [
             (
-                expected.apart,
-                place.map(|refusal| (refusal.number, refusal.line)),
-            )
-        };
-        assert_eq!(
-            told("SF:\nDA:1,1\nSF:a\nend_of_record\n"),
-            (true, Some((25, 3)))
-        );
-        assert_eq!(told("SF:a\nSF:a\n"), (true, Some((25, 2))));
-        assert_eq!(told("SF:a\nTN:b\nSF:a\n"), (false, Some((7, 2))));
-        assert_eq!(
-            told("SF:a\nend_of_record\nSF:b\nend_of_record\n"),
-            (false, None)
-        );
-        let second = gathered(Mode::Lossy, &[MAX, b"SF:a\nSF:b\n"])
-            .told
-            .unwrap_err();
-        assert_eq!((second.number, second.text, second.line), (25, 1, 2));
+                "SF:\nDA:1,1\nSF:a\nend_of_record\n",
+                (Basis::Refusal, Some((25, 3, 0))),
+            ),
+            ("SF:a\nSF:a\n", (Basis::Refusal, Some((25, 2, 0)))),
+            ("SF:a\nTN:b\nSF:a\n", (Basis::Rust, Some((7, 2, 0)))),
+            (
+                "SF:a\nend_of_record\nSF:b\nend_of_record\n",
+                (Basis::Rust, None),
+            ),
+        ] {
+            assert_eq!(of_text(text), told, "{text}");
+        }
+        let second = gathered(Mode::Lossy, &[MAX, b"SF:a\nSF:b\n"]);
+        let refused = second.told.unwrap_err();
+        assert_eq!((refused.number, refused.text, refused.line), (25, 1, 2));
     }
 
     #[test]
     fn a_plus_sign_is_kept_apart() {
-        let told = |text: &str| {
-            let expected = Expected::of(Asked::Text(text.as_bytes())).unwrap();
-            let place = expected.told.as_ref().err();
-            let place = place.map(|refusal| (refusal.number, refusal.line, refusal.field));
-            (expected.apart, place)
-        };
-        assert_eq!(told("SF:a\nBRDA:1,0,0,+5\n"), (true, Some((19, 2, 4))));
-        assert_eq!(told("LF:+\nXX\n"), (true, Some((19, 1, 1))));
-        assert_eq!(told("SF:a\nDA:x,+1\n"), (false, Some((5, 2, 1))));
-        assert_eq!(told("SF:a\nTN:b\nDA:+1,1\n"), (false, Some((7, 2, 0))));
-        assert_eq!(told("TN:+5\nFN:1,+f\nend_of_record:+1\n"), (false, None));
+        for (text, told) in [
+            ("SF:a\nBRDA:1,0,0,+5\n", (Basis::Refusal, Some((19, 2, 4)))),
+            ("LF:+\nXX\n", (Basis::Refusal, Some((19, 1, 1)))),
+            ("SF:a\nDA:x,+1\n", (Basis::Rust, Some((5, 2, 1)))),
+            ("SF:a\nTN:b\nDA:+1,1\n", (Basis::Rust, Some((7, 2, 0)))),
+            ("TN:+5\nFN:1,+f\nend_of_record:+1\n", (Basis::Rust, None)),
+        ] {
+            assert_eq!(of_text(text), told, "{text}");
+        }
         let plus = gathered(Mode::Checked, &[MAX, b"SF:a\nDA:+1,1\n"]);
         let refused = plus.told.unwrap_err();
         assert_eq!((refused.number, refused.text, refused.line), (19, 1, 2));
+    }
+
+    #[test]
+    fn an_end_line_is_kept_apart() {
+        for (text, told) in [
+            ("SF:a\nFN:1,2,f\nend_of_record\n", (Basis::Ends, None)),
+            ("SF:a\nFN:5,4,f\n", (Basis::Ends, Some((23, 2, 0)))),
+            ("FN:5,4,f\nTN:a\n", (Basis::Ends, Some((23, 1, 0)))),
+            ("FN:1,4294967296,f\n", (Basis::Ends, Some((6, 1, 2)))),
+            ("FN:1,2,f\nTN:a\n", (Basis::Ends, Some((7, 2, 0)))),
+            ("FN:+1,0,f\n", (Basis::Ends, Some((19, 1, 1)))),
+            ("FN:1,2,f\n", (Basis::Ends, Some((8, 2, 0)))),
+            ("FN:1,,f\nFN:1,+2,f\nend_of_record\n", (Basis::Rust, None)),
+        ] {
+            assert_eq!(of_text(text), told, "{text}");
+        }
+        let refused = gathered(Mode::Lossy, &[MAX, b"SF:a\nFN:2,1,f\n"]).told;
+        let refused = refused.unwrap_err();
+        assert_eq!((refused.number, refused.text, refused.line), (23, 1, 2));
+    }
+
+    /// The FN lines that are told.
+    fn starts(expected: Option<Expected>) -> String {
+        let printed = expected.unwrap().told.unwrap();
+        let printed = String::from_utf8(printed).unwrap();
+        let starts: Vec<&str> = printed
+            .lines()
+            .filter(|line| line.starts_with("FN:"))
+            .collect();
+        starts.join(" ")
+    }
+
+    /// A text of one section; blanks stand for line ends.
+    fn text_of(lines: &str) -> String {
+        format!("{}\nend_of_record\n", lines.replace(' ', "\n"))
+    }
+
+    #[test]
+    fn the_later_fn_of_a_text_gives_the_end_line() {
+        for (lines, expected) in [
+            ("FN:1,9,f FN:1,f", "FN:1,f"),
+            ("FN:1,9,f FN:2,5,f", "FN:2,5,f"),
+            ("FN:1,f FN:1,9,f", "FN:1,9,f"),
+            ("FN:1,9,f FNDA:3,f", "FN:1,9,f"),
+            ("FNDA:3,f FN:1,9,f", "FN:1,9,f"),
+            ("FN:1,2,3,f FNDA:1,3,f", "FN:1,2,3,f"),
+            ("FN:2,9,a FN:1,1,b FN:1,7,a", "FN:1,7,a FN:1,1,b"),
+        ] {
+            let text = text_of(lines);
+            let told = starts(Expected::of(Asked::Text(text.as_bytes())));
+            assert_eq!(told, expected, "{lines}");
+        }
+    }
+
+    #[test]
+    fn end_lines_are_joined() {
+        for (texts, checked, lossy) in [
+            (&["FN:1,9,f", "FN:1,5,f"][..], "FN:1,9,f", "FN:1,5,f"),
+            (&["FN:1,5,f", "FN:1,9,f"], "FN:1,9,f", "FN:1,9,f"),
+            (&["FN:1,9,f", "FN:1,f"], "FN:1,9,f", "FN:1,f"),
+            (&["FN:1,f", "FN:1,9,f"], "FN:1,9,f", "FN:1,9,f"),
+            (&["FN:1,9,f", "FNDA:1,f"], "FN:1,9,f", "FN:1,9,f"),
+            (&["FNDA:1,f", "FN:1,9,f"], "FN:1,9,f", "FN:1,9,f"),
+            (&["FN:1,3,f", "FN:1,f", "FN:1,2,f"], "FN:1,3,f", "FN:1,2,f"),
+        ] {
+            let texts: Vec<String> = texts.iter().map(|lines| text_of(lines)).collect();
+            let texts: Vec<&[u8]> = texts.iter().map(String::as_bytes).collect();
+            let told = |mode| starts(Some(gathered(mode, &texts)));
+            assert_eq!(
+                (told(Mode::Checked), told(Mode::Lossy)),
+                (checked.into(), lossy.into())
+            );
+        }
+        let differ = [text_of("FN:1,9,f"), text_of("FN:2,9,f")];
+        let differ = [differ[0].as_bytes(), differ[1].as_bytes()];
+        assert_eq!(number(&gathered(Mode::Checked, &differ).told), 11);
+        assert_eq!(starts(Some(gathered(Mode::Lossy, &differ))), "FN:2,9,f");
+    }
+
+    #[test]
+    fn the_filter_uses_the_end_line() {
+        for (lines, range, expected) in [
+            ("FN:3,f FN:5,6,g", [7, 7], ""),
+            ("FN:3,20,f FN:9,g", [9, 9], "FN:3,20,f FN:9,g"),
+            ("FN:3,20,f FN:9,g", [4, 4], "FN:3,20,f"),
+            ("FN:3,4,f", [5, 9], ""),
+            ("FN:3,3,f FN:3,3,g", [3, 3], "FN:3,3,f FN:3,3,g"),
+            ("FN:3,f FN:3,g", [3, 3], "FN:3,g"),
+            ("FN:5,9,f FN:7,g FN:8,h", [8, 8], "FN:5,9,f FN:8,h"),
+        ] {
+            let list = List {
+                pairs: vec![range],
+                used: 1,
+            };
+            let text = text_of(lines);
+            let told = starts(Expected::of(Asked::Filter(text.as_bytes(), &list)));
+            assert_eq!(told, expected, "{lines}");
+        }
     }
 
     #[test]

@@ -21,11 +21,16 @@ const LARGE: [&str; 5] = [
     "9223372036854775807",
     "1",
 ];
+/// What stands between FN's first two commas and is no end line.
+const NO_ENDS: [&str; 6] = ["", "+2", " 2", "2x", "4294967296x", "-"];
 const CHECKSUMS: [&str; 4] = ["c1", "c2", "", "-"];
 const OTHER_TAGS: [&str; 6] = ["FNF", "FNH", "BRF", "BRH", "LF", "LH"];
 
 /// Of how many texts one gets a plus sign: it then leaves the comparison with the Rust.
 const SIGN_ONE_IN: usize = 40;
+
+/// Of how many questions one has end lines, which the Rust does not know.
+const ENDS_ONE_IN: usize = 8;
 
 /// How texts of one question are made: what is rare in all is common in some.
 #[derive(Clone, Copy)]
@@ -34,6 +39,8 @@ pub struct Habit {
     large: bool,
     /// Start lines and checksums of a key mostly agree.
     agreeing: bool,
+    /// Many FN have an end line.
+    ends: bool,
     /// Lines and branches have any number, so that there are many of them.
     spread: bool,
     sections: usize,
@@ -50,6 +57,7 @@ impl Habit {
         Habit {
             large: rng.one_in(4),
             agreeing: !rng.one_in(3),
+            ends: rng.one_in(ENDS_ONE_IN),
             spread,
             sections: 1 + rng.below(3),
             items: if spread { 24 } else { 10 },
@@ -146,12 +154,36 @@ fn function(rng: &mut Rng, habit: Habit) -> String {
     } else {
         rng.below(3)
     };
-    format!("FN:{start},{name}")
+    let end = match rng.below(12) {
+        0..7 if habit.ends => end_line(rng, start),
+        7 => format!("{},", rng.pick(&NO_ENDS)),
+        _ => String::new(),
+    };
+    format!("FN:{start},{end}{name}")
+}
+
+/// With the comma behind it. Most are few, so that those of two texts are equal, larger or smaller.
+fn end_line(rng: &mut Rng, start: usize) -> String {
+    let end = match rng.below(40) {
+        0 => (start.saturating_sub(1)).to_string(),
+        1 => "4294967296".to_owned(),
+        2 => "4294967295".to_owned(),
+        3 => format!("{:030}{}", 0, start + 1),
+        // the name begins as an end line does
+        4 => format!("{},{start}", start + 3),
+        _ => (start + rng.below(4)).to_string(),
+    };
+    format!("{end},")
 }
 
 fn calls(rng: &mut Rng, habit: Habit) -> String {
     let count = count(rng, habit);
-    format!("FNDA:{count},{}", name(rng, habit))
+    // a name that begins as an end line does, as some FN have it
+    let begun = match habit.ends && rng.one_in(8) {
+        true => format!("{},", rng.below(3)),
+        false => String::new(),
+    };
+    format!("FNDA:{count},{begun}{}", name(rng, habit))
 }
 
 fn branch(rng: &mut Rng, habit: Habit) -> String {
@@ -391,6 +423,8 @@ fn many(rng: &mut Rng) -> Vec<u8> {
 #[cfg(test)]
 mod tests {
     use super::*;
+    use crate::ends::{taken_out, END_BEFORE_START};
+    use crate::expected::Basis;
     use crate::plus::SIGNED_NUMBER;
     use crate::reports::expected::{Expected, NOT_WELL_FORMED, RANGES_NOT_WELL_FORMED};
     use crate::reports::reference::SECOND_PATH;
@@ -414,7 +448,7 @@ mod tests {
             let habit = Habit::random(rng);
             Expected::of(Asked::Text(&text(rng, habit)))
         });
-        let others = [SIGNED_NUMBER, SECOND_PATH];
+        let others = [SIGNED_NUMBER, END_BEFORE_START, SECOND_PATH];
         assert_eq!(met, HashSet::from_iter((0..=9).chain(others)));
     }
 
@@ -422,13 +456,19 @@ mod tests {
     fn few_texts_leave_the_comparison() {
         oracle::hush_overflow();
         let mut rng = Rng::new(5);
-        let is_apart = |_: &i32| {
+        let mut counts = [0; 2];
+        for _ in 0..10_000 {
             let habit = Habit::random(&mut rng);
             let text = text(&mut rng, habit);
-            Expected::of(Asked::Text(&text)).is_some_and(|expected| expected.apart)
-        };
-        let apart = (0..10_000).filter(is_apart).count();
-        assert!((200..1_000).contains(&apart), "{apart}");
+            match Expected::of(Asked::Text(&text)).map(|expected| expected.basis) {
+                Some(Basis::Refusal) => counts[0] += 1,
+                Some(Basis::Ends) => counts[1] += 1,
+                Some(Basis::Rust) | None => {}
+            }
+        }
+        for apart in counts {
+            assert!((200..1_000).contains(&apart), "{counts:?}");
+        }
     }
 
     #[test]
@@ -438,14 +478,69 @@ mod tests {
             let text = text(rng, habit);
             Expected::of(Asked::Filter(&text, &lines_kept(rng)))
         });
-        let others = [RANGES_NOT_WELL_FORMED, SIGNED_NUMBER, SECOND_PATH];
+        let others = [
+            RANGES_NOT_WELL_FORMED,
+            SIGNED_NUMBER,
+            END_BEFORE_START,
+            SECOND_PATH,
+        ];
         assert_eq!(met, HashSet::from_iter((0..=9).chain(others)));
     }
 
     #[test]
     fn bundles_meet_every_refusal_of_a_gather() {
         let met = numbers(|rng| Expected::of(Asked::Bundle(Mode::Checked, &bundle(rng))));
-        let others = (11..=13).chain([NOT_WELL_FORMED, SIGNED_NUMBER, SECOND_PATH]);
+        let others = [
+            NOT_WELL_FORMED,
+            SIGNED_NUMBER,
+            END_BEFORE_START,
+            SECOND_PATH,
+        ];
+        let others = (11..=13).chain(others);
         assert_eq!(met, HashSet::from_iter((0..=9).chain(others)));
+    }
+
+    #[test]
+    fn end_lines_meet_every_answer() {
+        let ends = |expected: Expected| (expected.basis == Basis::Ends).then_some(expected);
+        let of_texts = numbers(|rng| {
+            let habit = Habit::random(rng);
+            Expected::of(Asked::Text(&text(rng, habit))).and_then(ends)
+        });
+        let wanted = HashSet::from([0, 6, 7, 8, 9, END_BEFORE_START]);
+        assert!(of_texts.is_superset(&wanted), "{of_texts:?}");
+        for (mode, conflicts) in [(Mode::Checked, 11..14), (Mode::Lossy, 13..14)] {
+            let of_bundles =
+                numbers(|rng| Expected::of(Asked::Bundle(mode, &bundle(rng))).and_then(ends));
+            let wanted = HashSet::from_iter(conflicts.chain([0, 6, 9, END_BEFORE_START]));
+            assert!(of_bundles.is_superset(&wanted), "{of_bundles:?}");
+        }
+    }
+
+    /// A function stays, or goes, that would not if its end were reckoned.
+    #[test]
+    fn end_lines_decide_about_filters() {
+        oracle::hush_overflow();
+        let mut rng = Rng::new(5);
+        let mut counts = [0; 2];
+        for _ in 0..20_000 {
+            let habit = Habit::random(&mut rng);
+            let (text, list) = (text(&mut rng, habit), lines_kept(&mut rng));
+            let told = Expected::of(Asked::Filter(&text, &list)).map(|expected| expected.told);
+            let pairs = list.held().map(|held| ranges::expected::told(held));
+            if let (Some(Ok(own)), Some(pairs)) = (told, pairs) {
+                let reckoned = oracle::filter(&taken_out(&text), &pairs).unwrap();
+                counts[0] += usize::from(functions(&own) > functions(&reckoned));
+                counts[1] += usize::from(functions(&own) < functions(&reckoned));
+            }
+        }
+        assert!(counts.iter().all(|&count| count > 20), "{counts:?}");
+    }
+
+    fn functions(printed: &[u8]) -> usize {
+        printed
+            .split(|&byte| byte == b'\n')
+            .filter(|line| line.starts_with(b"FN:"))
+            .count()
     }
 }

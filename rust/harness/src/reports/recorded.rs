@@ -1,6 +1,6 @@
 //! Recorded bundles and what the program `gather` prints for them, for a run without Rust.
 //!
-//! The answers are the Rust's; where SPEC 9.1 added a number (9, 10, 13, 14, 16, 19 and 25) they are the count's.
+//! The answers are the Rust's; where SPEC 9.1 added a number (9, 10, 13, 14, 16, 19, 23 and 25), and of end lines, they are the count's.
 
 use super::expected::{Expected, NOT_WELL_FORMED};
 use super::systematic::ascending;
@@ -46,10 +46,18 @@ const THIRD: &str = "TN:a\nSF:.//m.c\nFN:3,g\nBRDA:4,0,0,2\nDA:4,1,c2\nend_of_re
 const MAX: &str = "BRDA:1,0,0,18446744073709551615\nDA:1,1\nend_of_record\n";
 const LINE_MAX: &str = "BRDA:1,0,0,-\nDA:1,18446744073709551615\nend_of_record\n";
 
+/// With equal, larger and smaller end lines, or none, in the later text.
+const ENDS: &str = "TN:a\nSF:m.c\nFN:3,5,e\nFN:3,5,l\nFN:3,5,s\nFN:3,5,n\nFN:3,o\nFN:3,000000000000000000000000000005,7,z\nFNDA:1,7,z\nFN:4294967295,4294967295,\nend_of_record\n";
+const LATER_ENDS: &str = "TN:a\nSF:m.c\nFN:3,5,e\nFN:3,6,l\nFN:3,4,s\nFN:3,n\nFN:3,5,o\nFNDA:2,7,z\nFNDA:1,\nFN:1,2,3,only\nend_of_record\n";
+
+/// All after the first comma is the name.
+const NO_ENDS: &str =
+    "SF:a\nFN:1,,x\nFN:1,+2,f\nFN:1, 2,f\nFN:1,2x,f\nFN:1,4294967296x,f\nFN:1,2\nend_of_record\n";
+
 pub fn all() -> Vec<Recorded> {
     let mut all = Vec::new();
     let mut add = |name, bundle| all.push(Recorded { name, bundle });
-    for (name, texts) in of_texts() {
+    for (name, texts) in [refusals(), answers(), ends()].concat() {
         add(name, bundles::of(&texts));
     }
     add("none", bundles::of::<&str>(&[]));
@@ -75,8 +83,10 @@ pub fn all() -> Vec<Recorded> {
     all
 }
 
+type Named = (&'static str, Vec<&'static str>);
+
 /// One for each refusal that a text can give, and for each of a merge.
-fn of_texts() -> Vec<(&'static str, Vec<&'static str>)> {
+fn refusals() -> Vec<Named> {
     vec![
         ("refused-01", vec![FIRST, "TN:a\nXY:1\n"]),
         ("refused-02", vec![FIRST, "TN:a\nSF:b\nFN:5\n"]),
@@ -107,12 +117,18 @@ fn of_texts() -> Vec<(&'static str, Vec<&'static str>)> {
         ("refused-19-alone", vec!["LF:+\n"]),
         ("refused-19-then-02", vec!["SF:a\nFN:+1\n"]),
         ("refused-05-then-19", vec!["SF:a\nDA:x,+1\n"]),
+        ("refused-25", vec![FIRST, "SF:\nDA:1,1\nSF:a\n"]),
+        ("refused-25-same", vec!["SF:a\nSF:a\nend_of_record\n"]),
+    ]
+}
+
+/// What is read, and what is joined.
+fn answers() -> Vec<Named> {
+    vec![
         (
             "plus-in-texts",
             vec!["TN:+5\nSF:+a\nFN:1,+2,f\nFNDA:2,+2,f\nDA:1,2,+5\nend_of_record:+1\n"],
         ),
-        ("refused-25", vec![FIRST, "SF:\nDA:1,1\nSF:a\n"]),
-        ("refused-25-same", vec!["SF:a\nSF:a\nend_of_record\n"]),
         (
             "one-path-each",
             vec!["SF:a\nDA:1,1\nend_of_record\nDA:1,1\nSF:b\nDA:2,1\nend_of_record\n"],
@@ -132,6 +148,27 @@ fn of_texts() -> Vec<(&'static str, Vec<&'static str>)> {
             "nothing-in-them",
             vec!["", "TN:a\n", "SF:a\nend_of_record\n"],
         ),
+    ]
+}
+
+/// End lines of functions.
+fn ends() -> Vec<Named> {
+    vec![
+        ("refused-23", vec![FIRST, "SF:b\nDA:1,1\nFN:5,4,f\n"]),
+        ("refused-23-no-name", vec!["FN:5,4,\n"]),
+        ("refused-23-then-07", vec!["FN:5,4,f\nTN:a\n"]),
+        ("refused-06-end", vec![FIRST, "SF:b\nFN:1,4294967296,f\n"]),
+        (
+            "refused-11-ends",
+            vec![ENDS, "TN:a\nSF:m.c\nFN:4,9,e\nend_of_record\n"],
+        ),
+        ("no-ends", vec![NO_ENDS]),
+        (
+            "ends-in-one-text",
+            vec!["SF:a\nFN:1,9,f\nFN:1,f\nFN:1,f2\nFN:2,2,f2\nFN:3,8,g\nFNDA:3,g\nend_of_record\n"],
+        ),
+        ("ends-joined", vec![ENDS, LATER_ENDS]),
+        ("ends-joined-reversed", vec![LATER_ENDS, ENDS]),
     ]
 }
 
@@ -198,7 +235,10 @@ mod tests {
                     .ok()
             })
             .collect();
-        assert_eq!(numbers, HashSet::from_iter((1..=14).chain([16, 19, 25])));
+        assert_eq!(
+            numbers,
+            HashSet::from_iter((1..=14).chain([16, 19, 23, 25]))
+        );
     }
 
     #[test]
@@ -214,6 +254,27 @@ mod tests {
             assert!(!answer(fits).starts_with("refused"), "{fits}");
             assert_eq!(answer(does_not), format!("refused {number}\n"));
         }
+    }
+
+    #[test]
+    fn end_lines_are_recorded() {
+        let starts = |name: &str| {
+            let answer = answer(name);
+            let starts: Vec<&str> = answer
+                .lines()
+                .filter(|line| line.starts_with("FN:"))
+                .collect();
+            starts.join(" ")
+        };
+        assert_eq!(
+            starts("ends-joined"),
+            "FN:1,2,3,only FN:3,5,7,z FN:3,5,e FN:3,6,l FN:3,5,n FN:3,5,o FN:3,5,s FN:4294967295,4294967295,"
+        );
+        assert_eq!(starts("ends-joined"), starts("ends-joined-reversed"));
+        assert_eq!(starts("ends-in-one-text"), "FN:1,f FN:2,2,f2 FN:3,8,g");
+        assert_eq!(answer("refused-23"), "refused 23 1 3 0\n");
+        assert_eq!(answer("refused-06-end"), "refused 6 1 2 2\n");
+        assert_eq!(answer("refused-11-ends"), "refused 11 1 0 0\n");
     }
 
     #[test]

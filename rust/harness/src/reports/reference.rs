@@ -1,9 +1,10 @@
-//! SPEC 3's readings, filters and gathers once more, with what the Rust does not count: entries, and sums that pass their type.
+//! SPEC 3's readings, filters and gathers once more, with what the Rust does not have: the number of entries, sums that pass their type, and
+//! the end lines of functions.
 //!
 //! The maps are the Rust's, so that keys are its keys; what is done with them is written here from SPEC 3 alone.
 
-use crate::plus;
-use oracle::report::section::{branch, function, line, Key, Sections, Value};
+use crate::ends::{self, Read};
+use oracle::report::section::{branch, function, line, Key, Value};
 use oracle::{Fault, Mode, Record, Refusal, Report};
 use std::collections::btree_map::{BTreeMap, Entry};
 
@@ -35,24 +36,33 @@ impl Entries {
     }
 }
 
-/// What is kept, by the Rust's keys and values, or the first refusal.
-pub type Told = Result<Report, Refusal>;
+/// A section as the Rust has it, and the end lines of its functions by their names.
+#[derive(Clone, Default)]
+pub struct Section {
+    value: Value,
+    ends: BTreeMap<String, u32>,
+}
+
+pub type Sections = BTreeMap<Key, Section>;
+
+/// What is kept, or the first refusal.
+pub type Told = Result<Sections, Refusal>;
 
 pub fn gather(mode: Mode, texts: &[&[u8]], entries: &mut Entries) -> Told {
     let mut joined = Sections::new();
     for (index, text) in texts.iter().enumerate() {
-        let report = read(text, entries).map_err(|refusal| Refusal {
+        let sections = read(text, entries).map_err(|refusal| Refusal {
             text: index,
             ..refusal
         })?;
-        join_sections(mode, &mut joined, report.sections)
+        join_sections(mode, &mut joined, sections)
             .and_then(|()| entries.count(entries_of(&joined)))
             .map_err(|number| Refusal {
                 text: index,
                 ..refusal(number, 0)
             })?;
     }
-    Ok(Report { sections: joined })
+    Ok(joined)
 }
 
 fn refusal(number: u32, line: usize) -> Refusal {
@@ -69,18 +79,16 @@ pub fn read(text: &[u8], entries: &mut Entries) -> Told {
     let mut number = 0;
     for line in lines(text) {
         number += 1;
-        let record = plus::read_line(line).map_err(|fault| on_line(fault, number))?;
+        let read = ends::read_line(line).map_err(|fault| on_line(fault, number))?;
         reading
-            .take(record)
+            .take(read)
             .and_then(|()| entries.count(reading.entries()))
             .map_err(|fault| refusal(fault, number))?;
     }
     if reading.open.is_some() {
         return Err(refusal(8, number + 1));
     }
-    Ok(Report {
-        sections: reading.kept,
-    })
+    Ok(reading.kept)
 }
 
 /// Cut at each byte 10; an empty last piece is no line.
@@ -106,7 +114,7 @@ struct Reading {
     /// The open section's SF.
     path: Option<std::path::PathBuf>,
     /// The section from its first line other than TN.
-    open: Option<Value>,
+    open: Option<Section>,
 }
 
 impl Reading {
@@ -114,7 +122,7 @@ impl Reading {
         self.kept_entries + self.open.as_ref().map_or(0, entries_in)
     }
 
-    fn take(&mut self, record: Record) -> Result<(), u32> {
+    fn take(&mut self, Read { record, end }: Read) -> Result<(), u32> {
         if let Record::TestName { name } = record {
             if self.open.is_some() {
                 return Err(7);
@@ -126,7 +134,8 @@ impl Reading {
         match record {
             Record::SourceFile { path } => self.name_section(path)?,
             Record::EndOfRecord => self.close(),
-            record => take_item(open, record)?,
+            Record::FunctionName { name, start_line } => open.start(name, start_line, end),
+            record => take_item(&mut open.value, record)?,
         }
         Ok(())
     }
@@ -157,15 +166,27 @@ impl Reading {
     }
 }
 
+impl Section {
+    /// FN replaces all that was known of its function: an end line by none if it gives none.
+    fn start(&mut self, name: String, start_line: u32, end: Option<u32>) {
+        self.set_end(&name, end);
+        let value = function::Value {
+            start_line: Some(start_line),
+            count: 0,
+        };
+        self.value.functions.insert(function::Key { name }, value);
+    }
+
+    fn set_end(&mut self, name: &str, end: Option<u32>) {
+        match end {
+            Some(end) => self.ends.insert(name.to_owned(), end),
+            None => self.ends.remove(name),
+        };
+    }
+}
+
 fn take_item(open: &mut Value, record: Record) -> Result<(), u32> {
     match record {
-        Record::FunctionName { name, start_line } => {
-            let value = function::Value {
-                start_line: Some(start_line),
-                count: 0,
-            };
-            open.functions.insert(function::Key { name }, value);
-        }
         Record::FunctionData { name, count } => {
             let value = open.functions.entry(function::Key { name }).or_default();
             value.count = value.count.checked_add(count).ok_or(SUM_OF_CALLS)?;
@@ -199,23 +220,23 @@ fn take_item(open: &mut Value, record: Record) -> Result<(), u32> {
 // ---- filtering
 
 /// Keeps what the pairs hold, in each section; a section that is emptied stays.
-pub fn filter(report: &mut Report, pairs: &[[u32; 2]]) {
+pub fn filter(sections: &mut Sections, pairs: &[[u32; 2]]) {
     let is_held = |from: u32, to: u32| pairs.iter().any(|&[start, end]| start <= to && end >= from);
-    for section in report.sections.values_mut() {
+    for section in sections.values_mut() {
         let gone = functions_that_go(section, is_held);
-        section.functions.retain(|key, _| !gone.contains(&key.name));
-        section
-            .branches
-            .retain(|key, _| is_held(key.line, key.line));
-        section.lines.retain(|key, _| is_held(key.line, key.line));
+        let value = &mut section.value;
+        value.functions.retain(|key, _| !gone.contains(&key.name));
+        value.branches.retain(|key, _| is_held(key.line, key.line));
+        value.lines.retain(|key, _| is_held(key.line, key.line));
     }
 }
 
-/// Those without a start; and in printing order, by start and then name, those whose lines up to the next start are not held.
-fn functions_that_go(section: &Value, is_held: impl Fn(u32, u32) -> bool) -> Vec<String> {
+/// Those without a start; and in printing order, by start and then name, those whose lines up to their end are not held: their own end line,
+/// or what is before the next start.
+fn functions_that_go(section: &Section, is_held: impl Fn(u32, u32) -> bool) -> Vec<String> {
     let mut started = Vec::new();
     let mut gone = Vec::new();
-    for (key, value) in &section.functions {
+    for (key, value) in &section.value.functions {
         match value.start_line {
             Some(start) => started.push((start, key.name.clone())),
             None => gone.push(key.name.clone()),
@@ -223,9 +244,9 @@ fn functions_that_go(section: &Value, is_held: impl Fn(u32, u32) -> bool) -> Vec
     }
     started.sort();
     for (place, (start, name)) in started.iter().enumerate() {
-        let end = started
-            .get(place + 1)
-            .map_or(u32::MAX, |(next, _)| next.saturating_sub(1));
+        let next = started.get(place + 1);
+        let before_next = next.map_or(u32::MAX, |(next, _)| next.saturating_sub(1));
+        let end = section.ends.get(name).copied().unwrap_or(before_next);
         if !is_held(*start, end) {
             gone.push(name.clone());
         }
@@ -239,15 +260,22 @@ fn entries_of(sections: &Sections) -> usize {
     sections.values().map(entries_in).sum()
 }
 
-/// The section itself, and all that is in it.
-fn entries_in(section: &Value) -> usize {
-    1 + section.functions.len() + section.branches.len() + section.lines.len()
+/// The section itself, and all that is in it. An end line is no entry.
+fn entries_in(section: &Section) -> usize {
+    let Value {
+        functions,
+        branches,
+        lines,
+    } = &section.value;
+    1 + functions.len() + branches.len() + lines.len()
 }
 
 // ---- merging
 
 fn join_sections(mode: Mode, joined: &mut Sections, other: Sections) -> Result<(), u32> {
-    join(joined, other, |kept, new| {
+    join(joined, other, |section, later| {
+        join_ends(mode, section, &later);
+        let (kept, new) = (&mut section.value, later.value);
         join(&mut kept.functions, new.functions, |kept, new| {
             join_function(mode, kept, new)
         })?;
@@ -256,6 +284,21 @@ fn join_sections(mode: Mode, joined: &mut Sections, other: Sections) -> Result<(
             join_line(mode, kept, new)
         })
     })
+}
+
+/// A later section that gives a start of a function gives its end line, or none, with it. A check keeps the larger of both, and what only
+/// one gives.
+fn join_ends(mode: Mode, section: &mut Section, later: &Section) {
+    for (function::Key { name }, value) in &later.value.functions {
+        if value.start_line.is_some() {
+            let new = later.ends.get(name).copied();
+            let end = match mode {
+                Mode::Checked => new.max(section.ends.get(name).copied()),
+                Mode::Lossy => new,
+            };
+            section.set_end(name, end);
+        }
+    }
 }
 
 /// Key by key in order; new entries are taken over, and a key's earlier spelling stays.
@@ -301,4 +344,33 @@ fn join_given<T: PartialEq>(mode: Mode, kept: Option<T>, new: Option<T>) -> Opti
         (kept, None) => Some(kept),
         (_, new) => Some(new),
     }
+}
+
+// ---- printing
+
+/// Without end lines, as the Rust has them.
+pub fn without_ends(mut sections: Sections) -> Sections {
+    for section in sections.values_mut() {
+        section.ends.clear();
+    }
+    sections
+}
+
+/// Each record as the Rust gives them, FN with its end line.
+pub fn printed(sections: Sections) -> Vec<u8> {
+    let mut printed = Vec::new();
+    for (key, Section { value, ends: given }) in sections {
+        let section = Report {
+            sections: BTreeMap::from([(key, value)]),
+        };
+        for record in section.into_records() {
+            let end = match &record {
+                Record::FunctionName { name, .. } => given.get(name).copied(),
+                _ => None,
+            };
+            printed.extend(ends::print_record(&record, end));
+            printed.push(b'\n');
+        }
+    }
+    printed
 }

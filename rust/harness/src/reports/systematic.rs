@@ -4,8 +4,8 @@ use super::bundles::{self, MAX_TEXTS};
 use super::workloads;
 use crate::Rng;
 
-/// Each meets some of the others: in a path spelled otherwise, a start or checksum given or not, a sum near 2^64, or a fault.
-const TEXTS: [&str; 14] = [
+/// Each meets some of the others: in a path spelled otherwise, a start, end or checksum given or not, a sum near 2^64, or a fault.
+const TEXTS: [&str; 18] = [
     "",
     "TN:a\n",
     "TN:a\nSF:a//b\nFN:3,f\nFNDA:2,f\nDA:3,2,c1\nDA:4,0\nend_of_record\n",
@@ -20,6 +20,10 @@ const TEXTS: [&str; 14] = [
     "TN:a\nSF:a/b\nFN:1,+g\nBRDA:3,0,0,+4\nend_of_record\n",
     "DA:1,1\nTN:a\n",
     "DA:1,1\n",
+    "TN:a\nSF:a/b\nFN:3,9,f\nFN:4,5,g\nFNDA:1,g\nend_of_record\n",
+    "TN:a\nSF:a/b\nFN:3,5,f\nFN:4,5,6,f\nend_of_record\n",
+    "TN:a\nSF:a/b\nFN:3,3,f\nFN:3,f\nend_of_record\n",
+    "TN:a\nSF:a/b\nFN:3,2,f\nend_of_record\n",
 ];
 
 /// How long the sequences are at most.

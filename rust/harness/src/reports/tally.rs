@@ -2,7 +2,8 @@
 
 use super::expected::Told;
 use super::Asked;
-use crate::tally::{row, rows, NAMES, NUMBERS};
+use crate::expected::Basis;
+use crate::tally::{numbered, row, rows, NAMES, NUMBERS};
 use oracle::Mode;
 use std::fmt;
 
@@ -16,8 +17,10 @@ pub struct Tally {
     calls: [[u64; QUESTIONS]; NUMBERS],
     /// Questions that are not UTF-8.
     pub outside: [u64; QUESTIONS],
-    /// Questions that the Rust answers otherwise: a section has a second SF, or a number a plus sign.
-    pub apart: [u64; QUESTIONS],
+    /// Questions that the Rust answers otherwise, by the number of their answer: a section has a second SF, or a number a plus sign.
+    apart: [[u64; QUESTIONS]; NUMBERS],
+    /// Questions with an end line, which the Rust does not know, by the number of their answer.
+    with_end: [[u64; QUESTIONS]; NUMBERS],
     /// Questions asked with every length of scratch, output and answer.
     pub thorough: u64,
     /// Written texts that were read back.
@@ -39,25 +42,32 @@ fn number(told: &Told) -> usize {
 }
 
 impl Tally {
-    pub fn count_question(&mut self, asked: Asked, told: &Told) {
-        self.asked[number(told)][column(asked)] += 1;
+    pub fn count_question(&mut self, asked: Asked, basis: Basis, told: &Told) {
+        let counts = match basis {
+            Basis::Rust => &mut self.asked,
+            Basis::Refusal => &mut self.apart,
+            Basis::Ends => &mut self.with_end,
+        };
+        counts[number(told)][column(asked)] += 1;
     }
 
     pub fn count_outside(&mut self, asked: Asked) {
         self.outside[column(asked)] += 1;
     }
 
-    pub fn count_apart(&mut self, asked: Asked) {
-        self.apart[column(asked)] += 1;
-    }
-
     pub fn count_call(&mut self, asked: Asked, number: u32) {
         self.calls[number as usize][column(asked)] += 1;
     }
 
+    /// Those that were compared with the Rust.
     pub fn questions(&self) -> u64 {
         let inside: u64 = self.asked.iter().flatten().sum();
         inside + self.outside.iter().sum::<u64>()
+    }
+
+    pub fn asked(&self) -> u64 {
+        let apart = self.apart.iter().chain(&self.with_end);
+        self.questions() + apart.flatten().sum::<u64>()
     }
 
     pub fn calls(&self) -> u64 {
@@ -86,11 +96,13 @@ impl fmt::Display for Tally {
     fn fmt(&self, f: &mut fmt::Formatter) -> fmt::Result {
         table(f, "questions", &self.asked)?;
         row(f, "outside", &self.outside)?;
-        row(f, "apart, not compared", &self.apart)?;
+        numbered(f, "apart", self.apart)?;
+        numbered(f, "end line", self.with_end)?;
         rows(
             f,
             &[
                 ("questions", self.questions()),
+                ("all questions", self.asked()),
                 ("  of them with every length", self.thorough),
             ],
         )?;

@@ -1,5 +1,5 @@
 -- `effect::text_part` meets its contract. Assumes nothing.
-use Rattle.report_parser.proofs.RowLaws.{no-text}
+use Rattle.report_parser.proofs.RowLaws.{text-as, no-text}
 use borrow.Author.Needs.{needs}
 use Rattle.report_parser.proofs.effect.text_part.Statement.{statement}
 use Rattle.report_parser.proofs.effect.text_part.Tie as tie
@@ -12,8 +12,8 @@ text-part-spec =
     (λ c. search needs)
     (λ c. search needs)
     (λ c. search needs)
-    (λ c. search needs)
-    (λ c. search needs)
-    (λ c. search needs)
-    (λ c. search needs)
+    (λ c. search (text-as, needs))
+    (λ c. search (text-as, needs))
+    (λ c. search (text-as, needs))
+    (λ c. search (text-as, needs))
     (λ c. no-text (c .before .args .«record») (c .match .keys5)))
