@@ -4,6 +4,10 @@
 pub use compare::Order;
 pub use compare::compare_bytes;
 pub use compare::compare_paths;
+pub use line_num::insert as insert_into_structs;
+pub use line_num::insert_by_value;
+pub use line_num::query as query_structs;
+pub use line_num::query_by_value;
 pub use line_num_pairs::half_open;
 pub use line_num_pairs::insert;
 pub use line_num_pairs::query;
