@@ -106,7 +106,9 @@ impl Source {
         let file = open(&self.path).map_err(failed)?;
         let data = file.metadata().map_err(failed)?;
         let start = bytes.len();
-        bytes.reserve(data.len().min(LONGEST) as usize + 1);
+        let len = data.len().min(LONGEST) as usize + 1;
+        let room = bytes.try_reserve(len);
+        room.map_err(|_| failed(io::ErrorKind::OutOfMemory.into()))?;
         unzip::read_to_end(file, LONGEST, bytes).map_err(|error| match error {
             ReadError::Io(error) => failed(error),
             ReadError::Damaged(error) => Failure::Damaged(self.path.clone(), error),
