@@ -10,7 +10,7 @@ use crate::failure::Failure;
 use crate::faults::line_faults;
 use crate::gathering::{gather, Reading};
 use crate::joined::{Conflict, Joined};
-use crate::pieces::Meaning;
+use crate::meaning::Meaning;
 use crate::reporter::Reporter;
 use crate::scan::replacements;
 use crate::source::Sources;

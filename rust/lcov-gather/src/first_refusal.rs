@@ -7,7 +7,7 @@
 use crate::failure::Failure;
 use crate::gathering::Mode;
 use crate::loaded::Loaded;
-use crate::pieces::{Group, Origin, Piece, Text};
+use crate::piece::{Group, Origin, Piece, Text};
 use crate::worker::{Stop, Worker};
 use lcov_sys::{Fault, Refusal};
 

@@ -4,6 +4,8 @@
 //! as block 5 + 2^31. FNL and FNA of lcov 2.3 are read as FN, with the end line if FNL gives one, and FNDA. All other lines stay as they are, for the library to take or refuse.
 
 use crate::record::{self, begins_with_end, without_end, Record};
+use crate::shown::shown;
+use std::borrow::Cow;
 use std::collections::HashMap;
 use std::ops::AddAssign;
 
@@ -46,15 +48,18 @@ impl Forms {
     }
 }
 
-/// A line in the library's words, and the form that it had.
-#[derive(Debug, PartialEq, Eq)]
-pub struct Translated {
-    pub line: Vec<u8>,
+/// A line in the library's words.
+#[derive(Debug, Default, PartialEq, Eq)]
+pub struct Words<'a> {
+    /// No line, one or two.
+    pub text: Cow<'a, [u8]>,
     pub forms: Forms,
+    /// Why this command refuses it.
+    pub fault: Option<String>,
 }
 
-/// A line that is no record as it stands but is one in another form. FNL and FNA are for [`Functions`].
-pub fn translate(line: &[u8]) -> Option<Translated> {
+/// A line that is no record as it stands but is one in another form. FNL and FNA are for [`Reader`].
+pub fn translate(line: &[u8]) -> Option<Words<'static>> {
     let colon = memchr::memchr(b':', line)?;
     let (tag, body) = (&line[..colon], without_end(&line[colon + 1..]));
     // How many fields there are, and which one counts.
@@ -81,7 +86,11 @@ pub fn translate(line: &[u8]) -> Option<Translated> {
     }
     let line = [tag, b":", &fields.join(&b','), b"\n"].concat();
     let is_record = forms != Forms::default() && record::parse(&line).is_some();
-    is_record.then_some(Translated { line, forms })
+    is_record.then_some(Words {
+        text: line.into(),
+        forms,
+        fault: None,
+    })
 }
 
 /// '-' and one or more digits.
@@ -97,120 +106,137 @@ fn exception(field: &[u8]) -> Option<u32> {
 
 /// Where a function starts and, where FNL says so, ends.
 #[derive(Debug, Clone, Copy, PartialEq, Eq)]
-pub struct Extent {
-    pub start: u32,
-    pub end: Option<u32>,
+struct Extent {
+    start: u32,
+    end: Option<u32>,
 }
 
 impl Extent {
-    /// The FN line of a name.
-    pub fn line(self, name: &[u8]) -> Vec<u8> {
-        let numbers = match self.end {
+    fn is_backwards(&self) -> bool {
+        self.end.is_some_and(|end| end < self.start)
+    }
+
+    /// What FN has before the name.
+    fn numbers(&self) -> String {
+        match self.end {
             Some(end) => format!("FN:{},{end},", self.start),
             None => format!("FN:{},", self.start),
-        };
-        [numbers.as_bytes(), name, b"\n"].concat()
+        }
     }
 }
 
-/// What an FNL or FNA line of a section gives.
-#[derive(Debug, PartialEq, Eq)]
-pub enum Given<'a> {
-    /// FNL: the index has its lines.
-    Start,
-    /// FNL whose end line is below its start line, which the library refuses in FN.
-    Backwards(Extent),
-    /// FNA: a function.
-    Function {
-        extent: Extent,
-        count: u64,
-        name: &'a [u8],
-        is_negative: bool,
-    },
-    /// FNA of an index that no FNL before it gives.
-    Unknown(u32),
-    /// FNA of a name that FN would take for an end line and a name, since its FNL gives no end line.
-    Ambiguous(&'a [u8]),
+/// Reads those lines of a section that are no records as they stand.
+#[derive(Default)]
+pub struct Reader {
+    /// The lines of functions by the indices of FNL, which several names may share; none where the FNL is refused.
+    extents: HashMap<u32, Option<Extent>>,
 }
 
-/// The lines of a section's functions by their indices. Several names may share one.
-#[derive(Default)]
-pub struct Functions(HashMap<u32, Extent>);
-
-impl Functions {
-    /// None for a line that is neither FNL nor FNA, or not well formed.
-    pub fn take<'a>(&mut self, line: &'a [u8]) -> Option<Given<'a>> {
-        let line = without_end(line);
-        if let Some(body) = line.strip_prefix(b"FNL:") {
-            return self.take_lines(body);
-        }
-        let mut fields = line.strip_prefix(b"FNA:")?.splitn(3, |&byte| byte == b',');
-        let index: u32 = number(fields.next()?)?;
-        let count = fields.next()?;
-        let name = fields.next()?;
-        let is_negative = is_negative(count);
-        let count = if is_negative { 0 } else { number(count)? };
-        let Some(&extent) = self.0.get(&index) else {
-            return Some(Given::Unknown(index));
-        };
-        if extent.end.is_none() && begins_with_end(name) {
-            return Some(Given::Ambiguous(name));
-        }
-        Some(Given::Function {
-            extent,
-            count,
-            name,
-            is_negative,
+impl Reader {
+    /// A line that has none of the forms stays, for the library to refuse.
+    pub fn read<'a>(&mut self, line: &'a [u8]) -> Words<'a> {
+        let words = translate(line).or_else(|| self.read_function(without_end(line)));
+        words.unwrap_or_else(|| Words {
+            text: line.into(),
+            ..Words::default()
         })
     }
 
-    /// The body of FNL: index, start line and perhaps end line.
-    fn take_lines<'a>(&mut self, body: &[u8]) -> Option<Given<'a>> {
-        let fields: Option<Vec<u32>> = body.split(|&byte| byte == b',').map(number).collect();
-        let (index, start, end) = match fields?[..] {
-            [index, start] => (index, start, None),
-            [index, start, end] => (index, start, Some(end)),
-            _ => return None,
-        };
-        let extent = Extent { start, end };
-        self.0.insert(index, extent);
-        match end {
-            Some(end) if end < start => Some(Given::Backwards(extent)),
-            _ => Some(Given::Start),
+    /// None for a line that is neither FNL nor FNA, or not well formed.
+    fn read_function(&mut self, line: &[u8]) -> Option<Words<'static>> {
+        match line.strip_prefix(b"FNL:") {
+            Some(body) => self.read_lines(body),
+            None => self.read_name(line.strip_prefix(b"FNA:")?),
         }
+    }
+
+    /// The body of FNL: index, start line and perhaps end line. Where that is below the start line, the library is to refuse it in FN.
+    fn read_lines(&mut self, body: &[u8]) -> Option<Words<'static>> {
+        let mut fields = body.split(|&byte| byte == b',').map(number);
+        let index: u32 = fields.next()??;
+        let lines: Option<Vec<u32>> = fields.collect();
+        let extent = lines.and_then(|lines| match lines[..] {
+            [start] => Some(Extent { start, end: None }),
+            [start, end] => Some(Extent {
+                start,
+                end: Some(end),
+            }),
+            _ => None,
+        });
+        let taken = extent.filter(|extent| !extent.is_backwards());
+        self.extents.insert(index, taken);
+        let text = match taken {
+            Some(_) => Vec::new(),
+            None => (extent?.numbers() + "\n").into_bytes(),
+        };
+        Some(function(text, false))
+    }
+
+    /// The body of FNA: index, count and name. Nothing is read of one whose FNL is refused.
+    fn read_name(&self, body: &[u8]) -> Option<Words<'static>> {
+        let mut fields = body.splitn(3, |&byte| byte == b',');
+        let index: u32 = number(fields.next()?)?;
+        let (count, name) = (fields.next()?, fields.next()?);
+        let is_negative = is_negative(count);
+        let count: u64 = if is_negative { 0 } else { number(count)? };
+        let Some(&extent) = self.extents.get(&index) else {
+            let what = format!("FNA names index {index}, which no FNL before it in its section gives; capture the file again");
+            return Some(refused(what));
+        };
+        let Some(extent) = extent else {
+            return Some(Words::default());
+        };
+        if extent.end.is_none() && begins_with_end(name) {
+            let what = format!("FNA names function {}, whose digits FN would take for an end line; give FNL its end line", shown(name));
+            return Some(refused(what));
+        }
+        let start = extent.numbers();
+        let calls = format!("FNDA:{count},");
+        let lines = [start.as_bytes(), name, b"\n", calls.as_bytes(), name, b"\n"];
+        Some(function(lines.concat(), is_negative))
+    }
+}
+
+/// What FNL or FNA is read as.
+fn function(text: Vec<u8>, is_negative: bool) -> Words<'static> {
+    Words {
+        text: text.into(),
+        forms: Forms {
+            functions: 1,
+            negative: is_negative.into(),
+            exceptions: 0,
+        },
+        fault: None,
+    }
+}
+
+fn refused(what: String) -> Words<'static> {
+    Words {
+        fault: Some(what),
+        ..Words::default()
     }
 }
 
 /// A text with a line in the library's words for each line of another producer, so that line numbers stay. Of FNA, which is read as two records,
 /// it has the FN.
 pub fn in_place(text: &[u8]) -> Vec<u8> {
-    let mut functions = Functions::default();
+    let mut reader = Reader::default();
     let mut words = Vec::with_capacity(text.len());
     for line in record::lines(text) {
         let bytes = &text[line.start..line.end];
         match line.record {
-            Some(Record::End) => functions = Functions::default(),
+            Some(Record::End) => reader = Reader::default(),
             Some(_) => {}
             None => {
-                words.extend(line_in_place(bytes, &mut functions));
+                let read = reader.read(bytes).text;
+                let first = read.split_inclusive(|&byte| byte == b'\n').next();
+                words.extend_from_slice(first.unwrap_or(b"FNF:0\n"));
                 continue;
             }
         }
         words.extend_from_slice(bytes);
     }
     words
-}
-
-fn line_in_place(bytes: &[u8], functions: &mut Functions) -> Vec<u8> {
-    if let Some(translated) = translate(bytes) {
-        return translated.line;
-    }
-    match functions.take(bytes) {
-        Some(Given::Start) => b"FNF:0\n".to_vec(),
-        Some(Given::Backwards(extent)) => extent.line(b""),
-        Some(Given::Function { extent, name, .. }) => extent.line(name),
-        Some(Given::Unknown(_) | Given::Ambiguous(_)) | None => bytes.to_vec(),
-    }
 }
 
 /// What an FNA line counts, whatever its index.
@@ -236,9 +262,9 @@ mod tests {
     use super::*;
 
     fn translated(line: &str) -> Option<(String, [u64; 2])> {
-        let Translated { line, forms } = translate(line.as_bytes())?;
-        let line = String::from_utf8(line).unwrap();
-        Some((line, [forms.negative, forms.exceptions]))
+        let Words { text, forms, .. } = translate(line.as_bytes())?;
+        let text = String::from_utf8(text.into_owned()).unwrap();
+        Some((text, [forms.negative, forms.exceptions]))
     }
 
     #[test]
@@ -284,45 +310,71 @@ mod tests {
         }
     }
 
-    #[test]
-    fn end_lines_of_functions() {
-        let mut functions = Functions::default();
-        let [backwards, open] =
-            [(9, Some(8)), (30, None)].map(|(start, end)| Extent { start, end });
-        let refused = Some(Given::Backwards(backwards));
-        assert_eq!(functions.take(b"FNL:2,9,8\n"), refused);
-        assert_eq!(functions.take(b"FNL:2,9,9\n"), Some(Given::Start));
-        assert_eq!(functions.take(b"FNL:3,30\n"), Some(Given::Start));
-        let ambiguous = Some(Given::Ambiguous(b"2,h"));
-        assert_eq!(functions.take(b"FNA:3,3,2,h"), ambiguous);
-        assert_eq!(backwards.line(b"2,g"), b"FN:9,8,2,g\n");
-        assert_eq!(open.line(b"h"), b"FN:30,h\n");
+    /// What each line is read as, or what is refused of it; a negative count is marked.
+    fn read(lines: &[&str]) -> Vec<String> {
+        let mut reader = Reader::default();
+        let read = lines.iter().map(|line| {
+            let Words { text, forms, fault } = reader.read(line.as_bytes());
+            let text = String::from_utf8(text.into_owned()).unwrap();
+            let mark = ["", "below 0: "][forms.negative as usize];
+            mark.to_owned() + &fault.unwrap_or(text)
+        });
+        read.collect()
     }
 
     #[test]
     fn functions_by_index() {
-        let mut functions = Functions::default();
-        assert_eq!(functions.take(b"FNA:0,1,f"), Some(Given::Unknown(0)));
-        assert_eq!(functions.take(b"FNL:0,10,20\n"), Some(Given::Start));
-        assert_eq!(functions.take(b"FNL:1,30\n"), Some(Given::Start));
-        let function = |extent, count, name, is_negative| {
-            Some(Given::Function {
-                extent,
-                count,
-                name,
-                is_negative,
-            })
+        let lines = [
+            "FNL:0,10,20\n",
+            "FNL:1,30",
+            "FNA:0,7,f<a,b>\r\n",
+            "FNA:0,7,2,g\n",
+            "FNA:1,-3,h",
+            "FNL:1,31\n",
+            "FNA:1,3,h\n",
+        ];
+        let words = [
+            "",
+            "",
+            "FN:10,20,f<a,b>\nFNDA:7,f<a,b>\n",
+            "FN:10,20,2,g\nFNDA:7,2,g\n",
+            "below 0: FN:30,h\nFNDA:0,h\n",
+            "",
+            "FN:31,h\nFNDA:3,h\n",
+        ];
+        assert_eq!(read(&lines), words);
+    }
+
+    #[test]
+    fn functions_whose_lines_are_not_known() {
+        let [unknown] = &read(&["FNA:0,1,f"])[..] else {
+            panic!();
         };
-        let extent = |start, end| Extent { start, end };
-        let both = [&b"FNA:0,7,f<a,b>\r\n"[..], b"FNA:0,7,2,g\n"];
-        let (ended, open) = (extent(10, Some(20)), extent(30, None));
-        assert_eq!(
-            functions.take(both[0]),
-            function(ended, 7, b"f<a,b>", false)
-        );
-        assert_eq!(functions.take(both[1]), function(ended, 7, b"2,g", false));
-        assert_eq!(functions.take(b"FNA:1,-3,h"), function(open, 0, b"h", true));
-        for wrong in [
+        assert!(unknown.starts_with("FNA names index 0, "), "{unknown}");
+        let [_, ambiguous] = &read(&["FNL:3,30\n", "FNA:3,3,2,h"])[..] else {
+            panic!();
+        };
+        let what = "FNA names function 2,h, whose digits";
+        assert!(ambiguous.starts_with(what), "{ambiguous}");
+    }
+
+    #[test]
+    fn of_a_wrong_fnl_no_function_is_read() {
+        let lines = [
+            "FNL:2,9,8\n",
+            "FNA:2,1,f\n",
+            "FNL:2,x\n",
+            "FNA:2,1,f\n",
+            "FNL:2,9,9\n",
+            "FNA:2,1,f\n",
+        ];
+        let words = ["FN:9,8,\n", "", "FNL:2,x\n", "", "", "FN:9,9,f\nFNDA:1,f\n"];
+        assert_eq!(read(&lines), words);
+    }
+
+    #[test]
+    fn what_is_neither_fnl_nor_fna_stays() {
+        let wrong = [
             "FNL:1",
             "FNL:1,2,3,4",
             "FNL:1,x",
@@ -330,9 +382,9 @@ mod tests {
             "FNA:1,+2,f",
             "FNA:1,2",
             "FNA:1,x,f",
-            "FN:1,f",
-        ] {
-            assert_eq!(functions.take(wrong.as_bytes()), None, "{wrong}");
-        }
+            "FNX:1,2,f",
+            "FNL",
+        ];
+        assert_eq!(read(&wrong), wrong);
     }
 }

@@ -6,13 +6,15 @@
 //! (docs/AUDIT.md, "How the command uses it").
 
 use crate::audit::Sums;
+use crate::cutting::group;
 use crate::failure::{name, Failure};
 use crate::first_refusal::Round;
 use crate::guard::Replacements;
 use crate::input::{self, Inputs, Span};
 use crate::loaded::Loaded;
+use crate::meaning::Meaning;
 use crate::parallel;
-use crate::pieces::{entries_of, group, Group, Meaning};
+use crate::piece::{entries_of, Group};
 use crate::reporter::Reporter;
 use crate::source::Sources;
 use crate::store::{Place, Store};

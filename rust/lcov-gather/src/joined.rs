@@ -3,6 +3,7 @@
 //! The library refuses the first conflict and names the file alone. Here all conflicts of a file are found, with both values and places.
 
 use crate::items::{Given, Item, Key, Section, SectionKey};
+use crate::key::compare_keys;
 use lcov_sys::Fault;
 use std::cmp::Ordering;
 use std::collections::HashMap;
@@ -48,18 +49,9 @@ impl Conflict {
 
     /// The order in which the library goes through a file.
     fn compare(&self, other: &Self) -> Ordering {
-        let (test, path) = &self.section;
-        let by_path = || compare_paths(path, &other.section.1);
-        let by_test = test.cmp(&other.section.0).then_with(by_path);
-        by_test.then_with(|| self.key.cmp(&other.key))
-    }
-}
-
-fn compare_paths(a: &[u8], b: &[u8]) -> Ordering {
-    match lcov_sys::compare_paths(a, b) {
-        lcov_sys::LESS => Ordering::Less,
-        lcov_sys::EQUAL => Ordering::Equal,
-        _ => Ordering::Greater,
+        let [own, others] =
+            [&self.section, &other.section].map(|(test, path)| (&test[..], &path[..]));
+        compare_keys(own, others).then_with(|| self.key.cmp(&other.key))
     }
 }
 

@@ -1,11 +1,12 @@
 //! A file of a round: read, looked at and cut.
 
+use crate::cutting::{cut_printed, group};
 use crate::failure::Failure;
 use crate::gathering::{Mode, Reading};
-use crate::pieces::{group, Group, Meaning, Origin, Piece, Text};
+use crate::meaning::Meaning;
+use crate::piece::{Group, Origin, Piece, Text};
 use crate::rewrite::{without_names, Rewriting};
 use crate::scan::{scan, Scanned};
-use crate::sections;
 use crate::source::{Identity, Source, Sources};
 use crate::worker::{Stop, Worker};
 use std::ops::Range;
@@ -84,7 +85,7 @@ impl Loaded {
         let texts = vec![whole.text(&bytes, Origin::Piece { file: 0, piece: 0 })];
         match worker.gather(&[Group { texts }], mode) {
             Ok(written) => {
-                self.scanned.cut.pieces = sections::pieces(&written);
+                self.scanned.cut.pieces = cut_printed(&written);
                 worker.files.extend(written);
             }
             Err(stop) => self.refused = Some(stop),

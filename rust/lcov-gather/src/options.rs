@@ -3,7 +3,7 @@
 use crate::failure::Failure;
 use crate::gathering::{Mode, Reading, ROUND};
 use crate::lines::Cut;
-use crate::pieces::Meaning;
+use crate::meaning::Meaning;
 use crate::rewrite::Rewriting;
 use clap::builder::ValueParser;
 use clap::error::ErrorKind;

@@ -3,7 +3,7 @@
 //! A record acts on its own key alone (SPEC 3.2), so that a section means the same in each order that keeps the records of one key in
 //! theirs. Functions are sorted by name and keep their order where names are equal; branches and lines keep theirs.
 
-use crate::record::Record;
+use crate::record::{lines, Line, Record};
 use std::ops::Range;
 
 /// A part of a text. Texts are shorter than 4 GiB.
@@ -180,10 +180,29 @@ fn extend(runs: &mut Vec<Run>, run: Run, kind: Kind) -> Kind {
     kind
 }
 
+/// The lines of a body that the library wrote. It prints functions by start line, right after SF, and reads them faster by name.
+pub fn ordered(body: &[u8]) -> Vec<Run> {
+    let mut order = Order::default();
+    let is_function = |line: &Line| {
+        use Record::{Calls, Function, SourceFile};
+        let record = line.record;
+        matches!(record, Some(SourceFile(_) | Function { .. } | Calls { .. }))
+    };
+    let mut rest = 0;
+    for line in lines(body).take_while(is_function) {
+        order.add(line.record.as_ref(), line.start, line.end);
+        rest = line.end;
+    }
+    let mut runs = order.take();
+    if !runs.is_empty() {
+        runs.push(Run::new(rest, body.len()));
+    }
+    runs
+}
+
 #[cfg(test)]
 mod tests {
     use super::*;
-    use crate::record::lines;
 
     fn ordered(text: &str) -> Option<String> {
         let mut order = Order::default();

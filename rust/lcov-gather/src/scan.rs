@@ -1,9 +1,11 @@
 //! One walk over the lines of a file, for the audit, the guard and the cutter.
 
 use crate::audit::Sums;
+use crate::cutting::Cutter;
 use crate::forms;
 use crate::guard::{Guard, Replacements};
-use crate::pieces::{Cutter, Meaning, Pieces};
+use crate::meaning::Meaning;
+use crate::piece::Pieces;
 use crate::record::{lines, parse, ItemRun, Line};
 
 /// What a file says.
@@ -22,7 +24,7 @@ impl Scanned {
     fn add_form(&mut self, line: &[u8]) {
         let calls = forms::calls_of(line);
         let translated = forms::translate(line);
-        let record = translated.as_ref().and_then(|form| parse(&form.line));
+        let record = translated.as_ref().and_then(|form| parse(&form.text));
         if let Some(count) = calls {
             self.sums.calls += u128::from(count);
         }

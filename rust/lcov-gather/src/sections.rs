@@ -1,8 +1,6 @@
 //! The sections of what the library wrote.
 
-use crate::order::{Order, Run};
-use crate::pieces::{range_of, Body, Origin, Piece, Text};
-use crate::record::{lines, Line, Record};
+use crate::piece::{Origin, Text};
 
 const END: &[u8] = b"\nend_of_record\n";
 
@@ -18,21 +16,6 @@ pub fn printed_sections(report: &[u8]) -> impl Iterator<Item = &[u8]> {
     })
 }
 
-/// The same as pieces, to be gathered with others.
-pub fn pieces(report: &[u8]) -> Vec<Piece> {
-    let sections = printed_sections(report).map(|section| {
-        let (test, body) = first_line(section);
-        Piece {
-            test: Some(range_of(after(b"TN:", test), report)),
-            path: range_of(path_of(section), report),
-            entries: memchr::memchr_iter(b'\n', body).count(),
-            body: Body::Lines(range_of(body, report), 0),
-            runs: ordered(body, range_of(body, report).start),
-        }
-    });
-    sections.collect()
-}
-
 /// One of them as a text that was gathered before.
 pub fn joined_text(section: &[u8], lines: usize) -> Text<'_> {
     let (test, path) = key_of(section);
@@ -44,26 +27,6 @@ pub fn joined_text(section: &[u8], lines: usize) -> Text<'_> {
         runs: (b"", &[]),
         entries: lines,
     }
-}
-
-/// Functions are printed by start line, and read faster by name. They come right after SF.
-pub fn ordered(body: &[u8], at: usize) -> Vec<Run> {
-    let mut order = Order::default();
-    let is_function = |line: &Line| {
-        use Record::{Calls, Function, SourceFile};
-        let record = line.record;
-        matches!(record, Some(SourceFile(_) | Function { .. } | Calls { .. }))
-    };
-    let mut rest = 0;
-    for line in lines(body).take_while(is_function) {
-        order.add(line.record.as_ref(), at + line.start, at + line.end);
-        rest = line.end;
-    }
-    let mut runs = order.take();
-    if !runs.is_empty() {
-        runs.push(Run::new(at + rest, at + body.len()));
-    }
-    runs
 }
 
 /// Test name and path.

@@ -4,8 +4,9 @@
 //! and its old bytes are dead. A part without sections is freed at once; the others are packed when a fifth of all bytes is dead. So the
 //! work is linear in what the rounds gather, however many sections no file touches.
 
+use crate::key::compare_keys;
 use crate::path::canonical;
-use crate::pieces::{compare_keys, Text};
+use crate::piece::Text;
 use crate::sections::{joined_text, key_of, printed_sections};
 use crate::tracefile::Tracefile;
 use lcov_sys::EQUAL;

@@ -3,7 +3,7 @@
 use crate::bundle::Bundle;
 use crate::gathering::Mode;
 use crate::memory::FileMemory;
-use crate::pieces::{entries_of, Group};
+use crate::piece::{entries_of, Group};
 use crate::workspace::Workspace;
 use lcov_sys::Refusal;
 

@@ -7,7 +7,7 @@ use lcov_gather::audit::Sums;
 use lcov_gather::failure::Failure;
 use lcov_gather::gathering::{gather, Mode, Reading, ROUND};
 use lcov_gather::guard::Guard;
-use lcov_gather::pieces::Meaning;
+use lcov_gather::meaning::Meaning;
 use lcov_gather::reporter::Reporter;
 use lcov_gather::rewrite::Rewriting;
 use lcov_gather::scan::scan;

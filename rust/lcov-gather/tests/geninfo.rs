@@ -3,9 +3,11 @@
 mod common;
 
 use common::{missing, printed, real_files, said, said_in_short, Folder, Random};
+use lcov_gather::cutting::group;
 use lcov_gather::gathering::Mode;
 use lcov_gather::guard::Guard;
-use lcov_gather::pieces::{group, Meaning, Origin, Piece};
+use lcov_gather::meaning::Meaning;
+use lcov_gather::piece::{Origin, Piece};
 use lcov_gather::scan::scan;
 use lcov_gather::worker::Worker;
 use std::collections::{BTreeMap, BTreeSet};

@@ -4,7 +4,7 @@ mod common;
 
 use common::{printed, said, said_in_short, Folder, Random};
 use lcov_gather::guard::Guard;
-use lcov_gather::pieces::Meaning;
+use lcov_gather::meaning::Meaning;
 use lcov_gather::scan::scan;
 use lcov_sys::{Refusal, WORDS, WORDS_PER_ENTRY};
 
