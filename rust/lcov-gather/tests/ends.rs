@@ -4,17 +4,25 @@ mod common;
 
 use common::{printed, said, said_in_short, Folder};
 
-/// As lcov 2.0 writes them: FN has an end line where the compiler tells one.
-const OLD: &str = "\
-FN:10,14,init
-FN:16,40,decode<int, 3>
-FN:44,reset
-FNDA:1,init
-FNDA:250,decode<int, 3>
-FNDA:0,reset
-FNF:3
-FNH:2
-";
+/// Three functions with these start and end lines and calls, as lcov 2.0 writes them.
+fn functions_with(lines: [&str; 3], calls: [u32; 3]) -> String {
+    let names = ["init", "decode<int, 3>", "reset"];
+    let starts = lines.iter().zip(names);
+    let starts: String = starts
+        .map(|(lines, name)| format!("FN:{lines},{name}\n"))
+        .collect();
+    let counts = calls.iter().zip(names);
+    let counts: String = counts
+        .map(|(count, name)| format!("FNDA:{count},{name}\n"))
+        .collect();
+    let hit = calls.iter().filter(|&&count| count > 0).count();
+    format!("{starts}{counts}FNF:3\nFNH:{hit}\n")
+}
+
+/// FN has an end line where the compiler tells one.
+fn old() -> String {
+    functions_with(["10,14", "16,40", "44"], [1, 250, 0])
+}
 
 /// The same as lcov 2.3 writes them.
 const NEW: &str = "\
@@ -37,27 +45,13 @@ fn tracefile(functions: &str) -> String {
 }
 
 /// Another test of the same source, with an exception; one function ends later, one earlier, and one has an end line that was not known.
-const LATER: &str = "\
-TN:frames
-SF:/build/src/decoder.c
-FN:10,12,init
-FN:16,42,decode<int, 3>
-FN:44,50,reset
-FNDA:2,init
-FNDA:3,decode<int, 3>
-FNDA:5,reset
-FNF:3
-FNH:3
-BRDA:20,0,0,3
-BRDA:20,e0,1,-
-BRF:2
-BRH:1
-DA:10,2
-DA:44,5
-LF:2
-LH:2
-end_of_record
-";
+fn later() -> String {
+    let functions = functions_with(["10,12", "16,42", "44,50"], [2, 3, 5]);
+    format!(
+        "TN:frames\nSF:/build/src/decoder.c\n{functions}BRDA:20,0,0,3\nBRDA:20,e0,1,-\nBRF:2\nBRH:1\n\
+        DA:10,2\nDA:44,5\nLF:2\nLH:2\nend_of_record\n"
+    )
+}
 
 /// The lines about functions of what is printed.
 fn functions(printed: &str) -> String {
@@ -66,8 +60,8 @@ fn functions(printed: &str) -> String {
 }
 
 fn folder() -> Folder {
-    let (old, new) = (tracefile(OLD), tracefile(NEW));
-    Folder::with(&[("old", &old), ("new", &new), ("later", LATER)])
+    let files = [tracefile(&old()), tracefile(NEW), later()];
+    Folder::with(&[("old", &files[0]), ("new", &files[1]), ("later", &files[2])])
 }
 
 #[test]
@@ -79,11 +73,11 @@ fn each_function_comes_once_with_its_end_line() {
         &["--as-written", "old"],
     ] {
         let output = folder.run(words);
-        assert_eq!(printed(&output), tracefile(OLD), "{words:?}");
+        assert_eq!(printed(&output), tracefile(&old()), "{words:?}");
         assert_eq!(said(&output), "");
     }
     let new = folder.run(&["--as-geninfo", "new"]);
-    assert_eq!(printed(&new), tracefile(OLD));
+    assert_eq!(printed(&new), tracefile(&old()));
     let told = "lcov-gather: new: lines FNL or FNA, read as FN and FNDA: 6\n";
     assert_eq!(said(&new), told);
 }
@@ -91,16 +85,7 @@ fn each_function_comes_once_with_its_end_line() {
 #[test]
 fn the_total_has_the_larger_end_line() {
     let folder = folder();
-    let total = "\
-FN:10,14,init
-FN:16,42,decode<int, 3>
-FN:44,50,reset
-FNDA:3,init
-FNDA:253,decode<int, 3>
-FNDA:5,reset
-FNF:3
-FNH:3
-";
+    let total = functions_with(["10,14", "16,42", "44,50"], [3, 253, 5]);
     for files in [["old", "later"], ["later", "old"], ["new", "later"]] {
         let words = [&["-q", "--as-geninfo"][..], &files].concat();
         let output = folder.run(&words);
