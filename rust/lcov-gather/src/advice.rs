@@ -1,7 +1,8 @@
 //! What a user can do about a refusal.
 
-use crate::form::{Field, Form, FORMS};
-use crate::forms::is_negative;
+use crate::form::{is_digits, Field, Form, FORMS, NEWER_FORMS};
+use crate::forms::{is_negative, EXCEPTION};
+use crate::items::Taking;
 use crate::joined::Conflict;
 use lcov_sys::{Fault, Refusal};
 
@@ -20,44 +21,72 @@ pub const LARGE_FILE: &str =
     "with --as-written the sections of a file in which one comes again share the limit, and with --as-geninfo each has its own";
 
 /// For a line that is refused by itself; `part` is what is refused of it.
-pub fn for_line(refusal: &Refusal, line: &[u8], part: &[u8]) -> String {
+pub fn for_line(refusal: &Refusal, line: &[u8], part: &[u8], taking: Taking) -> String {
     if refusal.number == 23 {
         return ENDS_BEFORE.to_owned();
     }
     let Some(form) = Form::of(line) else {
-        return for_tag(part, refusal.line);
+        return for_tag(line, refusal.line, taking);
     };
     let place = refusal.field.saturating_sub(1) as usize;
     let field = form.fields_of(line).nth(place);
-    let words = format!("the line has the form {}", form.words());
     match (refusal.number, field) {
-        (5, Some(Field::Count(_))) if is_negative(part) => {
+        (5, Some(Field::Count(_))) if is_negative(part) && taking == Taking::AsWritten => {
             "a count below 0 comes from threads that count at the same time; build the program with \
              -fprofile-update=atomic, or read the count as 0 by --as-geninfo"
                 .to_owned()
         }
-        (5, _) if form.tag == "BRDA" && part.starts_with(b"e") => {
-            "lcov 2 marks the branches of exceptions by an e; --as-geninfo reads them".to_owned()
-        }
-        (6, Some(field)) => field.greatest_in_words().unwrap_or(words),
-        (19, _) => format!("{words}; a number has digits alone"),
-        _ => words,
+        (5, Some(Field::Small("BLOCK"))) if part.starts_with(b"e") => for_exception(taking),
+        (6, Some(field)) => field.greatest_in_words().unwrap_or(form_words(form)),
+        (19, _) => format!("{}; a number has digits alone", form_words(form)),
+        _ => form_words(form),
     }
 }
 
-fn for_tag(tag: &[u8], line: u64) -> String {
-    match tag {
-        b"FNL" | b"FNA" => {
+fn form_words(form: Form) -> String {
+    format!("the line has the form {}", form.words())
+}
+
+fn for_exception(taking: Taking) -> String {
+    match taking {
+        Taking::AsWritten => {
+            "lcov 2 marks the branches of exceptions by an e; --as-geninfo reads them".to_owned()
+        }
+        Taking::AsGeninfo => format!("the block of an exception is e0 to e{}", EXCEPTION - 1),
+    }
+}
+
+fn for_tag(line: &[u8], number: u64, taking: Taking) -> String {
+    match (Form::newer(line), taking) {
+        (Some(form), Taking::AsGeninfo) => for_newer(form, line),
+        (Some(_), Taking::AsWritten) => {
             "lcov 2.3 writes FNL and FNA in place of FN and FNDA; --as-geninfo reads them"
                 .to_owned()
         }
-        b"" => "an empty line is no record; remove it".to_owned(),
+        _ if line.is_empty() => "an empty line is no record; remove it".to_owned(),
         _ => {
-            let tags = FORMS.map(|form| form.tag).join(", ");
-            let doubt = if line == 1 { "is it a tracefile? " } else { "" };
-            format!("{doubt}the tags are {tags}")
+            let newer = match taking {
+                Taking::AsWritten => &[][..],
+                Taking::AsGeninfo => &NEWER_FORMS,
+            };
+            let tags: Vec<&str> = FORMS.iter().chain(newer).map(|form| form.tag).collect();
+            let doubt = if number == 1 {
+                "is it a tracefile? "
+            } else {
+                ""
+            };
+            format!("{doubt}the tags are {}", tags.join(", "))
         }
     }
+}
+
+/// A number that does not fit has digits alone.
+fn for_newer(form: Form, line: &[u8]) -> String {
+    let (part, field) = form.fault_in(line);
+    let field = field.filter(|_| is_digits(&line[part]));
+    field
+        .and_then(Field::greatest_in_words)
+        .unwrap_or(form_words(form))
 }
 
 pub fn for_conflict(conflict: &Conflict) -> &'static str {

@@ -78,27 +78,25 @@ impl<'a> Check<'a> {
         if self.detail != Detail::All {
             return Ok(first);
         }
-        let text = self.rules().in_words(self.sources.text(place)?);
+        let own = self.sources.own_text(place)?;
+        let text = self.sources.rewriting.rewrite(own.clone());
         let Some(line) = first.line() else {
             return Ok(self.own_conflicts(place, &text).unwrap_or(first));
         };
-        let source = &self.sources.files[place];
         let mut all = vec![first];
-        for fault in line_faults(&text, place, self.rules().taking) {
-            if fault.refusal.line > line {
-                let refused = Failure::Refused(source.path().to_owned(), fault.refusal);
-                let words = fault.words(self.sources);
-                all.push(Failure::Explained(Box::new(refused), words));
-            }
-        }
+        let taking = self.rules().taking;
+        let faults = line_faults(&text, &own, taking).into_iter();
+        let later = faults.filter(|fault| fault.line > line);
+        all.extend(later.map(|fault| fault.failure(self.sources, place, taking)));
         if self.reading.meaning == Meaning::Guarded {
-            let replaced = replacements(&text, &source.name(), self.sources.guard());
+            let name = self.sources.files[place].name();
+            let replaced = replacements(&text, &name, self.sources.guard());
             all.extend((!replaced.is_empty()).then_some(Failure::Replaced(replaced)));
         }
         Ok(Failure::Several(all))
     }
 
-    /// A file may be in conflict with itself where what comes again adds. The text is in the library's words.
+    /// A file may be in conflict with itself where what comes again adds.
     fn own_conflicts(&self, place: usize, text: &[u8]) -> Option<Failure> {
         let own = self
             .rules()

@@ -6,7 +6,7 @@ use crate::advice;
 use crate::entries::Entries;
 use crate::excerpt::excerpt;
 use crate::failure::Failure;
-use crate::form::{excess_of, field_of, tag_of};
+use crate::form::{excess_of, field_of, tag_of, Form};
 use crate::forms;
 use crate::gathering::{Mode, Reading};
 use crate::items::{sections, Section, Taking};
@@ -46,14 +46,6 @@ impl Rules {
         }
     }
 
-    /// A file with the lines of other producers as the records that they are read as.
-    pub fn in_words(&self, text: Vec<u8>) -> Vec<u8> {
-        match self.taking {
-            Taking::AsWritten => text,
-            Taking::AsGeninfo => forms::in_place(&text),
-        }
-    }
-
     pub fn joined(&self) -> Joined {
         Joined::new(self.mode == Mode::Lossy)
     }
@@ -71,12 +63,13 @@ pub fn explained(failure: Failure, sources: Sources, reading: Reading) -> Failur
 /// Lines that follow the refusal's own, each with a byte 10 before it; `refusal.text` is the file's place among the sources. Empty where
 /// a file can't be read again, or is no longer what it was.
 pub fn explain(refusal: &Refusal, sources: Sources, rules: Rules) -> String {
-    let Ok(text) = sources.text(refusal.text) else {
+    let Ok(own) = sources.own_text(refusal.text) else {
         return String::new();
     };
     let case = Case {
         refusal: *refusal,
-        text: &text,
+        text: &sources.rewriting.rewrite(own.clone()),
+        own: &own,
         sources,
         rules,
     };
@@ -100,6 +93,8 @@ pub fn help(advice: &str) -> String {
 struct Case<'a> {
     refusal: Refusal,
     text: &'a [u8],
+    /// The file as it is.
+    own: &'a [u8],
     sources: Sources<'a>,
     rules: Rules,
 }
@@ -107,12 +102,13 @@ struct Case<'a> {
 impl Case<'_> {
     fn line(&self) -> Option<&[u8]> {
         let place = usize::try_from(self.refusal.line.checked_sub(1)?).ok()?;
-        let line = self.text.split(|&byte| byte == b'\n').nth(place)?;
+        let line = self.own.split(|&byte| byte == b'\n').nth(place)?;
         Some(without_end(line))
     }
 
     fn of_line(&self) -> Option<String> {
-        Some(line_words(&self.refusal, self.line()?))
+        let line = self.line()?;
+        Some(line_words(&self.refusal, line, self.rules.taking))
     }
 
     fn open(&self) -> OpenSection<'_> {
@@ -179,16 +175,17 @@ impl Case<'_> {
 }
 
 /// Of a line that is refused by itself.
-pub fn line_words(refusal: &Refusal, line: &[u8]) -> String {
+pub fn line_words(refusal: &Refusal, line: &[u8], taking: Taking) -> String {
+    let newer = Form::newer(line).filter(|_| taking == Taking::AsGeninfo);
     let part = match refusal.number {
-        1 => tag_of(line),
+        1 => newer.map_or(tag_of(line), |form| form.fault_in(line).0),
         3 => excess_of(line),
         // FNL of lcov 2.3 has an index before the start line.
         23 if line.starts_with(b"FNL:") => field_of(line, 3),
         23 => field_of(line, 2),
         _ => field_of(line, refusal.field),
     };
-    let advice = advice::for_line(refusal, line, &line[part.clone()]);
+    let advice = advice::for_line(refusal, line, &line[part.clone()], taking);
     excerpt(refusal.line, line, part) + &help(&advice)
 }
 

@@ -1,6 +1,7 @@
 //! The form of a line: its tag, its fields, and where they stand in it.
 
 use self::Field::{Count, Small, Text};
+use crate::forms::is_negative;
 use crate::record::begins_with_end;
 use std::ops::Range;
 
@@ -34,6 +35,18 @@ impl Field {
             Field::Small(_) => Some(u32::MAX.into()),
             Field::Count(_) => Some(u64::MAX),
             Field::Text(_) => None,
+        }
+    }
+
+    /// Whether it is digits of a number that fits, or below 0 where it counts. What may be missing may be empty.
+    fn takes(self, part: &[u8]) -> bool {
+        let digits = std::str::from_utf8(part).ok().filter(|_| is_digits(part));
+        let number: Option<u64> = digits.and_then(|digits| digits.parse().ok());
+        match self {
+            END if part.is_empty() => true,
+            Field::Count(_) if is_negative(part) => true,
+            Field::Text(_) => true,
+            _ => number.is_some() && number <= self.greatest(),
         }
     }
 
@@ -71,6 +84,12 @@ pub const FORMS: [Form; 13] = [
     form("end_of_record", &[]),
 ];
 
+/// What lcov 2.3 writes in place of FN and FNDA. The library knows neither; `--as-geninfo` reads them.
+pub const NEWER_FORMS: [Form; 2] = [
+    form("FNL", &[Small("INDEX"), Small("START"), END]),
+    form("FNA", &[Small("INDEX"), Count("COUNT"), Text("NAME")]),
+];
+
 const fn form(tag: &'static str, fields: &'static [Field]) -> Form {
     Form { tag, fields }
 }
@@ -80,6 +99,25 @@ impl Form {
     pub fn of(line: &[u8]) -> Option<Self> {
         let tag = &line[tag_of(line)];
         FORMS.into_iter().find(|form| form.tag.as_bytes() == tag)
+    }
+
+    /// The same of what lcov 2.3 writes.
+    pub fn newer(line: &[u8]) -> Option<Self> {
+        let tag = &line[tag_of(line)];
+        let mut forms = NEWER_FORMS.into_iter();
+        forms.find(|form| form.tag.as_bytes() == tag)
+    }
+
+    /// Where a line that is not of the form departs from it: at a field that is no such number, or past the last one.
+    pub fn fault_in(&self, line: &[u8]) -> (Range<usize>, Option<Field>) {
+        for (number, &field) in (1..).zip(self.fields) {
+            let part = field_of(line, number);
+            if !field.takes(&line[part.clone()]) {
+                return (part, Some(field));
+            }
+        }
+        let last = self.fields.len() as u64;
+        (field_of(line, last + 1).start..line.len(), None)
     }
 
     /// The fields that a line of the form has or lacks: an end line only where the line gives one.
@@ -122,6 +160,10 @@ pub fn field_of(line: &[u8], number: u64) -> Range<usize> {
         start += field.len() + 1;
     }
     line.len()..line.len()
+}
+
+pub fn is_digits(part: &[u8]) -> bool {
+    !part.is_empty() && part.iter().all(u8::is_ascii_digit)
 }
 
 /// What a line has after its last field.
@@ -179,6 +221,26 @@ mod tests {
         assert_eq!(words("FN:1").unwrap(), "FN:START[,END],NAME");
         assert_eq!(words("end_of_record").unwrap(), "end_of_record");
         assert_eq!(words("da:1"), None);
+    }
+
+    #[test]
+    fn where_a_newer_line_departs_from_its_form() {
+        for (line, part, field) in [
+            ("FNL:x,1", 4..5, Some("INDEX")),
+            ("FNL:1,4294967296", 6..16, Some("START")),
+            ("FNL:1,+2,3", 6..8, Some("START")),
+            ("FNL:1", 5..5, Some("START")),
+            ("FNL:1,2,x", 8..9, Some("END")),
+            ("FNL:1,2,3,4,5", 10..13, None),
+            ("FNL", 3..3, Some("INDEX")),
+            ("FNA:1,-2x,f", 6..9, Some("COUNT")),
+            ("FNA:1,-2", 8..8, None),
+        ] {
+            let form = Form::newer(line.as_bytes()).unwrap();
+            let (wrong, of) = form.fault_in(line.as_bytes());
+            assert_eq!((wrong, of.map(Field::name)), (part, field), "{line}");
+        }
+        assert_eq!(Form::newer(b"FN:1,f"), None);
     }
 
     #[test]

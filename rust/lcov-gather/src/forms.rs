@@ -3,6 +3,7 @@
 //! A count below 0 is read as 0, and in BRDA as `-`: so lcov reads them. A block `e5` in BRDA, which lcov 2.x writes of a branch that an exception takes, is read
 //! as block 5 + 2^31. FNL and FNA of lcov 2.3 are read as FN, with the end line if FNL gives one, and FNDA. All other lines stay as they are, for the library to take or refuse.
 
+use crate::form::is_digits;
 use crate::record::{self, begins_with_end, without_end, Record};
 use crate::shown::shown;
 use std::borrow::Cow;
@@ -58,15 +59,15 @@ pub struct Words<'a> {
     pub fault: Option<String>,
 }
 
-/// A line that is no record as it stands but is one in another form. FNL and FNA are for [`Reader`].
+/// A line with a count below 0 or the block of an exception. What else is wrong in it, the library refuses. FNL and FNA are for [`Reader`].
 pub fn translate(line: &[u8]) -> Option<Words<'static>> {
     let colon = memchr::memchr(b':', line)?;
     let (tag, body) = (&line[..colon], without_end(&line[colon + 1..]));
-    // How many fields there are, and which one counts.
+    // How many fields there are where the last is a text, which may have commas, and which one counts.
     let (fields, count) = match tag {
         b"DA" => (3, 1),
         b"FNDA" => (2, 0),
-        b"BRDA" => (4, 3),
+        b"BRDA" => (usize::MAX, 3),
         _ => return None,
     };
     let mut fields: Vec<Vec<u8>> = body
@@ -85,8 +86,7 @@ pub fn translate(line: &[u8]) -> Option<Words<'static>> {
         forms.exceptions = 1;
     }
     let line = [tag, b":", &fields.join(&b','), b"\n"].concat();
-    let is_record = forms != Forms::default() && record::parse(&line).is_some();
-    is_record.then_some(Words {
+    (forms != Forms::default()).then_some(Words {
         text: line.into(),
         forms,
         fault: None,
@@ -95,7 +95,7 @@ pub fn translate(line: &[u8]) -> Option<Words<'static>> {
 
 /// '-' and one or more digits.
 pub fn is_negative(field: &[u8]) -> bool {
-    matches!(field, [b'-', digits @ ..] if !digits.is_empty() && digits.iter().all(u8::is_ascii_digit))
+    matches!(field, [b'-', digits @ ..] if is_digits(digits))
 }
 
 /// `e` and a block that has room above it.
@@ -284,6 +284,20 @@ mod tests {
             ),
         ] {
             assert_eq!(translated(line), Some((expected.into(), forms)), "{line}");
+        }
+    }
+
+    #[test]
+    fn what_else_is_wrong_stays() {
+        for (line, expected) in [
+            ("DA:x,-1", "DA:x,0\n"),
+            ("FNDA:-1", "FNDA:0\n"),
+            ("BRDA:1,e5,3,x", "BRDA:1,2147483653,3,x\n"),
+            ("BRDA:1,e5,3", "BRDA:1,2147483653,3\n"),
+            ("BRDA:1,2,3,-4,5", "BRDA:1,2,3,-,5\n"),
+        ] {
+            let words = translated(line).map(|(text, _)| text);
+            assert_eq!(words.as_deref(), Some(expected), "{line}");
         }
     }
 

@@ -1,7 +1,7 @@
 //! The section that a line of a file stands in.
 
 use crate::items::Taking;
-use crate::record::{records, Record};
+use crate::record::{lines, records, Line, Record};
 
 #[derive(Debug, Clone, Copy, Default, PartialEq, Eq)]
 pub struct OpenSection<'a> {
@@ -15,25 +15,22 @@ impl<'a> OpenSection<'a> {
     /// That of the line, given all lines before it.
     pub fn at(text: &'a [u8], line: u64, taking: Taking) -> Self {
         let mut open = OpenSection::default();
-        for (number, record) in records(text) {
-            if u64::from(number) >= line {
-                break;
-            }
-            open.take(number, record, taking);
+        for before in lines(text).take_while(|before| u64::from(before.number) < line) {
+            open.take(&before, taking);
         }
         open
     }
 
-    /// The section after a line more.
-    pub fn take(&mut self, number: u32, record: Record<'a>, taking: Taking) {
-        match record {
-            Record::End => self.end(taking),
-            Record::TestName(name) => self.test = name,
-            _ => {
+    /// The section after a line more. One that is no record is of another producer.
+    pub fn take(&mut self, line: &Line<'a>, taking: Taking) {
+        match line.record {
+            Some(Record::End) => self.end(taking),
+            Some(Record::TestName(name)) => self.test = name,
+            record => {
                 if self.start == 0 {
-                    self.start = number;
+                    self.start = line.number;
                 }
-                if let Record::SourceFile(path) = record {
+                if let Some(Record::SourceFile(path)) = record {
                     self.path = path;
                 }
             }

@@ -33,9 +33,14 @@ impl Sources<'_> {
 
     /// A file as the library is to read it.
     pub fn text(&self, place: usize) -> Result<Vec<u8>, Failure> {
+        Ok(self.rewriting.rewrite(self.own_text(place)?))
+    }
+
+    /// A file as it is. The text has its lines, some with other test names and paths.
+    pub fn own_text(&self, place: usize) -> Result<Vec<u8>, Failure> {
         let mut text = Vec::new();
         self.files[place].read(&mut text)?;
-        Ok(self.rewriting.rewrite(text))
+        Ok(text)
     }
 }
 

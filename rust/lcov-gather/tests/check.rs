@@ -127,6 +127,49 @@ fn every_line_that_is_refused_is_told() {
     assert_eq!(told(&["--as-geninfo"]), geninfo);
 }
 
+/// One refusal for one wrong line: an FNA is not told where its FNL is, and all lines are those of the file.
+#[test]
+fn wrong_lines_of_other_producers_are_told_once() {
+    let wrong = "SF:a FNL:0,9,8 FNA:0,1,f FNL:1,x FNA:1,1,g FNA:7,1,h FNL:2,5 FNA:2,1,3,k BRDA:1,e5,0,x DA:1,-1 FNA:2,1,m end_of_record \
+                 FNL:0,1 FNA:0,1,q TN:u end_of_record FNA:0,1,z";
+    let folder = Folder::with(&[("wrong", &text(wrong))]);
+    let output = run(&folder, &["--check", "--as-geninfo"], &["wrong"]);
+    let expected = "\
+lcov-gather: wrong:2: end line below the start line (refusal 23)
+  2 | FNL:0,9,8
+    |         ^
+  help: a function ends on its start line or on a later one; capture the file again, or correct the line
+lcov-gather: wrong:4: tag unknown (refusal 1)
+  4 | FNL:1,x
+    |       ^
+  help: the line has the form FNL:INDEX,START[,END]
+lcov-gather: wrong:6: FNA names index 7, which no FNL before it in its section gives; capture the file again
+lcov-gather: wrong:8: FNA names function 3,k, whose digits FN would take for an end line; give FNL its end line
+lcov-gather: wrong:9: field 4: bad digit (refusal 5)
+  9 | BRDA:1,e5,0,x
+    |             ^
+  help: the line has the form BRDA:LINE,BLOCK,BRANCH,TAKEN
+lcov-gather: wrong:15: TN inside a section (refusal 7)
+  15 | TN:u
+     | ^^
+  the section without a path, which began on line 13, is still open
+  help: an end_of_record is missing before this line
+lcov-gather: wrong:17: FNA names index 0, which no FNL before it in its section gives; capture the file again
+lcov-gather: 1 of 1 files are refused
+";
+    assert_eq!(said(&output), expected);
+}
+
+#[test]
+fn lines_with_other_names_and_paths_are_shown_as_they_are() {
+    let folder = Folder::with(&[("bad", &text("SF:/b/x DA:x SF:/b/y TN:u end_of_record"))]);
+    let options = ["--check", "--test-name", "all", "--map-path", "/b=/s"];
+    let told = said(&run(&folder, &options, &["bad"]));
+    for line in ["\n  3 | SF:/b/y\n", "\n  4 | TN:u\n"] {
+        assert_eq!(told.matches(line).count(), 1, "{told}");
+    }
+}
+
 #[test]
 fn every_conflict_of_a_file_with_itself_is_told() {
     let own = "SF:a FN:1,f FN:2,f FN:3,g FN:4,g DA:1,1,x DA:1,1,y end_of_record";

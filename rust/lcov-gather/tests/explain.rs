@@ -4,6 +4,7 @@ mod common;
 
 use common::{said, Folder};
 use std::fs;
+use std::ops::Range;
 use std::process::Command;
 
 /// Lines parted by blanks, each with byte 10 after it.
@@ -29,6 +30,18 @@ fn explains(lines: &str, number: u32, expected: &[&str]) {
     assert_eq!(explained(&[], &[&text(lines)], number), expected, "{lines}");
 }
 
+/// The second line of a file is refused with this number; carets stand under a part of it, and help follows.
+fn points_at(options: &[&str], line: &str, number: u32, part: Range<usize>, help: &str) {
+    let file = format!("SF:a\n{line}\nend_of_record\n");
+    let carets = " ".repeat(part.start) + &"^".repeat(part.len().max(1));
+    let expected = [
+        format!("  2 | {line}"),
+        format!("    | {carets}"),
+        format!("  help: {help}"),
+    ];
+    assert_eq!(explained(options, &[&file], number), expected, "{line}");
+}
+
 const TAGS: &str = "TN, SF, FN, FNDA, FNF, FNH, BRDA, BRF, BRH, DA, LF, LH, end_of_record";
 
 #[test]
@@ -45,68 +58,38 @@ fn a_tag_that_is_unknown() {
         explained(&[], &["SF:a\n\n"], 1),
         ["  2 | ", "    | ^", empty]
     );
-    let newer =
-        "  help: lcov 2.3 writes FNL and FNA in place of FN and FNDA; --as-geninfo reads them";
-    explains("SF:a FNL:0,1", 1, &["  2 | FNL:0,1", "    | ^^^", newer]);
+    let newer = "lcov 2.3 writes FNL and FNA in place of FN and FNDA; --as-geninfo reads them";
+    points_at(&[], "FNL:0,1", 1, 0..3, newer);
 }
+
+const DA: &str = "the line has the form DA:LINE,COUNT[,CHECKSUM]";
+const BRDA: &str = "the line has the form BRDA:LINE,BLOCK,BRANCH,TAKEN";
+const FNDA: &str = "the line has the form FNDA:COUNT,NAME";
 
 #[test]
 fn fields_that_are_missing_or_too_many() {
-    let form = "  help: the line has the form DA:LINE,COUNT[,CHECKSUM]";
-    explains("SF:a DA:17", 2, &["  2 | DA:17", "    |      ^", form]);
-    let form = "  help: the line has the form BRDA:LINE,BLOCK,BRANCH,TAKEN";
-    explains(
-        "SF:a BRDA:1,2,3,4,5,6",
-        3,
-        &["  2 | BRDA:1,2,3,4,5,6", "    |              ^^^", form],
-    );
+    points_at(&[], "DA:17", 2, 5..5, DA);
+    points_at(&[], "BRDA:1,2,3,4,5,6", 3, 13..16, BRDA);
 }
 
 #[test]
 fn numbers() {
-    let form = "  help: the line has the form FN:START[,END],NAME";
-    explains("SF:a FN:,f", 4, &["  2 | FN:,f", "    |    ^", form]);
-    let form = "  help: the line has the form FNDA:COUNT,NAME";
-    explains(
-        "SF:a FNDA:12x4,f",
-        5,
-        &["  2 | FNDA:12x4,f", "    |      ^^^^", form],
-    );
-    let greatest = "  help: LINE is at most 4294967295";
-    explains(
-        "SF:a DA:4294967296,1",
-        6,
-        &["  2 | DA:4294967296,1", "    |    ^^^^^^^^^^", greatest],
-    );
-    let greatest = "  help: TAKEN is at most 18446744073709551615";
-    let taken = "99999999999999999999";
-    let carets = format!("    |            {}", "^".repeat(20));
-    explains(
-        &format!("SF:a BRDA:1,0,0,{taken}"),
-        6,
-        &[&format!("  2 | BRDA:1,0,0,{taken}"), &carets, greatest],
-    );
+    let form = "the line has the form FN:START[,END],NAME";
+    points_at(&[], "FN:,f", 4, 3..3, form);
+    points_at(&[], "FNDA:12x4,f", 5, 5..9, FNDA);
+    let greatest = "LINE is at most 4294967295";
+    points_at(&[], "DA:4294967296,1", 6, 3..13, greatest);
+    let greatest = "TAKEN is at most 18446744073709551615";
+    points_at(&[], "BRDA:1,0,0,99999999999999999999", 6, 11..31, greatest);
 }
 
 #[test]
 fn end_lines() {
-    let greatest = "  help: END is at most 4294967295";
-    explains(
-        "SF:a FN:1,4294967296,f",
-        6,
-        &["  2 | FN:1,4294967296,f", "    |      ^^^^^^^^^^", greatest],
-    );
-    let help = "  help: a function ends on its start line or on a later one; capture the file again, or correct the line";
-    explains(
-        "SF:a FN:138,68,f",
-        23,
-        &["  2 | FN:138,68,f", "    |        ^^", help],
-    );
-    let newer = text("SF:a DA:1,1 FNL:0,138,68 end_of_record");
-    assert_eq!(
-        explained(&["--as-geninfo"], &[&newer], 23),
-        ["  3 | FNL:0,138,68", "    |           ^^", help]
-    );
+    let greatest = "END is at most 4294967295";
+    points_at(&[], "FN:1,4294967296,f", 6, 5..15, greatest);
+    let help = "a function ends on its start line or on a later one; capture the file again, or correct the line";
+    points_at(&[], "FN:138,68,f", 23, 7..9, help);
+    points_at(&["--as-geninfo"], "FNL:0,138,68", 23, 10..12, help);
 }
 
 #[test]
@@ -125,12 +108,38 @@ fn counts_below_0_and_blocks_of_exceptions() {
             );
         }
     }
-    let block = "  help: lcov 2 marks the branches of exceptions by an e; --as-geninfo reads them";
-    explains(
-        "SF:a BRDA:1,e0,0,1",
-        5,
-        &["  2 | BRDA:1,e0,0,1", "    |        ^^", block],
-    );
+    let block = "lcov 2 marks the branches of exceptions by an e; --as-geninfo reads them";
+    points_at(&[], "BRDA:1,e0,0,1", 5, 7..9, block);
+    points_at(&[], "BRDA:e1,0,0,1", 5, 5..7, BRDA);
+}
+
+/// The option reads FNL, FNA, blocks of exceptions and counts below 0, so that it is not what helps.
+#[test]
+fn wrong_lines_of_other_producers_as_geninfo() {
+    let fnl = "the line has the form FNL:INDEX,START[,END]";
+    let fna = "the line has the form FNA:INDEX,COUNT,NAME";
+    let blocks = "the block of an exception is e0 to e2147483647";
+    let greatest = "START is at most 4294967295";
+    for (line, number, part, help) in [
+        ("FNL:0", 1, 5..5, fnl),
+        ("FNL:0,x", 1, 6..7, fnl),
+        ("FNL:0,1,2,3", 1, 10..11, fnl),
+        ("FNL:0,4294967296", 1, 6..16, greatest),
+        ("FNA:0,+1,f", 1, 6..8, fna),
+        ("FNA:0,1", 1, 7..7, fna),
+        ("BRDA:1,e2147483648,0,1", 5, 7..18, blocks),
+        ("BRDA:1,ex,0,1", 5, 7..9, blocks),
+        ("BRDA:1,e5,0,x", 5, 12..13, BRDA),
+        ("BRDA:1,e5,0", 2, 11..11, BRDA),
+        ("BRDA:1,0,0,-4,5", 3, 14..15, BRDA),
+        ("DA:x,-1", 5, 3..4, DA),
+        ("DA:1,-x", 5, 5..7, DA),
+        ("FNDA:-2", 2, 7..7, FNDA),
+    ] {
+        points_at(&["--as-geninfo"], line, number, part, help);
+    }
+    let tags = format!("the tags are {TAGS}, FNL, FNA");
+    points_at(&["--as-geninfo"], "DQ:1", 1, 0..2, &tags);
 }
 
 #[test]
@@ -173,6 +182,10 @@ fn a_section_that_is_open() {
             "  help: the file is cut; get it again",
         ],
     );
+    let newer = text("SF:a FNL:0,1 FNA:0,1,f end_of_record FNL:0,1 SF:b FNA:0,1,f");
+    let lines = explained(&["--as-geninfo"], &[&newer], 8);
+    let open = "  the section of b, which began on line 5, is still open";
+    assert_eq!(lines[0], open);
 }
 
 #[test]
@@ -316,14 +329,22 @@ fn one_test_name_and_mapped_paths_are_told_as_in_the_result() {
 
 #[test]
 fn a_number_that_begins_with_plus() {
-    let help = "  help: the line has the form DA:LINE,COUNT[,CHECKSUM]; a number has digits alone";
-    explains(
-        "SF:x DA:1,+5 end_of_record",
-        19,
-        &["  2 | DA:1,+5", "    |      ^^", help],
-    );
-    let help = "  help: the line has the form LF:FOUND; a number has digits alone";
-    explains("SF:x LF:+", 19, &["  2 | LF:+", "    |    ^", help]);
+    let digits = format!("{DA}; a number has digits alone");
+    points_at(&[], "DA:1,+5", 19, 5..7, &digits);
+    let digits = "the line has the form LF:FOUND; a number has digits alone";
+    points_at(&[], "LF:+", 19, 3..4, digits);
+}
+
+/// Lines are shown as the file has them.
+#[test]
+fn lines_with_other_names_and_paths_are_shown_as_they_are() {
+    let options = ["--test-name", "all", "--map-path", "/b=/s"];
+    let path = explained(&options, &[&text("SF:/b/x SF:/b/y")], 25);
+    assert_eq!(path[..2], ["  2 | SF:/b/y", "    | ^^"]);
+    let open =
+        "  the section of /s/x under the test name all, which began on line 1, is still open";
+    let name = explained(&options, &[&text("SF:/b/x TN:u")], 7);
+    assert_eq!(name[..3], ["  2 | TN:u", "    | ^^", open]);
 }
 
 /// Neither can be read again.
