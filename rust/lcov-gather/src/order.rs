@@ -204,22 +204,26 @@ pub fn ordered(body: &[u8]) -> Vec<Run> {
 mod tests {
     use super::*;
 
-    fn ordered(text: &str) -> Option<String> {
+    fn in_order(text: &str, runs: &[Run]) -> Option<String> {
+        let parts = runs.iter().map(|run| &text[run.range()]);
+        (!runs.is_empty()).then(|| parts.collect())
+    }
+
+    fn taken(text: &str) -> Option<String> {
         let mut order = Order::default();
         for line in lines(text.as_bytes()) {
             order.add(line.record.as_ref(), line.start, line.end);
         }
         let runs = order.take();
         assert_eq!(order.take(), []);
-        let parts = runs.iter().map(|run| &text[run.range()]);
-        (!runs.is_empty()).then(|| parts.collect())
+        in_order(text, &runs)
     }
 
     #[test]
     fn functions_by_name_then_branches_then_lines() {
         let text = "SF:x\nFN:1,g\nFNDA:1,g\nFNDA:2,g\nFN:3,f\nFNDA:4,f\nFNF:2\nDA:2,1\nBRDA:9,0,0,-\nDA:1,1\nBRDA:1,0,0,-\nLF:1\nend_of_record\n";
         let expected = "SF:x\nFNF:2\nLF:1\nFN:3,f\nFNDA:4,f\nFN:1,g\nFNDA:1,g\nFNDA:2,g\nBRDA:9,0,0,-\nBRDA:1,0,0,-\nDA:2,1\nDA:1,1\nend_of_record\n";
-        assert_eq!(ordered(text).as_deref(), Some(expected));
+        assert_eq!(taken(text).as_deref(), Some(expected));
     }
 
     #[test]
@@ -230,7 +234,81 @@ mod tests {
             "DA:1,1\nTN:x\nBRDA:1,0,0,1\nend_of_record\n",
             "DA:1,1\nVER:x\nBRDA:1,0,0,1\nend_of_record\n",
         ] {
-            assert_eq!(ordered(text), None, "{text}");
+            assert_eq!(taken(text), None, "{text}");
+        }
+    }
+
+    #[test]
+    fn what_the_library_wrote_gets_its_functions_by_name() {
+        let rest = "FNF:2\nFNH:2\nBRDA:1,0,0,1\nDA:1,1\nend_of_record\n";
+        let printed = format!("SF:x\nFN:1,g\nFN:2,f\nFNDA:1,g\nFNDA:2,f\n{rest}");
+        let expected = format!("SF:x\nFN:2,f\nFNDA:2,f\nFN:1,g\nFNDA:1,g\n{rest}");
+        let runs = ordered(printed.as_bytes());
+        assert_eq!(in_order(&printed, &runs), Some(expected.clone()));
+        assert_eq!(ordered(expected.as_bytes()), []);
+    }
+
+    /// The lines that begin and end so.
+    fn chosen<'t>(text: &'t str, tag: &str, end: &str) -> Vec<&'t str> {
+        let is_chosen = |line: &&str| line.starts_with(tag) && line.ends_with(end);
+        text.lines().filter(is_chosen).collect()
+    }
+
+    #[test]
+    fn no_line_is_lost_and_those_of_one_key_keep_their_order() {
+        let mut random = 0x9e37_79b9_u64;
+        let mut below = |bound: usize| {
+            random ^= random << 13;
+            random ^= random >> 7;
+            random ^= random << 17;
+            (random >> 11) as usize % bound
+        };
+        let mut changed = 0;
+        for _ in 0..5_000 {
+            let lines = (0..below(9)).map(|count| match below(5) {
+                0 => format!("DA:{},{count}\n", below(3)),
+                1 => format!("BRDA:{},0,0,{count}\n", below(3)),
+                2 => format!("FN:{count},{}\n", ["f", "g", "h"][below(3)]),
+                3 => format!("FNDA:{count},{}\n", ["f", "g", "h"][below(3)]),
+                _ => format!("LF:{count}\n"),
+            });
+            let text = format!("SF:x\n{}end_of_record\n", lines.collect::<String>());
+            let Some(other) = taken(&text) else {
+                continue;
+            };
+            let [mut sorted, mut others] = [&text, &other].map(|text| chosen(text, "", ""));
+            sorted.sort_unstable();
+            others.sort_unstable();
+            assert_eq!(sorted, others);
+            for (tag, end) in [
+                ("DA", ""),
+                ("BRDA", ""),
+                ("FN", ",f"),
+                ("FN", ",g"),
+                ("FN", ",h"),
+            ] {
+                assert_eq!(chosen(&text, tag, end), chosen(&other, tag, end), "{text}");
+            }
+            assert_eq!(taken(&other), None, "{text}");
+            changed += 1;
+        }
+        assert!(changed > 1_000, "{changed}");
+    }
+
+    #[test]
+    fn a_function_comes_again_unless_one_fnda_follows_one_fn() {
+        for (text, is_again) in [
+            ("FN:1,f\nFN:1,g\nFNDA:1,f\nFNDA:1,g\n", false),
+            ("FN:1,f\nFN:1,g\nFN:1,f\n", true),
+            ("FNDA:1,f\nFN:1,f\n", true),
+            ("FNDA:1,f\nFN:1,g\nFNDA:1,f\n", true),
+            ("FNDA:1,f\n", false),
+        ] {
+            let mut order = Order::default();
+            for line in lines(text.as_bytes()) {
+                order.add(line.record.as_ref(), line.start, line.end);
+            }
+            assert_eq!(order.has_function_again(), is_again, "{text}");
         }
     }
 }

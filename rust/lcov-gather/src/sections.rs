@@ -50,3 +50,36 @@ fn first_line(text: &[u8]) -> (&[u8], &[u8]) {
 fn after<'a>(tag: &[u8], line: &'a [u8]) -> &'a [u8] {
     line.strip_prefix(tag).unwrap_or(&[])
 }
+
+#[cfg(test)]
+mod tests {
+    use super::*;
+
+    #[test]
+    fn sections_with_their_keys() {
+        let sections = [
+            "TN:\nSF:end_of_record\nFN:1,end_of_record\nend_of_record\n",
+            "TN:t\nSF:\nDA:1,1\nend_of_record\n",
+            "TN:SF:u\nSF:/a/b\nend_of_record\n",
+        ];
+        let report = sections.concat();
+        let found: Vec<&[u8]> = printed_sections(report.as_bytes()).collect();
+        assert_eq!(found, sections.map(str::as_bytes));
+        let keys: Vec<_> = found.iter().map(|section| key_of(section)).collect();
+        let expected: [(&[u8], &[u8]); 3] =
+            [(b"", b"end_of_record"), (b"t", b""), (b"SF:u", b"/a/b")];
+        assert_eq!(keys, expected);
+        assert_eq!(path_of(found[2]), b"/a/b");
+        assert_eq!(printed_sections(b"").count(), 0);
+    }
+
+    #[test]
+    fn a_section_is_a_text_of_its_own() {
+        let section = "TN:t\nSF:x\nDA:1,1\nend_of_record\n";
+        let text = joined_text(section.as_bytes(), 4);
+        let mut bytes = Vec::new();
+        text.write(&mut bytes);
+        assert_eq!(bytes, section.as_bytes());
+        assert_eq!((text.test, text.path), (Some(&b"t"[..]), &b"x"[..]));
+    }
+}
