@@ -258,7 +258,7 @@ impl Split {
                 let function = self.function(name);
                 next_from(function.calls, &mut function.start)
             }
-            // The library refuses a second path, TN in a section, and a line that is no record.
+            // Totals act on nothing. The library refuses a second path, TN in a section, and a line that is no record.
             Some(Record::SourceFile(_) | Record::TestName(_) | Record::Found) | None => 0,
         };
         self.put(place, bytes, number);

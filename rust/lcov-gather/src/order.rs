@@ -26,9 +26,10 @@ impl Run {
     }
 }
 
-/// The groups of a section's lines, in the library's order.
-#[derive(Debug, Clone, Copy, PartialEq, Eq, PartialOrd, Ord)]
+/// The kinds of a section's lines, in the library's order.
+#[derive(Debug, Clone, Copy, Default, PartialEq, Eq, PartialOrd, Ord)]
 enum Kind {
+    #[default]
     Head,
     Function,
     Branch,
@@ -44,33 +45,17 @@ struct Function<'t> {
 }
 
 /// The lines of the section that is read, by kind.
+#[derive(Default)]
 pub struct Order<'t> {
-    head: Vec<Run>,
+    /// Those of each kind but functions.
+    runs: [Vec<Run>; 5],
     functions: Vec<Function<'t>>,
-    are_functions_sorted: bool,
-    branches: Vec<Run>,
-    lines: Vec<Run>,
-    end: Vec<Run>,
     last: Kind,
-    is_ordered: bool,
+    /// The kinds come in another order than the library's, or the functions do.
+    is_mixed: bool,
+    are_functions_mixed: bool,
     /// A line that is no record or is out of place: the library is to refuse the section as it is.
     is_odd: bool,
-}
-
-impl Default for Order<'_> {
-    fn default() -> Self {
-        Order {
-            head: Vec::new(),
-            functions: Vec::new(),
-            are_functions_sorted: true,
-            branches: Vec::new(),
-            lines: Vec::new(),
-            end: Vec::new(),
-            last: Kind::Head,
-            is_ordered: true,
-            is_odd: false,
-        }
-    }
 }
 
 impl<'t> Order<'t> {
@@ -78,62 +63,68 @@ impl<'t> Order<'t> {
     #[inline]
     pub fn add(&mut self, record: Option<&Record<'t>>, start: usize, end: usize) {
         let run = Run::new(start, end);
-        let kind = match record {
-            Some(Record::Line { .. }) => extend(&mut self.lines, run, Kind::Line),
-            Some(Record::Branch { .. }) => extend(&mut self.branches, run, Kind::Branch),
+        match record {
+            Some(Record::Line { .. }) => self.add_run(Kind::Line, run),
+            Some(Record::Branch { .. }) => self.add_run(Kind::Branch, run),
             Some(Record::Function { name, .. }) => self.add_function(name, run, true),
             Some(Record::Calls { name, .. }) => self.add_function(name, run, false),
-            Some(Record::SourceFile(_)) => extend(&mut self.head, run, Kind::Head),
-            Some(Record::End) => extend(&mut self.end, run, Kind::End),
+            Some(Record::SourceFile(_)) => self.add_run(Kind::Head, run),
+            Some(Record::End) => self.add_run(Kind::End, run),
             // Totals act on nothing.
-            Some(Record::Found) => {
-                extend(&mut self.head, run, Kind::Head);
-                return;
-            }
-            Some(Record::TestName(_)) | None => {
-                self.is_odd = true;
-                return;
-            }
-        };
-        self.follow(kind);
+            Some(Record::Found) => self.extend(Kind::Head, run),
+            Some(Record::TestName(_)) | None => self.is_odd = true,
+        }
     }
 
     /// The next lines of the section, all DA or all BRDA.
     #[inline]
     pub fn add_lines(&mut self, start: usize, end: usize) {
-        let kind = extend(&mut self.lines, Run::new(start, end), Kind::Line);
-        self.follow(kind);
+        self.add_run(Kind::Line, Run::new(start, end));
     }
 
     #[inline]
     pub fn add_branches(&mut self, start: usize, end: usize) {
-        let kind = extend(&mut self.branches, Run::new(start, end), Kind::Branch);
+        self.add_run(Kind::Branch, Run::new(start, end));
+    }
+
+    #[inline]
+    fn add_run(&mut self, kind: Kind, run: Run) {
+        self.extend(kind, run);
         self.follow(kind);
+    }
+
+    /// Lines that follow each other are one run.
+    #[inline]
+    fn extend(&mut self, kind: Kind, run: Run) {
+        let runs = &mut self.runs[kind as usize];
+        match runs.last_mut() {
+            Some(last) if last.end == run.start => last.end = run.end,
+            _ => runs.push(run),
+        }
     }
 
     #[inline]
     fn follow(&mut self, kind: Kind) {
-        self.is_ordered &= self.last <= kind;
+        self.is_mixed |= kind < self.last;
         self.last = kind;
     }
 
-    fn add_function(&mut self, name: &'t [u8], run: Run, is_start: bool) -> Kind {
+    fn add_function(&mut self, name: &'t [u8], run: Run, is_start: bool) {
         let last = self.functions.last();
-        self.are_functions_sorted &= last.is_none_or(|last| last.name <= name);
+        self.are_functions_mixed |= last.is_some_and(|last| name < last.name);
         self.functions.push(Function {
             name,
             run,
             is_start,
         });
-        Kind::Function
+        self.follow(Kind::Function);
     }
 
     /// Functions of one name keep their order.
     fn sort_functions(&mut self) {
-        if !self.are_functions_sorted {
+        if std::mem::take(&mut self.are_functions_mixed) {
             self.functions.sort_by_key(|function| function.name);
-            self.are_functions_sorted = true;
-            self.is_ordered = false;
+            self.is_mixed = true;
         }
     }
 
@@ -150,34 +141,21 @@ impl<'t> Order<'t> {
         if !self.is_odd {
             self.sort_functions();
         }
-        if !self.is_ordered && !self.is_odd {
-            runs.extend_from_slice(&self.head);
-            runs.extend(self.functions.iter().map(|function| function.run));
-            runs.extend_from_slice(&self.branches);
-            runs.extend_from_slice(&self.lines);
-            runs.extend_from_slice(&self.end);
+        if self.is_mixed && !self.is_odd {
+            let functions = self.functions.iter().map(|function| function.run);
+            self.runs[Kind::Function as usize].extend(functions);
+            runs = self.runs.concat();
         }
-        self.head.clear();
+        self.runs.iter_mut().for_each(Vec::clear);
         self.functions.clear();
-        self.are_functions_sorted = true;
-        self.branches.clear();
-        self.lines.clear();
-        self.end.clear();
-        self.last = Kind::Head;
-        self.is_ordered = true;
-        self.is_odd = false;
+        // The memory is used again.
+        *self = Order {
+            runs: std::mem::take(&mut self.runs),
+            functions: std::mem::take(&mut self.functions),
+            ..Order::default()
+        };
         runs
     }
-}
-
-/// Lines that follow each other are one run.
-#[inline]
-fn extend(runs: &mut Vec<Run>, run: Run, kind: Kind) -> Kind {
-    match runs.last_mut() {
-        Some(last) if last.end == run.start => last.end = run.end,
-        _ => runs.push(run),
-    }
-    kind
 }
 
 /// The lines of a body that the library wrote. It prints functions by start line, right after SF, and reads them faster by name.
