@@ -6,9 +6,10 @@
 use crate::forms::{self, Reader};
 use crate::key::compare_keys;
 use crate::meaning::Meaning;
-use crate::order::Order;
+use crate::order::{ordered, Order};
 use crate::piece::{range_of, Body, Fault, Group, Piece, Pieces, Text};
 use crate::record::{lines, ItemRun, Line, Record};
+use crate::sections::{body_of, key_of, printed_sections};
 use std::cmp::Ordering;
 use std::collections::hash_map::{Entry, HashMap};
 use std::ops::Range;
@@ -294,11 +295,21 @@ fn next_from(least: usize, next: &mut usize) -> usize {
     place
 }
 
-/// The pieces of a text that the library wrote: it has each section once.
+/// The sections of a text that the library wrote, which has each once. Their lines are no lines of a file.
 pub fn cut_printed(text: &[u8]) -> Vec<Piece> {
-    let mut cutter = Cutter::new(text, Meaning::AsWritten, false);
-    lines(text).for_each(|line| cutter.take(&line));
-    cutter.finish().pieces
+    let pieces = printed_sections(text).map(|section| {
+        let (test, path) = key_of(section);
+        let body = body_of(section);
+        let bytes = range_of(body, text);
+        Piece {
+            test: Some(range_of(test, text)),
+            path: range_of(path, text),
+            entries: memchr::memchr_iter(b'\n', body).count(),
+            runs: ordered(body, bytes.start),
+            body: Body::Lines(bytes, 0),
+        }
+    });
+    pieces.collect()
 }
 
 /// Texts by test name and path, in the order of these keys. Keys are hashed by their bytes first; the library then finds which paths are
@@ -607,9 +618,16 @@ mod tests {
 
     #[test]
     fn pieces_of_a_printed_text_are_its_sections() {
-        let text = "TN:\nSF:x\nDA:1,1\nend_of_record\nTN:t\nSF:y\nFN:1,g\nFN:2,f\nend_of_record\n";
+        let text =
+            "TN:\nSF:x\nDA:1,1\nend_of_record\nTN:t\nSF:y\nFN:1,g\nFN:2,f\nDA:1,1\nend_of_record\n";
+        let pieces = cut_printed(text.as_bytes());
+        let ordered = "SF:y\nFN:2,f\nFN:1,g\nDA:1,1\nend_of_record\n";
+        let runs = pieces[1].runs.iter().map(|run| &text[run.range()]);
+        assert_eq!(runs.collect::<String>(), ordered);
+        let entries: Vec<usize> = pieces.iter().map(|piece| piece.entries).collect();
+        assert_eq!(entries, [3, 5]);
         let pieces = Pieces {
-            pieces: cut_printed(text.as_bytes()),
+            pieces,
             ..Pieces::default()
         };
         let sections: Vec<&str> = text.split_inclusive("end_of_record\n").collect();

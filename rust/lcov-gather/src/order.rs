@@ -158,8 +158,9 @@ impl<'t> Order<'t> {
     }
 }
 
-/// The lines of a body that the library wrote. It prints functions by start line, right after SF, and reads them faster by name.
-pub fn ordered(body: &[u8]) -> Vec<Run> {
+/// The lines of a body that the library wrote, in a text that has it from `at` on. It prints functions by start line, right after SF, and
+/// reads them faster by name.
+pub fn ordered(body: &[u8], at: usize) -> Vec<Run> {
     let mut order = Order::default();
     let is_function = |line: &Line| {
         use Record::{Calls, Function, SourceFile};
@@ -168,12 +169,12 @@ pub fn ordered(body: &[u8]) -> Vec<Run> {
     };
     let mut rest = 0;
     for line in lines(body).take_while(is_function) {
-        order.add(line.record.as_ref(), line.start, line.end);
+        order.add(line.record.as_ref(), at + line.start, at + line.end);
         rest = line.end;
     }
     let mut runs = order.take();
     if !runs.is_empty() {
-        runs.push(Run::new(rest, body.len()));
+        runs.push(Run::new(at + rest, at + body.len()));
     }
     runs
 }
@@ -221,9 +222,13 @@ mod tests {
         let rest = "FNF:2\nFNH:2\nBRDA:1,0,0,1\nDA:1,1\nend_of_record\n";
         let printed = format!("SF:x\nFN:1,g\nFN:2,f\nFNDA:1,g\nFNDA:2,f\n{rest}");
         let expected = format!("SF:x\nFN:2,f\nFNDA:2,f\nFN:1,g\nFNDA:1,g\n{rest}");
-        let runs = ordered(printed.as_bytes());
+        let runs = ordered(printed.as_bytes(), 0);
         assert_eq!(in_order(&printed, &runs), Some(expected.clone()));
-        assert_eq!(ordered(expected.as_bytes()), []);
+        assert_eq!(ordered(expected.as_bytes(), 0), []);
+        let later = runs
+            .iter()
+            .map(|run| Run::new(run.range().start + 7, run.range().end + 7));
+        assert!(ordered(printed.as_bytes(), 7).into_iter().eq(later));
     }
 
     /// The lines that begin and end so.

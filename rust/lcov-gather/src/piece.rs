@@ -134,7 +134,7 @@ impl Text<'_> {
     pub fn write_ordered(&self, bytes: &mut Vec<u8>) {
         let (file, runs) = self.runs;
         match self.origin {
-            Origin::Joined => self.write_runs(self.body, &ordered(self.body), bytes),
+            Origin::Joined => self.write_runs(self.body, &ordered(self.body, 0), bytes),
             Origin::Piece { .. } => self.write_runs(file, runs, bytes),
         }
     }

@@ -23,7 +23,7 @@ pub fn joined_text(section: &[u8], lines: usize) -> Text<'_> {
         origin: Origin::Joined,
         test: Some(test),
         path,
-        body: first_line(section).1,
+        body: body_of(section),
         runs: (b"", &[]),
         entries: lines,
     }
@@ -33,6 +33,11 @@ pub fn joined_text(section: &[u8], lines: usize) -> Text<'_> {
 pub fn key_of(section: &[u8]) -> (&[u8], &[u8]) {
     let (test, body) = first_line(section);
     (after(b"TN:", test), after(b"SF:", first_line(body).0))
+}
+
+/// What follows the TN line.
+pub fn body_of(section: &[u8]) -> &[u8] {
+    first_line(section).1
 }
 
 /// The second line of a printed section is its SF.
