@@ -51,21 +51,21 @@ Excludes a b = (i : Item) → a i ≡ true → b i ≡ false
 function-branch : Excludes isFunction isBranch
 unfolding isFunction isBranch
 function-branch (sectionItem s) h = refl
-function-branch (functionItem n s c) h = refl
+function-branch (functionItem f) h = refl
 function-branch (branchItem l b h t) e = impossible cc
 function-branch (lineItem l c s) h = refl
 
 function-line : Excludes isFunction isLine
 unfolding isFunction isLine
 function-line (sectionItem s) h = refl
-function-line (functionItem n s c) h = refl
+function-line (functionItem f) h = refl
 function-line (branchItem l b h t) e = refl
 function-line (lineItem l c s) h = impossible cc
 
 branch-line : Excludes isBranch isLine
 unfolding isBranch isLine
 branch-line (sectionItem s) h = refl
-branch-line (functionItem n s c) h = refl
+branch-line (functionItem f) h = refl
 branch-line (branchItem l b h t) e = refl
 branch-line (lineItem l c s) h = impossible cc
 

@@ -13,7 +13,7 @@ use Rattle.table.specs.Rows.{row-words, word, rowAt, rowFrom}
 use Rattle.table.specs.Store.{number, row, Index, Store}
 use Rattle.table.proofs.TabulateLaws.{tabulate-cong}
 use Rattle.model.specs.Bytes.{Bytes}
-use Rattle.model.specs.Report.{Report, Item, sectionItem, functionItem, branchItem, lineItem}
+use Rattle.model.specs.Report.{Report, functionOf, Item, sectionItem, functionItem, branchItem, lineItem}
 use Rattle.model.specs.Valid.{Valid}
 use Rattle.table_item.specs.Items.{part, kindOf, byKind, ifGiven, extentIn, function-kind, line-kind, itemOf, ItemInBounds}
 use Rattle.table_section.specs.Sections.{entryOf, entryAt, entriesAt, NamesInBounds, RowInBounds}
@@ -60,7 +60,7 @@ module _ (text more : Bytes) where
     item-more =
         kind-cong (kindOf r) (branchItem (r .k1) (r .k2) (r .k3) (ifGiven (r .tag % 2) (r .count)))
         (λ k. ap sectionItem (part-more (r .path) (r .«path_len») (w .named .path)))
-        (λ k. ap (λ (name : Bytes). functionItem name (extentIn (r .tag % 2) (r .k3)) (r .count)) (part-more (r .k1) (r .k2) (w .good .name k)))
+        (λ k. ap (λ (name : Bytes). functionItem (functionOf name (extentIn (r .tag % 2) (r .k3)) (r .count))) (part-more (r .k1) (r .k2) (w .good .name k)))
         (λ k. ap (lineItem (r .k1) (r .count))
         (given-cong (r .tag % 2) (λ g. part-more (r .k2) (r .k3) (w .good .checksum (omega (arith, w .good .kind)) (omega arith)))))
 

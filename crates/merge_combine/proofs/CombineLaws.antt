@@ -21,6 +21,7 @@ use Rattle.model.specs.Answer.{Answer, accepted, refused, _>>=_, refuse}
 use Rattle.model.specs.Report.{
   extentAt,
   Extent,
+  updated,
   Item,
   extentOf,
   larger,
@@ -40,7 +41,7 @@ use Rattle.model.specs.Report.{
   combineItems,
   combineEntries,
 }
-use Rattle.table_item.specs.Items.{part, kindOf, function-kind, branch-kind, line-kind, ifGiven, line-numbers, extentIn, startKey, itemOf, ItemInBounds}
+use Rattle.table_item.specs.Items.{part, kindOf, function-kind, branch-kind, line-kind, ifGiven, line-numbers, extentIn, startKey, functionIn, itemOf, ItemInBounds}
 use Rattle.table_item.proofs.CountLaws.{function-item}
 use Rattle.table_item.proofs.RowLaws.{KeyOf, function-extent}
 use Rattle.table_section.specs.Sections.{entryOf, RowInBounds}
@@ -234,7 +235,7 @@ module _ (text : Bytes) (mode : Mode) (old new : Row) where
     y = extentIn (new .tag % 2) (new .k3)
 
     abbrev functionWith : Answer (Option Extent) → Answer Item
-    functionWith answer = answer >>= λ both. accepted (functionItem (part text (old .k1) (old .k2)) both total)
+    functionWith answer = answer >>= λ both. accepted (functionItem (updated (functionIn text old) both total))
 
     function-whole : (tag k3 : ℕ) → tag / 2 ≡ function-kind → RowInBounds text old → RowInBounds text (made old tag (old .k2) k3 total)
     function-whole tag k3 e w = whole-made tag (old .k2) k3 total w (record { kind = omega arith; name = λ z. w .good .name a; checksum = λ z y. absurd (omega arith) })
@@ -250,7 +251,7 @@ module _ (text : Bytes) (mode : Mode) (old new : Row) where
       unfolding combineItems extentOf countOf
       functions-by c f =
           ap₂ (combineItems mode) (function-item text old a) (function-item text new b)
-          ∙ ap (λ (n : ℕ). combineExtents mode x y >>= λ both. accepted (functionItem (part text (old .k1) (old .k2)) both n)) (sym t)
+          ∙ ap (λ (n : ℕ). combineExtents mode x y >>= λ both. accepted (functionItem (updated (functionIn text old) both n))) (sym t)
           ∙ ap functionWith (extents-chosen mode x y)
           ∙ ap (λ (d : Choice). functionWith (chosenExtent x y d)) (sym (e ∙ ap₂ (λ (m n : ℕ). choiceOf mode m n (eqb m n)) earlier-is later-is) ∙ f)
 
@@ -268,7 +269,7 @@ module _ (text : Bytes) (mode : Mode) (old new : Row) where
             is = entry-made tag (old .k2) k3 total
                 (ap accepted
                 (function-item text (made old tag (old .k2) k3 total) k
-                ∙ ap (λ (z : Option Extent). functionItem (part text (old .k1) (old .k2)) z total)
+                ∙ ap (λ (z : Option Extent). functionItem (updated (functionIn text old) z total))
                 (q ∙ ap₂ (λ (i j : ℕ). joinedExtents (extentIn i (old .k3)) (extentIn j (new .k3))) (sym v) (sym u)))
                 ∙ sym (functions-by Earlier f));
             whole = function-whole tag k3 k w;

@@ -17,7 +17,7 @@ use Rattle.ordmap.proofs.Members.{only-member}
 use Rattle.ordmap.proofs.Perms.{perm-member, perm-only, perm-flat}
 use Rattle.model.specs.Bytes.{Bytes, sameBytes}
 use Rattle.model.specs.Limits.{u64-max}
-use Rattle.model.specs.Report.{Extent, Item, sectionItem, functionItem, branchItem, lineItem, itemKey, Entry, Report, Key, compareKeys, entryKey, startOf, endOf, larger, takenOf, checksumOf, countOf, sectionKey, inSection}
+use Rattle.model.specs.Report.{Function, functionOf, updated, Item, sectionItem, functionItem, branchItem, lineItem, itemKey, Entry, Report, Key, compareKeys, entryKey, startOf, endOf, larger, takenOf, checksumOf, countOf, sectionKey, inSection}
 use Rattle.model.specs.Joined.{
   allEntries,
   itemsAt,
@@ -155,8 +155,8 @@ joinableAs-perm i j {is} {js} e d h = by-key (λ i j. joinableAs i is ≡ true �
     sections : (p q : Bytes) → joinableAs (sectionItem p) is ≡ true → joinableAs (sectionItem q) js ≡ true
     sections p q h = refl
 
-    functions : (n : Bytes) (s t : Option Extent) (c k : ℕ) → joinableAs (functionItem n s c) is ≡ true → joinableAs (functionItem n t k) js ≡ true
-    functions n s t c k h = agreeing-perm eqb number-same (p-map startOf d) h
+    functions : (f g : Function) → f .name ≡ g .name → joinableAs (functionItem f) is ≡ true → joinableAs (functionItem g) js ≡ true
+    functions f g q h = agreeing-perm eqb number-same (p-map startOf d) h
 
     branches : (l b n : ℕ) (s t : Option ℕ) → joinableAs (branchItem l b n s) is ≡ true → joinableAs (branchItem l b n t) js ≡ true
     branches l b n s t h = totals h
@@ -172,11 +172,11 @@ joinableAs-perm i j {is} {js} e d h = by-key (λ i j. joinableAs i is ≡ true �
 spellings-member : {is : List Item} {p : Bytes} → Member (sectionItem p) is → Member (some p) (spellings is)
 unfolding spellings
 spellings-member {is = sectionItem q ∷ is} {p} (here h) = let e : p ≡ q = cc in here (ap (λ (x : Bytes). some x) e)
-spellings-member {is = functionItem m t k ∷ is} {p} (here h) = impossible cc
+spellings-member {is = functionItem f ∷ is} {p} (here h) = impossible cc
 spellings-member {is = branchItem k b m t ∷ is} {p} (here h) = impossible cc
 spellings-member {is = lineItem m k t ∷ is} {p} (here h) = impossible cc
 spellings-member {is = sectionItem q ∷ is} (there i) = there (spellings-member i)
-spellings-member {is = functionItem m t k ∷ is} (there i) = spellings-member i
+spellings-member {is = functionItem f ∷ is} (there i) = spellings-member i
 spellings-member {is = branchItem k b m t ∷ is} (there i) = spellings-member i
 spellings-member {is = lineItem m k t ∷ is} (there i) = spellings-member i
 
@@ -192,11 +192,12 @@ joinedAs-perm i j {is} {js} e m n o d h = by-key Same-join sections functions br
     sections p q m n h =
         ap (λ (x : Bytes). sectionItem x) (agreeing-each sameBytes bytes-same (spellings is) o p q (spellings-member m) (spellings-member n))
 
-    functions : (n : Bytes) (s t : Option Extent) (c k : ℕ) → Same-join (functionItem n s c) (functionItem n t k)
-    functions name s t c k m n h =
-        ap (λ (u : Option ℕ). functionItem name (extentFrom u (largest (map endOf is))) (min (total (map countOf is)) u64-max)) (given-perm eqb number-same (p-map startOf d) h)
-        ∙ ap (λ (u : Option ℕ). functionItem name (extentFrom (given (map startOf js)) u) (min (total (map countOf is)) u64-max)) (largest-perm (p-map endOf d))
-        ∙ ap (λ (c : ℕ). functionItem name (extentFrom (given (map startOf js)) (largest (map endOf js))) (min c u64-max)) (total-perm (p-map countOf d))
+    functions : (f g : Function) → f .name ≡ g .name → Same-join (functionItem f) (functionItem g)
+    functions f g q m n h =
+        ap (λ (u : Option ℕ). functionItem (updated f (extentFrom u (largest (map endOf is))) (min (total (map countOf is)) u64-max))) (given-perm eqb number-same (p-map startOf d) h)
+        ∙ ap (λ (u : Option ℕ). functionItem (updated f (extentFrom (given (map startOf js)) u) (min (total (map countOf is)) u64-max))) (largest-perm (p-map endOf d))
+        ∙ ap (λ (c : ℕ). functionItem (updated f (extentFrom (given (map startOf js)) (largest (map endOf js))) (min c u64-max))) (total-perm (p-map countOf d))
+        ∙ ap (λ (name : Bytes). functionItem (functionOf name (extentFrom (given (map startOf js)) (largest (map endOf js))) (min (total (map countOf js)) u64-max))) q
 
     branches : (l b n : ℕ) (s t : Option ℕ) → Same-join (branchItem l b n s) (branchItem l b n t)
     branches l b branch s t m n h = ap (λ (u : Option ℕ). branchItem l b branch u) (totalGiven-perm (p-map takenOf d))
@@ -236,7 +237,7 @@ member-spelling : (is : List Item) {p : Bytes} → Member (some p) (spellings is
 unfolding spellings
 member-spelling (sectionItem q ∷ is) {p} (here h) = let e : p ≡ q = cc in here (ap (λ (x : Bytes). sectionItem x) e)
 member-spelling (sectionItem q ∷ is) (there i) = there (member-spelling is i)
-member-spelling (functionItem m t k ∷ is) i = there (member-spelling is i)
+member-spelling (functionItem f ∷ is) i = there (member-spelling is i)
 member-spelling (branchItem k b m t ∷ is) i = there (member-spelling is i)
 member-spelling (lineItem m k t ∷ is) i = there (member-spelling is i)
 

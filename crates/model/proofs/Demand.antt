@@ -65,7 +65,7 @@ use Rattle.model.proofs.ReadBack.{readText-print}
 counted : (i : Item) → ItemFits i → Counted i
 unfolding countOf
 counted (sectionItem spelling) f = omega arith
-counted (functionItem name extent count) f = f .2
+counted (functionItem fn) f = f .2
 counted (branchItem line block branch none) f = omega arith
 counted (branchItem line block branch (some taken)) f = f .3
 counted (lineItem line count checksum) f = f .1

@@ -13,7 +13,7 @@ use Rattle.model.specs.declared.Mode.{Mode}
 use Rattle.model.specs.declared.Mode.the-variants.{Checked}
 use Rattle.model.specs.Bytes.{Bytes, sameBytes}
 use Rattle.model.specs.Answer.{Answer}
-use Rattle.model.specs.Report.{Extent, Item, sectionItem, functionItem, branchItem, lineItem, itemKey, Entry, Key, compareKeys, entryKey, extentOf, takenOf, checksumOf, countOf, sum, sumTaken, agree, combineExtents, combineItems, combineEntries, sectionKey, inSection}
+use Rattle.model.specs.Report.{Function, Item, sectionItem, functionItem, branchItem, lineItem, itemKey, Entry, Key, compareKeys, entryKey, extentOf, takenOf, checksumOf, countOf, sum, sumTaken, agree, combineExtents, combineItems, combineEntries, sectionKey, inSection}
 use Rattle.model.specs.Joined.{joinedAs, joinedItem}
 use Rattle.model.proofs.Items.{joinItems, orZero, Branches, Counted, Like, items-closed, joinableAs, joinable}
 
@@ -22,8 +22,8 @@ use Rattle.model.proofs.Items.{joinItems, orZero, Branches, Counted, Li
 combineItems-key : (mode : Mode) (i j : Item) {k : Item} → combineItems mode i j ≡ accepted k → itemKey k ≡ itemKey i
 unfolding combineItems itemKey
 combineItems-key mode (sectionItem spelling) j p = ap itemKey (sym (accepted-inj p))
-combineItems-key mode (functionItem name extent count) j p =
-    let (u, q, e) = bind-accepted (combineExtents mode extent (extentOf j)) _ p in
+combineItems-key mode (functionItem f) j p =
+    let (u, q, e) = bind-accepted (combineExtents mode (f .extent) (extentOf j)) _ p in
     ap itemKey (sym (accepted-inj e))
 combineItems-key mode (branchItem line block branch taken) j p =
     let (u, q, e) = bind-accepted (sumTaken taken (takenOf j)) _ p in
@@ -47,15 +47,13 @@ entries-keyed mode = record { keeps = λ {x} {e} {y} h p. kept x e y p }
 -- items of one key are two sections, or two functions, branches or lines of one name or place
 pub by-key : (P : Item → Item → Type 0)
     → ((p q : Bytes) → P (sectionItem p) (sectionItem q))
-    → ((name : Bytes) (s t : Option Extent) (c d : ℕ) → P (functionItem name s c) (functionItem name t d))
+    → ((a b : Function) → a .name ≡ b .name → P (functionItem a) (functionItem b))
     → ((line block branch : ℕ) (s t : Option ℕ) → P (branchItem line block branch s) (branchItem line block branch t))
     → ((line c d : ℕ) (s t : Option Bytes) → P (lineItem line c s) (lineItem line d t))
     → (i j : Item) → itemKey i ≡ itemKey j → P i j
 unfolding itemKey
 by-key P f g h k (sectionItem p) (sectionItem q) e = f p q
-by-key P f g h k (functionItem n s c) (functionItem m t d) e =
-    let q : n ≡ m = cc in
-    subst (λ (x : Bytes). P (functionItem n s c) (functionItem x t d)) q (g n s t c d)
+by-key P f g h k (functionItem a) (functionItem b) e = g a b cc
 by-key P f g h k (branchItem l b n s) (branchItem l′ b′ n′ t) e =
     let q : l ≡ l′ = cc in
     let r : b ≡ b′ = cc in
@@ -63,23 +61,23 @@ by-key P f g h k (branchItem l b n s) (branchItem l′ b′ n′ t) e =
     subst (λ (x : ℕ). P (branchItem l b n s) (branchItem x b′ n′ t)) q
     (subst (λ (x : ℕ). P (branchItem l b n s) (branchItem l x n′ t)) r (subst (λ (x : ℕ). P (branchItem l b n s) (branchItem l b x t)) u (h l b n s t)))
 by-key P f g h k (lineItem n c s) (lineItem m d t) e = let q : n ≡ m = cc in subst (λ (x : ℕ). P (lineItem n c s) (lineItem x d t)) q (k n c d s t)
-by-key P f g h k (sectionItem p) (functionItem m t d) e = impossible cc
+by-key P f g h k (sectionItem p) (functionItem a) e = impossible cc
 by-key P f g h k (sectionItem p) (branchItem l b n t) e = impossible cc
 by-key P f g h k (sectionItem p) (lineItem m d t) e = impossible cc
-by-key P f g h k (functionItem n s c) (sectionItem q) e = impossible cc
-by-key P f g h k (functionItem n s c) (branchItem l b m t) e = impossible cc
-by-key P f g h k (functionItem n s c) (lineItem m d t) e = impossible cc
+by-key P f g h k (functionItem a) (sectionItem q) e = impossible cc
+by-key P f g h k (functionItem a) (branchItem l b m t) e = impossible cc
+by-key P f g h k (functionItem a) (lineItem m d t) e = impossible cc
 by-key P f g h k (branchItem l b n s) (sectionItem q) e = impossible cc
-by-key P f g h k (branchItem l b n s) (functionItem m t d) e = impossible cc
+by-key P f g h k (branchItem l b n s) (functionItem a) e = impossible cc
 by-key P f g h k (branchItem l b n s) (lineItem m d t) e = impossible cc
 by-key P f g h k (lineItem n c s) (sectionItem q) e = impossible cc
-by-key P f g h k (lineItem n c s) (functionItem m t d) e = impossible cc
+by-key P f g h k (lineItem n c s) (functionItem a) e = impossible cc
 by-key P f g h k (lineItem n c s) (branchItem l b m t) e = impossible cc
 
 pub branch-count : (line block branch : ℕ) (taken : Option ℕ) (j : Item) → itemKey j ≡ itemKey (branchItem line block branch taken) → countOf j ≡ orZero (takenOf j)
 unfolding itemKey countOf takenOf
 branch-count line block branch taken (sectionItem spelling) e = refl
-branch-count line block branch taken (functionItem name extent count) e = cc
+branch-count line block branch taken (functionItem f) e = cc
 branch-count line block branch taken (branchItem l b n none) e = refl
 branch-count line block branch taken (branchItem l b n (some t)) e = refl
 branch-count line block branch taken (lineItem n count checksum) e = cc
@@ -95,7 +93,7 @@ all-branches line block branch taken (j ∷ js) h c = (
 
 pub all-like : (i : Item) (js : List Item) → ((j : Item) → Member j js → itemKey j ≡ itemKey i) → ((j : Item) → Member j js → Counted j) → Like i js
 all-like (sectionItem spelling) js h c = tt
-all-like (functionItem name extent count) js h c = tt
+all-like (functionItem f) js h c = tt
 all-like (branchItem line block branch taken) js h c = all-branches line block branch taken js h c
 all-like (lineItem line count checksum) js h c = tt
 

@@ -20,6 +20,8 @@ use Rattle.model.specs.Limits.{u64-max}
 use Rattle.model.specs.Report.{
   extentAt,
   Extent,
+  Function,
+  updated,
   Item,
   Report,
   sectionItem,
@@ -50,7 +52,7 @@ use Rattle.model.specs.Joined.{given, allAgree, agreeing, total, addGive
 -- past 2^64 − 1
 unfoldable pub joinableAs : Item → List Item → Bool
 joinableAs (sectionItem spelling) items = true
-joinableAs (functionItem name extent count) items = agreeing eqb (map startOf items)
+joinableAs (functionItem f) items = agreeing eqb (map startOf items)
 joinableAs (branchItem line block branch taken) items = leb (total (map countOf items)) u64-max
 joinableAs (lineItem line count checksum) items =
     agreeing sameBytes (map checksumOf items) && leb (total (map countOf items)) u64-max
@@ -139,21 +141,25 @@ unfolding agreeing given allAgree largest
 extent-alone none made = refl
 extent-alone (some a) made = ap (λ (e : Option ℕ). made true (some (extentAt (a .start) e))) (sym (larger-none (a .end)))
 
-functions-closed : (name : Bytes) (x : Option Extent) (c : ℕ) (js : List Item) → c ≤ u64-max
-    → value (joinItems (functionItem name x c) js)
-    ≡ when (agreeing eqb (givenStart x ∷ map startOf js))
-    (functionItem name (extentFrom (given (givenStart x ∷ map startOf js)) (largest (givenEnd x ∷ map endOf js))) (min (c + total (map countOf js)) u64-max))
+functions-closed : (f : Function) (js : List Item) → f .count ≤ u64-max
+    → value (joinItems (functionItem f) js)
+    ≡ when (agreeing eqb (givenStart (f .extent) ∷ map startOf js))
+    (functionItem (updated f (extentFrom (given (givenStart (f .extent) ∷ map startOf js)) (largest (givenEnd (f .extent) ∷ map endOf js))) (min (f .count + total (map countOf js)) u64-max)))
 unfolding combineItems total
-functions-closed name x c [] h =
-    ap (λ (n : ℕ). some (functionItem name x n)) (omega arith) ∙ extent-alone x (λ t u. when t (functionItem name u (min (c + 0) u64-max)))
-functions-closed name x c (j ∷ js) h =
-    ap value (bind-assoc (combineExtents Checked x (extentOf j)) (λ u. accepted (functionItem name u m)) (λ k. joinItems k js))
-    ∙ extents-more x (extentOf j) (map startOf js) (map endOf js) (λ u. joinItems (functionItem name u m) js)
-    (λ t u. when t (functionItem name u (min (m + rest) u64-max))) (λ u. refl) (λ u. functions-closed name u m js (omega arith))
-    ∙ ap (λ (n : ℕ). when (agreeing eqb (givenStart x ∷ startOf j ∷ map startOf js)) (functionItem name (extentFrom (given (givenStart x ∷ startOf j ∷ map startOf js)) (largest (givenEnd x ∷ endOf j ∷ map endOf js))) n)) (omega arith)
+functions-closed f [] h =
+    ap (λ (n : ℕ). some (functionItem (updated f (f .extent) n))) (omega arith)
+    ∙ extent-alone (f .extent) (λ t u. when t (functionItem (updated f u (min (f .count + 0) u64-max))))
+functions-closed f (j ∷ js) h =
+    ap value (bind-assoc (combineExtents Checked (f .extent) (extentOf j)) (λ u. accepted (functionItem (updated f u m))) (λ k. joinItems k js))
+    ∙ extents-more (f .extent) (extentOf j) (map startOf js) (map endOf js) (λ u. joinItems (functionItem (updated f u m)) js)
+    (λ t u. when t (functionItem (updated f u (min (m + rest) u64-max)))) (λ u. refl) (λ u. functions-closed (updated f u m) js (omega arith))
+    ∙ ap (λ (n : ℕ). when (agreeing eqb starts) (functionItem (updated f (extentFrom (given starts) (largest (givenEnd (f .extent) ∷ endOf j ∷ map endOf js))) n))) (omega arith)
   where
+    starts : List (Option ℕ)
+    starts = givenStart (f .extent) ∷ startOf j ∷ map startOf js
+
     m : ℕ
-    m = min (c + countOf j) u64-max
+    m = min (f .count + countOf j) u64-max
 
     rest : ℕ
     rest = total (map countOf js)
@@ -267,7 +273,7 @@ Counted i = countOf i ≤ u64-max
 -- items of the first one's kind, whose counts are counts: that is asked of branches, where a count may be none
 abbrev pub Like : Item → List Item → Type 0
 Like (sectionItem spelling) js = Unit {0}
-Like (functionItem name extent count) js = Unit {0}
+Like (functionItem f) js = Unit {0}
 Like (branchItem line block branch taken) js = Branches js
 Like (lineItem line count checksum) js = Unit {0}
 
@@ -276,7 +282,7 @@ pub items-closed : (i : Item) (js : List Item) → Counted i → Like i js
     → value (joinItems i js) ≡ cond (joinableAs i (i ∷ js)) (some (joinedAs i (i ∷ js))) none
 unfolding joinableAs joinedAs countOf takenOf extentOf checksumOf total
 items-closed (sectionItem spelling) js c l = ap value (sections-closed spelling js)
-items-closed (functionItem name extent count) js c l = functions-closed name extent count js c
+items-closed (functionItem f) js c l = functions-closed f js c
 items-closed (branchItem line block branch none) js c l = branches-closed line block branch none js c l
 items-closed (branchItem line block branch (some taken)) js c l = branches-closed line block branch (some taken) js c l
 items-closed (lineItem line count checksum) js c l = lines-closed line count checksum js c

@@ -41,14 +41,14 @@ use Rattle.model.proofs.Entries.{by-key}
 -- what an item of the first one's kind does not have, and what it counts for in a sum
 abbrev Lacks : Item → Item → Type 0
 Lacks (sectionItem spelling) j = (startOf j ≡ none) × (checksumOf j ≡ none) × (summedOf j ≡ 0)
-Lacks (functionItem name extent count) j = (checksumOf j ≡ none) × (summedOf j ≡ 0)
+Lacks (functionItem f) j = (checksumOf j ≡ none) × (summedOf j ≡ 0)
 Lacks (branchItem line block branch taken) j = (startOf j ≡ none) × (checksumOf j ≡ none) × (summedOf j ≡ countOf j)
 Lacks (lineItem line count checksum) j = (startOf j ≡ none) × (summedOf j ≡ countOf j)
 
 lacks : (i j : Item) → itemKey i ≡ itemKey j → Lacks i j
 unfolding extentOf checksumOf summedOf countOf
 lacks i j e =
-    by-key Lacks (λ p q. (refl, refl, refl)) (λ name s t c d. (refl, refl)) (λ line block branch s t. (refl, refl, refl))
+    by-key Lacks (λ p q. (refl, refl, refl)) (λ f g h. (refl, refl)) (λ line block branch s t. (refl, refl, refl))
     (λ line c d s t. (refl, refl)) i j e
 
 agreeing-none : {A : Type 0} (same : A → A → Bool) (f : Item → Option A) (is : List Item) → ((j : Item) → Member j is → f j ≡ none)
@@ -91,7 +91,7 @@ joinableAs-tests : (i : Item) (is : List Item) → ((j : Item) → Member j is �
 unfolding joinableAs
 joinableAs-tests (sectionItem spelling) is l =
     rw (agreeing-none eqb startOf is (λ j m. l j m .0), agreeing-none sameBytes checksumOf is (λ j m. l j m .1), sums-zero is (λ j m. l j m .2))
-joinableAs-tests (functionItem name extent count) is l =
+joinableAs-tests (functionItem f) is l =
     rw (agreeing-none sameBytes checksumOf is (λ j m. l j m .0), sums-zero is (λ j m. l j m .1)) (sym (and-true (starts is)))
 joinableAs-tests (branchItem line block branch taken) is l =
     rw (agreeing-none eqb startOf is (λ j m. l j m .0), agreeing-none sameBytes checksumOf is (λ j m. l j m .1), sums-same is (λ j m. l j m .2))

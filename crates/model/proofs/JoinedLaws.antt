@@ -110,7 +110,7 @@ distinct-key (e ∷ es) (there i) =
 joinedAs-key : (j : Item) (js : List Item) → itemKey (joinedAs j js) ≡ itemKey j
 unfolding joinedAs itemKey
 joinedAs-key (sectionItem spelling) js = refl
-joinedAs-key (functionItem name extent count) js = refl
+joinedAs-key (functionItem f) js = refl
 joinedAs-key (branchItem line block branch taken) js = refl
 joinedAs-key (lineItem line count checksum) js = refl
 

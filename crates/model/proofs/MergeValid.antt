@@ -25,6 +25,7 @@ use Rattle.model.specs.Answer.{Answer, accepted, refuse}
 use Rattle.model.specs.Limits.{u32-max, u64-max}
 use Rattle.model.specs.Report.{
   Extent,
+  Function,
   Item,
   itemKey,
   sectionItem,
@@ -63,24 +64,24 @@ use Rattle.model.proofs.Read.{sum-fits}
 -- ---- items
 
 -- an item of a function's key has an extent that fits the function's name
-extent-fits : (name : Bytes) (x : Option Extent) (count : ℕ) (j : Item) → itemKey (functionItem name x count) ≡ itemKey j → ItemFits j → Given (ExtentFits name) (extentOf j)
+extent-fits : (f : Function) (j : Item) → itemKey (functionItem f) ≡ itemKey j → ItemFits j → Given (ExtentFits (f .name)) (extentOf j)
 unfolding extentOf itemKey
-extent-fits name x count (sectionItem spelling) e f = tt
-extent-fits name x count (functionItem n extent c) e f = let q : n ≡ name = cc in rw (← q) (f .1)
-extent-fits name x count (branchItem line block branch taken) e f = tt
-extent-fits name x count (lineItem line c checksum) e f = tt
+extent-fits f (sectionItem spelling) e h = tt
+extent-fits f (functionItem g) e h = let q : g .name ≡ f .name = cc in rw (← q) (h .1)
+extent-fits f (branchItem line block branch taken) e h = tt
+extent-fits f (lineItem line count checksum) e h = tt
 
 taken-fits : (i : Item) → ItemFits i → TakenFits (takenOf i)
 unfolding takenOf
 taken-fits (sectionItem spelling) f = tt
-taken-fits (functionItem name extent count) f = tt
+taken-fits (functionItem fn) f = tt
 taken-fits (branchItem line block branch taken) f = f .3
 taken-fits (lineItem line count checksum) f = tt
 
 checksum-fits : (i : Item) → ItemFits i → ChecksumFits (checksumOf i)
 unfolding checksumOf
 checksum-fits (sectionItem spelling) f = tt
-checksum-fits (functionItem name extent count) f = tt
+checksum-fits (functionItem fn) f = tt
 checksum-fits (branchItem line block branch taken) f = tt
 checksum-fits (lineItem line count checksum) f = f .2
 
@@ -137,9 +138,9 @@ extents-fit name Checked (some a) (some b) {u} f g p = go (eqb (a .start) (b .st
 combine-fits : (mode : Mode) (i j : Item) {k : Item} → itemKey i ≡ itemKey j → ItemFits i → ItemFits j → combineItems mode i j ≡ accepted k → ItemFits k
 unfolding combineItems
 combine-fits mode (sectionItem spelling) j κ f g p = rw (← (accepted-inj p)) f
-combine-fits mode (functionItem name extent count) j κ f g p =
-    let (u, q, e) = bind-accepted (combineExtents mode extent (extentOf j)) _ p in
-    let s : Given (ExtentFits name) u = extents-fit name mode extent (extentOf j) (f .1) (extent-fits name extent count j κ g) q in
+combine-fits mode (functionItem fn) j κ f g p =
+    let (u, q, e) = bind-accepted (combineExtents mode (fn .extent) (extentOf j)) _ p in
+    let s : Given (ExtentFits (fn .name)) u = extents-fit (fn .name) mode (fn .extent) (extentOf j) (f .1) (extent-fits fn j κ g) q in
     rw (← (accepted-inj e)) (f .0, s, omega arith)
 combine-fits mode (branchItem line block branch taken) j κ f g p =
     let (u, q, e) = bind-accepted (sumTaken taken (takenOf j)) _ p in
@@ -154,8 +155,7 @@ combine-fits mode (lineItem line count checksum) j κ f g p =
 combine-section : (mode : Mode) (i j : Item) {p : Bytes} → combineItems mode i j ≡ accepted (sectionItem p) → i ≡ sectionItem p
 unfolding combineItems
 combine-section mode (sectionItem spelling) j q = accepted-inj q
-combine-section mode (functionItem name extent count) j q =
-    let (u, r, e) = bind-accepted (combineExtents mode extent (extentOf j)) _ q in cc
+combine-section mode (functionItem f) j q = let (u, r, e) = bind-accepted (combineExtents mode (f .extent) (extentOf j)) _ q in cc
 combine-section mode (branchItem line block branch taken) j q = let (u, r, e) = bind-accepted (sumTaken taken (takenOf j)) _ q in cc
 combine-section mode (lineItem line count checksum) j q =
     let (u, r, e) = bind-accepted (agree sameBytes mode UnmatchedChecksum checksum (checksumOf j)) _ q in
@@ -172,17 +172,17 @@ combine-entry mode x e p =
 section-key : (i : Item) (p : Bytes) → itemKey i ≡ itemKey (sectionItem p) → (q : Bytes) × (i ≡ sectionItem q)
 unfolding itemKey
 section-key (sectionItem spelling) p e = (spelling, refl)
-section-key (functionItem name extent count) p e = (p, cc)
+section-key (functionItem f) p e = (p, cc)
 section-key (branchItem line block branch taken) p e = (p, cc)
 section-key (lineItem line count checksum) p e = (p, cc)
 
 not-section : (i j : Item) → itemKey i ≡ itemKey j → isSection j ≡ false → isSection i ≡ false
 unfolding itemKey isSection
 not-section (sectionItem p) (sectionItem q) e h = h
-not-section (sectionItem p) (functionItem name extent count) e h = cc
+not-section (sectionItem p) (functionItem f) e h = cc
 not-section (sectionItem p) (branchItem line block branch taken) e h = cc
 not-section (sectionItem p) (lineItem line count checksum) e h = cc
-not-section (functionItem name extent count) j e h = refl
+not-section (functionItem f) j e h = refl
 not-section (branchItem line block branch taken) j e h = refl
 not-section (lineItem line count checksum) j e h = refl
 

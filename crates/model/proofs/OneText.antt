@@ -41,6 +41,7 @@ use Rattle.model.specs.Tags.{allKinds}
 use Rattle.model.specs.Line.{beginsWithEnd, withEnd, readFunction, trimmed, kindAmong, fromField, inField, numberField, textField, takenField, lastBefore, readOne, readBody, bodyOf, readTrimmed, readRecord}
 use Rattle.model.specs.Report.{
   extentAt,
+  functionOf,
   Item,
   sectionItem,
   functionItem,
@@ -185,8 +186,8 @@ no-enter combine e s h = no-bind (add itemKey compareBytes combine e (s .items))
 no-calls : (x e : Item) → NoText (addCalls x e)
 unfolding addCalls sum
 no-calls (sectionItem spelling) e = tt
-no-calls (functionItem name extent count) e =
-    no-bind (sum CallOverflow count (countOf e)) _ (no-if (leb (count + countOf e) u64-max) (accepted (count + countOf e)) (refuse CallOverflow) tt refl) (λ n. tt)
+no-calls (functionItem f) e =
+    no-bind (sum CallOverflow (f .count) (countOf e)) _ (no-if (leb (f .count + countOf e) u64-max) (accepted (f .count + countOf e)) (refuse CallOverflow) tt refl) (λ n. tt)
 no-calls (branchItem line block branch taken) e = tt
 no-calls (lineItem line count checksum) e = tt
 
@@ -194,8 +195,8 @@ no-effect : (r : Record) (s : State) → NoText (effect r s)
 unfolding effect nameSection ignored
 no-effect (testName name) s = no-if (s .inside) (refuse UnexpectedRecord) (accepted (outside (s .kept) name)) refl tt
 no-effect (sourceFile path) s = no-option (s .path) (accepted (open-section s (some path) (s .items))) (λ earlier. refuse SecondSourceFile) tt (λ earlier. refl)
-no-effect (functionName start end name) s = no-enter replace (functionItem name (some (extentAt start end)) 0) s (λ x. tt)
-no-effect (functionData count name) s = no-enter addCalls (functionItem name none count) s (λ x. no-calls x (functionItem name none count))
+no-effect (functionName start end name) s = no-enter replace (functionItem (functionOf name (some (extentAt start end)) 0)) s (λ x. tt)
+no-effect (functionData count name) s = let e : Item = functionItem (functionOf name none count) in no-enter addCalls e s (λ x. no-calls x e)
 no-effect (functionsFound found) s = tt
 no-effect (functionsHit hit) s = tt
 no-effect (branchData line block branch taken) s = no-enter replace (branchItem line block branch taken) s (λ x. tt)

@@ -18,7 +18,7 @@ use Rattle.model.specs.Bytes.{Bytes, compareBytes}
 use Rattle.model.specs.Answer.{Answer, accepted}
 use Rattle.model.specs.Limits.{u64-max}
 use Rattle.model.specs.Record.{Record}
-use Rattle.model.specs.Report.{Extent, Item, sectionItem, functionItem, branchItem, lineItem, Report, itemKey, countOf, sum, within}
+use Rattle.model.specs.Report.{Extent, Function, functionOf, updated, Item, sectionItem, functionItem, branchItem, lineItem, Report, itemKey, countOf, sum, within}
 use Rattle.model.specs.Reading.{State, open-section, entries, replace, addCalls, enterItem, ignored, effect}
 use Rattle.model.specs.Printing.{isSection, startRecord, dataRecord, hits, group}
 use Rattle.model.specs.Valid.{ItemFits}
@@ -64,8 +64,7 @@ InSection i = isSection i ≡ false
 -- what the FN line of an item leaves
 abbrev pub started : Item → Option Item
 started (sectionItem spelling) = none
-started (functionItem name none count) = none
-started (functionItem name (some x) count) = some (functionItem name (some x) 0)
+started (functionItem f) = elim (f .extent) [ none ↦ none | some x ↦ some (functionItem (updated f (some x) 0)) ]
 started (branchItem line block branch taken) = none
 started (lineItem line count checksum) = none
 
@@ -159,12 +158,18 @@ module _ (limit : ℕ) (kept : Report) (test path : Bytes) (items : List Item) w
         → (n : List Item) × (run limit (startRecord e) (holding m) ≡ accepted (holding n)) × Pass items started n rest
     unfolding startRecord run effect itemKey
     start-one m (sectionItem spelling) rest p = (m, refl, start-skip m (sectionItem spelling) rest refl p)
-    start-one m (functionItem name none count) rest p = (m, refl, start-skip m (functionItem name none count) rest refl p)
-    start-one m (functionItem name (some x) count) rest p =
-        let e : Item = functionItem name (some x) count in
-        let y : Item = functionItem name (some x) 0 in
-        let (n, q, next, f) = entry-pass started replace (Record.functionName (x .start) (x .end) name) m y e y rest (λ s. refl) replace-keyed refl refl (replaced (at (itemKey e) m) y) p in
-        (n, rw q, next)
+    start-one m (functionItem f) rest p = go (f .extent) p
+      where
+        item : Option Extent → Item
+        item extent = functionItem (updated f extent (f .count))
+
+        go : (extent : Option Extent) → Pass items started m (item extent ∷ rest)
+            → (n : List Item) × (run limit (startRecord (item extent)) (holding m) ≡ accepted (holding n)) × Pass items started n rest
+        go none p = (m, refl, start-skip m (item none) rest refl p)
+        go (some x) p =
+            let y : Item = functionItem (updated f (some x) 0) in
+            let (n, q, next, found) = entry-pass started replace (Record.functionName (x .start) (x .end) (f .name)) m y (item (some x)) y rest (λ s. refl) replace-keyed refl refl (replaced (at (itemKey y) m) y) p in
+            (n, rw q, next)
     start-one m (branchItem line block branch taken) rest p = (m, refl, start-skip m (branchItem line block branch taken) rest refl p)
     start-one m (lineItem line count checksum) rest p = (m, refl, start-skip m (lineItem line count checksum) rest refl p)
 
@@ -201,20 +206,25 @@ module _ (limit : ℕ) (kept : Report) (test path : Bytes) (items : List Item) w
         let (n, q, next, f) = entry-pass some combine r m new e e rest eff C kn refl (rw held h) p in
         (n, rw q, next, ready-next m n e rest (p .distinct) ready f)
 
-    add-to-start : (name : Bytes) (extent : Option Extent) (count : ℕ) → count ≤ u64-max
-        → meet addCalls (started (functionItem name extent count)) (functionItem name none count)
-        ≡ accepted (functionItem name extent count)
+    add-to-start : (f : Function) → f .count ≤ u64-max
+        → meet addCalls (started (functionItem f)) (functionItem (functionOf (f .name) none (f .count))) ≡ accepted (functionItem f)
     unfolding addCalls sum countOf
-    add-to-start name none count h = refl
-    add-to-start name (some x) count h = rw (zero-add count) (rw (le-leb count u64-max h))
+    add-to-start f h = go (f .extent)
+      where
+        item : Option Extent → Item
+        item extent = functionItem (updated f extent (f .count))
+
+        go : (extent : Option Extent) → meet addCalls (started (item extent)) (item none) ≡ accepted (item extent)
+        go none = refl
+        go (some x) = rw (zero-add (f .count)) (rw (le-leb (f .count) u64-max h))
 
     data-one : (m : List Item) (e : Item) (rest : List Item) → InSection e → ItemFits e → Pass items some m (e ∷ rest) → Ready m (e ∷ rest)
         → (n : List Item) × (run limit (dataRecord e) (holding m) ≡ accepted (holding n)) × Pass items some n rest × Ready n rest
     unfolding dataRecord effect itemKey isSection
     data-one m (sectionItem spelling) rest i f p ready = absurd (true≢false i)
-    data-one m (functionItem name extent count) rest i f p ready =
-        data-entry addCalls (Record.functionData count name) m (functionItem name none count) (functionItem name extent count) rest (λ s. refl) addCalls-keyed refl
-        (add-to-start name extent count (f .2)) p ready
+    data-one m (functionItem fn) rest i f p ready =
+        let new : Item = functionItem (functionOf (fn .name) none (fn .count)) in
+        data-entry addCalls (Record.functionData (fn .count) (fn .name)) m new (functionItem fn) rest (λ s. refl) addCalls-keyed refl (add-to-start fn (f .2)) p ready
     data-one m (branchItem line block branch taken) rest i f p ready =
         let e : Item = branchItem line block branch taken in
         data-entry replace (Record.branchData line block branch taken) m e e rest (λ s. refl) replace-keyed refl refl p ready

@@ -30,7 +30,7 @@ use Rattle.model.specs.Record.{
 }
 use Rattle.model.specs.Tags.{Lawful}
 use Rattle.model.specs.Line.{printEnd, printFields, printTaken, printChecksum, printRecord}
-use Rattle.model.specs.Report.{Item, sectionItem, functionItem, branchItem, lineItem, countOf}
+use Rattle.model.specs.Report.{Extent, updated, Item, sectionItem, functionItem, branchItem, lineItem, countOf}
 use Rattle.model.specs.Printing.{isFunction, isBranch, isLine, comparePrinted, functionsOf, startRecord, dataRecord, hits, group, sectionRecords}
 use Rattle.model.specs.Valid.{LineText, ItemFits}
 use Rattle.model.proofs.ListLaws.{All, all-append, all-select, all-sort, all-results, select-length, sort-length}
@@ -89,15 +89,21 @@ module _ (tag : Kind → Bytes) (L : Lawful tag) where
 starts-fit : (i : Item) → ItemFits i → All RecordFits (startRecord i)
 unfolding startRecord
 starts-fit (sectionItem spelling) f = tt
-starts-fit (functionItem name none count) f = tt
-starts-fit (functionItem name (some x) count) f = ((f .1, f .0), tt)
+starts-fit (functionItem fn) f = go (fn .extent) f
+  where
+    item : Option Extent → Item
+    item extent = functionItem (updated fn extent (fn .count))
+
+    go : (extent : Option Extent) → ItemFits (item extent) → All RecordFits (startRecord (item extent))
+    go none g = tt
+    go (some x) g = ((g .1, g .0), tt)
 starts-fit (branchItem line block branch taken) f = tt
 starts-fit (lineItem line count checksum) f = tt
 
 data-fit : (i : Item) → ItemFits i → All RecordFits (dataRecord i)
 unfolding dataRecord
 data-fit (sectionItem spelling) f = tt
-data-fit (functionItem name extent count) f = ((f .2, f .0), tt)
+data-fit (functionItem fn) f = ((f .2, f .0), tt)
 data-fit (branchItem line block branch taken) f = (f, tt)
 data-fit (lineItem line count checksum) f = (f, tt)
 

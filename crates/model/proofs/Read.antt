@@ -42,7 +42,7 @@ use Rattle.model.specs.Record.{
   endOfRecord,
 }
 use Rattle.model.specs.Line.{readRecord}
-use Rattle.model.specs.Report.{extentAt, Extent, Item, sectionItem, functionItem, branchItem, lineItem, itemKey, Entry, Report, SectionKey, sectionKey, compareSections, compareKeys, entryKey, countOf, sum, within, inSection}
+use Rattle.model.specs.Report.{extentAt, functionOf, Item, sectionItem, functionItem, branchItem, lineItem, itemKey, Entry, Report, SectionKey, sectionKey, compareSections, compareKeys, entryKey, countOf, sum, within, inSection}
 use Rattle.model.specs.Reading.{
   lines,
   State,
@@ -100,7 +100,7 @@ section-less a b h = rw h
 own-first : (p : Bytes) (i : Item) → isSection i ≡ false → compareBytes (itemKey (sectionItem p)) (itemKey i) ≡ Ordering·lt
 unfolding itemKey compareBytes isSection
 own-first p (sectionItem spelling) h = absurd (true≢false h)
-own-first p (functionItem name extent count) h = refl
+own-first p (functionItem f) h = refl
 own-first p (branchItem line block branch taken) h = refl
 own-first p (lineItem line count checksum) h = refl
 
@@ -145,7 +145,7 @@ module _ (test path : Bytes) (items : List Item) (first : Item) (m : Member firs
           → LineText (spellingOf path (inSection (sectionKey e) i ∷ l))
           × (components (spellingOf path (inSection (sectionKey e) i ∷ l)) ≡ components path)
       at e n k (sectionItem p) q l = (rw q at (R .fits e n), R .spelled e p n q ∙ ap (λ (s : SectionKey). s .1) k)
-      at e n k (functionItem name extent count) q l = (cp, refl)
+      at e n k (functionItem f) q l = (cp, refl)
       at e n k (branchItem line block branch taken) q l = (cp, refl)
       at e n k (lineItem line count checksum) q l = (cp, refl)
 
@@ -249,9 +249,9 @@ addCalls-keyed = record { keeps = λ {x} {e} {y} h p. kept x e y h p }
   where
     kept : (x e y : Item) → itemKey x ≡ itemKey e → addCalls x e ≡ accepted y → itemKey y ≡ itemKey x
     kept (sectionItem spelling) e y h p = ap itemKey (sym (accepted-inj p)) ∙ sym h
-    kept (functionItem name extent count) e y h p =
-        let (n, q, f) = bind-accepted (sum CallOverflow count (countOf e)) _ p in
-        ap itemKey (sym (accepted-inj f))
+    kept (functionItem f) e y h p =
+        let (n, q, g) = bind-accepted (sum CallOverflow (f .count) (countOf e)) _ p in
+        ap itemKey (sym (accepted-inj g))
     kept (branchItem line block branch taken) e y h p = ap itemKey (sym (accepted-inj p)) ∙ sym h
     kept (lineItem line count checksum) e y h p = ap itemKey (sym (accepted-inj p)) ∙ sym h
 
@@ -262,9 +262,9 @@ OpenItem i = ItemFits i × (isSection i ≡ false)
 addCalls-fits : (e : Item) → OpenItem e → (x y : Item) → OpenItem x → addCalls x e ≡ accepted y → OpenItem y
 unfolding addCalls isSection
 addCalls-fits e g (sectionItem spelling) y h p = rw (← (accepted-inj p)) g
-addCalls-fits e g (functionItem name extent count) y h p =
-    let (n, q, f) = bind-accepted (sum CallOverflow count (countOf e)) _ p in
-    rw (← (accepted-inj f)) ((h .0 .0, h .0 .1, sum-fits CallOverflow count (countOf e) q), refl)
+addCalls-fits e g (functionItem f) y h p =
+    let (n, q, a) = bind-accepted (sum CallOverflow (f .count) (countOf e)) _ p in
+    rw (← (accepted-inj a)) ((h .0 .0, h .0 .1, sum-fits CallOverflow (f .count) (countOf e) q), refl)
 addCalls-fits e g (branchItem line block branch taken) y h p = rw (← (accepted-inj p)) g
 addCalls-fits e g (lineItem line count checksum) y h p = rw (← (accepted-inj p)) g
 
@@ -307,12 +307,13 @@ effect-reading (sourceFile path) s {t} f R p = go (s .path) p
     go none q = rw (← (accepted-inj q)) (open-reading s (some path) (s .items) R f (R .sorted) (R .fits))
     go (some earlier) q = absurd (not-accepted q)
 effect-reading (functionName start end name) s f R p =
-    let x : Extent = extentAt start end in
-    let g : OpenItem (functionItem name (some x) 0) = ((f .1, f .0, zero-le), refl) in
-    enter-reading replace (functionItem name (some x) 0) s replace-keyed g (replaced (functionItem name (some x) 0) g) R p
+    let e : Item = functionItem (functionOf name (some (extentAt start end)) 0) in
+    let g : OpenItem e = ((f .1, f .0, zero-le), refl) in
+    enter-reading replace e s replace-keyed g (replaced e g) R p
 effect-reading (functionData count name) s f R p =
-    let g : OpenItem (functionItem name none count) = ((f .1, tt, f .0), refl) in
-    enter-reading addCalls (functionItem name none count) s addCalls-keyed g (addCalls-fits (functionItem name none count) g) R p
+    let e : Item = functionItem (functionOf name none count) in
+    let g : OpenItem e = ((f .1, tt, f .0), refl) in
+    enter-reading addCalls e s addCalls-keyed g (addCalls-fits e g) R p
 effect-reading (functionsFound found) s f R p = ignored-reading s R p
 effect-reading (functionsHit hit) s f R p = ignored-reading s R p
 effect-reading (branchData line block branch taken) s f R p =

@@ -19,7 +19,7 @@ use Rattle.model.specs.Order.{if_then_else_}
 use Rattle.model.specs.Bytes.{Bytes, sameBytes}
 use Rattle.model.specs.Answer.{Answer, refuse}
 use Rattle.model.specs.Limits.{u64-max}
-use Rattle.model.specs.Report.{extentAt, Extent, Item, functionItem, branchItem, lineItem, itemKey, Entry, Key, compareKeys, entryKey, extentOf, larger, joinExtents, combineExtents, takenOf, checksumOf, countOf, sum, sumTaken, agree, combineItems, combineEntries, sectionKey, inSection}
+use Rattle.model.specs.Report.{extentAt, Extent, Function, updated, Item, functionItem, branchItem, lineItem, itemKey, Entry, Key, compareKeys, entryKey, extentOf, larger, joinExtents, combineExtents, takenOf, checksumOf, countOf, sum, sumTaken, agree, combineItems, combineEntries, sectionKey, inSection}
 use Rattle.model.proofs.KeyOrder.{bytes-same}
 use Rattle.model.proofs.Entries.{by-key}
 use Rattle.model.proofs.Items.{larger-assoc}
@@ -126,17 +126,23 @@ taken-regroup (some a) (some b) (some c) h =
 
 -- of what two items make, what an item before them is combined with
 module _ (mode : Mode) where
-  functions-regroup : (name : Bytes) (s : Option Extent) (c : ℕ) (n : Bytes) (t : Option Extent) (d : ℕ) (b : Item) {y : Item} → combineItems mode (functionItem n t d) b ≡ accepted y
-      → value (bind (combineItems mode (functionItem name s c) (functionItem n t d)) (λ z. combineItems mode z b)) ≡ value (combineItems mode (functionItem name s c) y)
+  functions-regroup : (x a : Function) (b : Item) {y : Item} → combineItems mode (functionItem a) b ≡ accepted y
+      → value (bind (combineItems mode (functionItem x) (functionItem a)) (λ z. combineItems mode z b)) ≡ value (combineItems mode (functionItem x) y)
   unfolding combineItems extentOf countOf
-  functions-regroup name s c n t d b {y} h =
-      let (v, e, f) = bind-accepted (combineExtents mode t (extentOf b)) _ h in
-      ap value (bind-assoc (combineExtents mode s t) (λ w. accepted (functionItem name w (min (c + d) u64-max))) (λ z. combineItems mode z b))
-      ∙ ap value (sym (bind-assoc (combineExtents mode s t) (λ w. combineExtents mode w (extentOf b)) (λ w. accepted (functionItem name w (min (min (c + d) u64-max + countOf b) u64-max)))))
-      ∙ value-bind (bind (combineExtents mode s t) (λ w. combineExtents mode w (extentOf b))) (combineExtents mode s v)
-      (λ w. accepted (functionItem name w (min (min (c + d) u64-max + countOf b) u64-max))) (extents-regroup mode s t (extentOf b) e)
-      ∙ ap (λ (m : ℕ). value (bind (combineExtents mode s v) (λ w. accepted (functionItem name w m)))) (omega arith)
-      ∙ ap (λ (i : Item). value (combineItems mode (functionItem name s c) i)) (accepted-inj f)
+  functions-regroup x a b {y} h =
+      let (v, e, f) = bind-accepted (combineExtents mode (a .extent) (extentOf b)) _ h in
+      ap value (bind-assoc both (λ w. accepted (functionItem (updated x w two))) (λ z. combineItems mode z b))
+      ∙ ap value (sym (bind-assoc both (λ w. combineExtents mode w (extentOf b)) (λ w. accepted (functionItem (updated x w (min (two + countOf b) u64-max))))))
+      ∙ value-bind (bind both (λ w. combineExtents mode w (extentOf b))) (combineExtents mode (x .extent) v)
+      (λ w. accepted (functionItem (updated x w (min (two + countOf b) u64-max)))) (extents-regroup mode (x .extent) (a .extent) (extentOf b) e)
+      ∙ ap (λ (m : ℕ). value (bind (combineExtents mode (x .extent) v) (λ w. accepted (functionItem (updated x w m))))) (omega arith)
+      ∙ ap (λ (i : Item). value (combineItems mode (functionItem x) i)) (accepted-inj f)
+    where
+      both : Answer (Option Extent)
+      both = combineExtents mode (x .extent) (a .extent)
+
+      two : ℕ
+      two = min (x .count + a .count) u64-max
 
   branches-regroup : (line block branch : ℕ) (s : Option ℕ) (l k m : ℕ) (t : Option ℕ) (b : Item) {y : Item} → combineItems mode (branchItem l k m t) b ≡ accepted y
       → value (bind (combineItems mode (branchItem line block branch s) (branchItem l k m t)) (λ z. combineItems mode z b))
@@ -176,7 +182,7 @@ module _ (mode : Mode) where
   unfolding combineItems
   items-regroup x a b {y} e h =
       by-key (λ x a. combineItems mode a b ≡ accepted y → value (bind (combineItems mode x a) (λ z. combineItems mode z b)) ≡ value (combineItems mode x y))
-      (λ p q h. refl) (λ name s t c d h. functions-regroup name s c name t d b h)
+      (λ p q h. refl) (λ f g n h. functions-regroup f g b h)
       (λ line block branch s t h. branches-regroup line block branch s line block branch t b h) (λ line c d s t h. lines-regroup line c s line d t b h) x a e h
 
   -- ---- entries

@@ -77,7 +77,7 @@ function-before-branch : (line block branch : ℕ) (taken : Option ℕ) (i : Ite
     → compareBytes (itemKey (branchItem line block branch taken)) (itemKey i) ≡ Ordering·gt
 unfolding isFunction itemKey compareBytes
 function-before-branch line block branch taken (sectionItem spelling) h = refl
-function-before-branch line block branch taken (functionItem name extent count) h = refl
+function-before-branch line block branch taken (functionItem f) h = refl
 function-before-branch line block branch taken (branchItem a b c d) h = absurd (true≢false (sym h))
 function-before-branch line block branch taken (lineItem a b c) h = absurd (true≢false (sym h))
 
@@ -86,7 +86,7 @@ before-line : (line count : ℕ) (checksum : Option Bytes) (test : Item → Bool
     → (i : Item) → test i ≡ true → compareBytes (itemKey (lineItem line count checksum)) (itemKey i) ≡ Ordering·gt
 unfolding itemKey compareBytes
 before-line line count checksum test not-lines (sectionItem spelling) h = refl
-before-line line count checksum test not-lines (functionItem name extent c) h = refl
+before-line line count checksum test not-lines (functionItem f) h = refl
 before-line line count checksum test not-lines (branchItem a b c d) h = refl
 before-line line count checksum test not-lines (lineItem a b c) h = absurd (true≢false (sym h ∙ not-lines a b c))
 
@@ -94,7 +94,7 @@ pub by-kind : (l : List Item) → SortedItems l → All InSection l → filter i
 unfolding filter isFunction isBranch isLine isSection
 by-kind [] s h = refl
 by-kind (sectionItem spelling ∷ xs) s h = absurd (true≢false (h .0))
-by-kind (functionItem name extent count ∷ xs) s h = ap (λ (r : List Item). functionItem name extent count ∷ r) (by-kind xs (s .1) (h .1))
+by-kind (functionItem f ∷ xs) s h = ap (λ (r : List Item). functionItem f ∷ r) (by-kind xs (s .1) (h .1))
 by-kind (branchItem line block branch taken ∷ xs) s h =
     let x : Item = branchItem line block branch taken in
     let f : filter isFunction xs ≡ [] = passed isFunction (itemKey x) (function-before-branch line block branch taken) xs (s .0) in
@@ -120,14 +120,14 @@ no-starts test h (x ∷ xs) = go (test x) refl (no-starts test h xs)
 branch-start : (i : Item) → isBranch i ≡ true → startRecord i ≡ []
 unfolding isBranch startRecord
 branch-start (sectionItem spelling) h = refl
-branch-start (functionItem name extent count) h = absurd (true≢false (sym h))
+branch-start (functionItem f) h = absurd (true≢false (sym h))
 branch-start (branchItem line block branch taken) h = refl
 branch-start (lineItem line count checksum) h = refl
 
 line-start : (i : Item) → isLine i ≡ true → startRecord i ≡ []
 unfolding isLine startRecord
 line-start (sectionItem spelling) h = refl
-line-start (functionItem name extent count) h = absurd (true≢false (sym h))
+line-start (functionItem f) h = absurd (true≢false (sym h))
 line-start (branchItem line block branch taken) h = refl
 line-start (lineItem line count checksum) h = refl
 

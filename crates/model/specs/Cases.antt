@@ -12,7 +12,7 @@ use Rattle.model.specs.Answer.{accepted, refused, withValues}
 use Rattle.model.specs.Record.{lineData, endOfRecord}
 use Rattle.model.specs.Tags.{defaultTag}
 use Rattle.model.specs.Line.{readLine}
-use Rattle.model.specs.Report.{extentAt, sectionItem, functionItem}
+use Rattle.model.specs.Report.{extentAt, functionOf, sectionItem, functionItem}
 use Rattle.model.specs.Reading.{readText}
 use Rattle.model.specs.Gather.{gatherProgram}
 use Rattle.model.specs.Ranges.{halfOpen, insertRange, holds}
@@ -52,7 +52,7 @@ pub record Cases : Type 0 where
       readText defaultTag 256 (ascii "FNDA:2,f\nFN:3,f\nend_of_record\n")
       ≡ accepted
       (record { test = []; path = []; item = sectionItem [] }
-      ∷ record { test = []; path = []; item = functionItem (ascii "f") (some (extentAt 3 none)) 0 }
+      ∷ record { test = []; path = []; item = functionItem (functionOf (ascii "f") (some (extentAt 3 none)) 0) }
       ∷ [])
   pub h :
       (comparePaths (components (ascii "a//b")) (components (ascii "a/./b")) ≡ Ordering·eq)

@@ -22,7 +22,7 @@ use Rattle.model.specs.Ranges.{holds, wellFormedRanges}
 -- the line of a branch or line
 unfoldable pub lineOf : Item → ℕ
 lineOf (sectionItem spelling) = 0
-lineOf (functionItem name extent count) = 0
+lineOf (functionItem f) = 0
 lineOf (branchItem line block branch taken) = line
 lineOf (lineItem line count checksum) = line
 

@@ -28,6 +28,7 @@ use Rattle.model.specs.Report.{
   entryKey,
   Extent,
   extentAt,
+  updated,
   startOf,
   endOf,
   larger,
@@ -122,8 +123,8 @@ extentFrom (some start) end = some (extentAt start end)
 -- largest given.
 unfoldable pub joinedAs : Item → List Item → Item
 joinedAs (sectionItem spelling) items = sectionItem spelling
-joinedAs (functionItem name extent count) items =
-    functionItem name (extentFrom (given (map startOf items)) (largest (map endOf items))) (min (total (map countOf items)) u64-max)
+joinedAs (functionItem f) items =
+    functionItem (updated f (extentFrom (given (map startOf items)) (largest (map endOf items))) (min (total (map countOf items)) u64-max))
 joinedAs (branchItem line block branch taken) items = branchItem line block branch (totalGiven (map takenOf items))
 joinedAs (lineItem line count checksum) items =
     lineItem line (total (map countOf items)) (given (map checksumOf items))
@@ -157,7 +158,7 @@ checksumsAgree reports = atEachKey (λ items. agreeing sameBytes (map checksumOf
 -- the count of a line or branch, whose sums must fit; a function's are held instead
 unfoldable pub summedOf : Item → ℕ
 summedOf (sectionItem spelling) = 0
-summedOf (functionItem name extent count) = 0
+summedOf (functionItem f) = 0
 summedOf (branchItem line block branch taken) = countOf (branchItem line block branch taken)
 summedOf (lineItem line count checksum) = count
 
@@ -175,7 +176,7 @@ SameTexts a b = (bytes : Bytes) → times sameBytes bytes (contents a) ≡ times
 unfoldable pub spellings : List Item → List (Option Bytes)
 spellings [] = []
 spellings (sectionItem spelling ∷ items) = some spelling ∷ spellings items
-spellings (functionItem name extent count ∷ items) = spellings items
+spellings (functionItem f ∷ items) = spellings items
 spellings (branchItem line block branch taken ∷ items) = spellings items
 spellings (lineItem line count checksum ∷ items) = spellings items
 

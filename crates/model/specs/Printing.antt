@@ -37,25 +37,25 @@ pub record Section : Type 0 where
 
 unfoldable pub isSection : Item → Bool
 isSection (sectionItem spelling) = true
-isSection (functionItem name extent count) = false
+isSection (functionItem f) = false
 isSection (branchItem line block branch taken) = false
 isSection (lineItem line count checksum) = false
 
 unfoldable pub isFunction : Item → Bool
 isFunction (sectionItem spelling) = false
-isFunction (functionItem name extent count) = true
+isFunction (functionItem f) = true
 isFunction (branchItem line block branch taken) = false
 isFunction (lineItem line count checksum) = false
 
 unfoldable pub isBranch : Item → Bool
 isBranch (sectionItem spelling) = false
-isBranch (functionItem name extent count) = false
+isBranch (functionItem f) = false
 isBranch (branchItem line block branch taken) = true
 isBranch (lineItem line count checksum) = false
 
 unfoldable pub isLine : Item → Bool
 isLine (sectionItem spelling) = false
-isLine (functionItem name extent count) = false
+isLine (functionItem f) = false
 isLine (branchItem line block branch taken) = false
 isLine (lineItem line count checksum) = true
 
@@ -69,7 +69,7 @@ unfoldable pub sectionHere : Entry → List Item → List Section
 sectionHere e items =
     elim (e .item) [
       | sectionItem spelling ↦ record { test = e .test; spelling = spelling; items = items } ∷ []
-      | functionItem name extent count ↦ []
+      | functionItem f ↦ []
       | branchItem line block branch taken ↦ []
       | lineItem line count checksum ↦ []
     ]
@@ -83,8 +83,7 @@ sections (e ∷ es) = sectionHere e (itemsHere es) ++ sections es
 -- functions are printed by start line, none first, then name
 unfoldable pub printKey : Item → List ℕ
 printKey (sectionItem spelling) = []
-printKey (functionItem name none count) = 0 ∷ name
-printKey (functionItem name (some x) count) = 1 ∷ x .start ∷ name
+printKey (functionItem f) = elim (f .extent) [ none ↦ 0 ∷ f .name | some x ↦ 1 ∷ x .start ∷ f .name ]
 printKey (branchItem line block branch taken) = []
 printKey (lineItem line count checksum) = []
 
@@ -97,15 +96,14 @@ functionsOf items = sort comparePrinted (filter isFunction items)
 -- FN, where a function has a start
 unfoldable pub startRecord : Item → List Record
 startRecord (sectionItem spelling) = []
-startRecord (functionItem name none count) = []
-startRecord (functionItem name (some x) count) = functionName (x .start) (x .end) name ∷ []
+startRecord (functionItem f) = elim (f .extent) [ none ↦ [] | some x ↦ functionName (x .start) (x .end) (f .name) ∷ [] ]
 startRecord (branchItem line block branch taken) = []
 startRecord (lineItem line count checksum) = []
 
 -- FNDA, BRDA or DA
 unfoldable pub dataRecord : Item → List Record
 dataRecord (sectionItem spelling) = []
-dataRecord (functionItem name extent count) = functionData count name ∷ []
+dataRecord (functionItem f) = functionData (f .count) (f .name) ∷ []
 dataRecord (branchItem line block branch taken) = branchData line block branch taken ∷ []
 dataRecord (lineItem line count checksum) = lineData line count checksum ∷ []
 

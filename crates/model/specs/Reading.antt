@@ -32,6 +32,8 @@ use Rattle.model.specs.Record.{
 use Rattle.model.specs.Line.{readRecord}
 use Rattle.model.specs.Report.{
   extentAt,
+  functionOf,
+  updated,
   Item,
   sectionItem,
   functionItem,
@@ -100,7 +102,7 @@ spellingOf path [] = path
 spellingOf path (e ∷ es) =
     elim (e .item) [
       | sectionItem spelling ↦ spelling
-      | functionItem name extent count ↦ path
+      | functionItem f ↦ path
       | branchItem line block branch taken ↦ path
       | lineItem line count checksum ↦ path
     ]
@@ -128,7 +130,7 @@ replace earlier later = accepted later
 -- FNDA adds to the count
 unfoldable pub addCalls : Item → Item → Answer Item
 addCalls (sectionItem spelling) later = accepted later
-addCalls (functionItem name extent count) later = sum CallOverflow count (countOf later) >>= λ total. accepted (functionItem name extent total)
+addCalls (functionItem f) later = sum CallOverflow (f .count) (countOf later) >>= λ total. accepted (functionItem (updated f (f .extent) total))
 addCalls (branchItem line block branch taken) later = accepted later
 addCalls (lineItem line count checksum) later = accepted later
 
@@ -154,8 +156,8 @@ nameSection path s =
 unfoldable pub effect : Record → State → Answer State
 effect (testName name) s = if s .inside then refuse UnexpectedRecord else accepted (outside (s .kept) name)
 effect (sourceFile path) s = nameSection path s
-effect (functionName start end name) s = enterItem replace (functionItem name (some (extentAt start end)) 0) s
-effect (functionData count name) s = enterItem addCalls (functionItem name none count) s
+effect (functionName start end name) s = enterItem replace (functionItem (functionOf name (some (extentAt start end)) 0)) s
+effect (functionData count name) s = enterItem addCalls (functionItem (functionOf name none count)) s
 effect (functionsFound found) s = ignored s
 effect (functionsHit hit) s = ignored s
 effect (branchData line block branch taken) s = enterItem replace (branchItem line block branch taken) s

@@ -23,10 +23,23 @@ pub record Extent : Type 0 where
 abbrev pub extentAt : ℕ → Option ℕ → Extent
 extentAt start end = record { start = start; end = end }
 
+-- a function: its name, what FN says of it, and how often it was called
+pub record Function : Type 0 where
+  pub name : Bytes
+  pub extent : Option Extent
+  pub count : ℕ
+
+abbrev pub functionOf : Bytes → Option Extent → ℕ → Function
+functionOf name extent count = record { name = name; extent = extent; count = count }
+
+-- the function, with another extent and count
+abbrev pub updated : Function → Option Extent → ℕ → Function
+updated f extent count = record { name = f .name; extent = extent; count = count }
+
 -- what a section holds. Its own item has the first spelling of its path
 pub data Item : Type 0 where
   sectionItem : (spelling : Bytes) → Item
-  functionItem : (name : Bytes) (extent : Option Extent) (count : ℕ) → Item
+  functionItem : (f : Function) → Item
   branchItem : (line block branch : ℕ) (taken : Option ℕ) → Item
   lineItem : (line count : ℕ) (checksum : Option Bytes) → Item
 
@@ -45,7 +58,7 @@ Report = List Entry
 -- the key of an item in its section: the section itself, functions by name, branches by line, block and branch, lines by number
 unfoldable pub itemKey : Item → List ℕ
 itemKey (sectionItem spelling) = 0 ∷ []
-itemKey (functionItem name extent count) = 1 ∷ name
+itemKey (functionItem f) = 1 ∷ f .name
 itemKey (branchItem line block branch taken) = 2 ∷ line ∷ block ∷ branch ∷ []
 itemKey (lineItem line count checksum) = 3 ∷ line ∷ []
 
@@ -80,7 +93,7 @@ entryKey e = (sectionKey e, itemKey (e .item))
 
 unfoldable pub extentOf : Item → Option Extent
 extentOf (sectionItem spelling) = none
-extentOf (functionItem name extent count) = extent
+extentOf (functionItem f) = f .extent
 extentOf (branchItem line block branch taken) = none
 extentOf (lineItem line count checksum) = none
 
@@ -100,20 +113,20 @@ endOf item = givenEnd (extentOf item)
 
 unfoldable pub takenOf : Item → Option ℕ
 takenOf (sectionItem spelling) = none
-takenOf (functionItem name extent count) = none
+takenOf (functionItem f) = none
 takenOf (branchItem line block branch taken) = taken
 takenOf (lineItem line count checksum) = none
 
 unfoldable pub checksumOf : Item → Option Bytes
 checksumOf (sectionItem spelling) = none
-checksumOf (functionItem name extent count) = none
+checksumOf (functionItem f) = none
 checksumOf (branchItem line block branch taken) = none
 checksumOf (lineItem line count checksum) = checksum
 
 -- how often a function, branch or line was run; a branch with no taken count, 0 times
 unfoldable pub countOf : Item → ℕ
 countOf (sectionItem spelling) = 0
-countOf (functionItem name extent count) = count
+countOf (functionItem f) = f .count
 countOf (branchItem line block branch none) = 0
 countOf (branchItem line block branch (some taken)) = taken
 countOf (lineItem line count checksum) = count
@@ -158,9 +171,9 @@ combineExtents Lossy (some a) (some b) = accepted (some b)
 -- an item, and a later one of the same key
 unfoldable pub combineItems : Mode → Item → Item → Answer Item
 combineItems mode (sectionItem spelling) later = accepted (sectionItem spelling)
-combineItems mode (functionItem name extent count) later = do
-  both ← combineExtents mode extent (extentOf later)
-  accepted (functionItem name both (min (count + countOf later) u64-max))
+combineItems mode (functionItem f) later = do
+  both ← combineExtents mode (f .extent) (extentOf later)
+  accepted (functionItem (updated f both (min (f .count + countOf later) u64-max)))
 combineItems mode (branchItem line block branch taken) later = do
   total ← sumTaken taken (takenOf later)
   accepted (branchItem line block branch total)

@@ -51,7 +51,7 @@ pub record ExtentFits (name : Bytes) (x : Extent) : Type 0 where
 -- an item that a line can hold: numbers in range, texts of one line
 abbrev pub ItemFits : Item → Type 0
 ItemFits (sectionItem spelling) = LineText spelling
-ItemFits (functionItem name extent count) = LineText name × Given (ExtentFits name) extent × (count ≤ u64-max)
+ItemFits (functionItem f) = LineText (f .name) × Given (ExtentFits (f .name)) (f .extent) × (f .count ≤ u64-max)
 ItemFits (branchItem line block branch taken) = (line ≤ u32-max) × (block ≤ u32-max) × (branch ≤ u32-max) × Given (λ n. n ≤ u64-max) taken
 ItemFits (lineItem line count checksum) = (line ≤ u32-max) × (count ≤ u64-max) × Given ChecksumText checksum
 

@@ -10,7 +10,7 @@ use Rattle.ordmap.specs.Gathering.{Same}
 use Rattle.ordmap.proofs.Results.{impossible}
 use Rattle.model.specs.Bytes.{Bytes}
 use Rattle.model.specs.Limits.{u64-max}
-use Rattle.model.specs.Report.{larger, endOf, Extent, givenStart, extentOf, givenEnd, Item, sectionItem, functionItem, branchItem, lineItem, itemKey, startOf, takenOf, checksumOf, countOf}
+use Rattle.model.specs.Report.{larger, endOf, Extent, Function, updated, givenStart, extentOf, givenEnd, Item, sectionItem, functionItem, branchItem, lineItem, itemKey, startOf, takenOf, checksumOf, countOf}
 use Rattle.model.specs.Joined.{extentFrom, largest, given, allAgree, agreeing, total, addGiven, totalGiven, joinedAs, joinedItem, summedOf}
 use Rattle.model.proofs.Items.{larger-assoc, orZero}
 use Rattle.model.proofs.Entries.{by-key}
@@ -134,17 +134,17 @@ joinedAs-middle i j e is js ks =
     by-key (λ i j. joinedAs i (is ++ (joinedAs j js ∷ ks)) ≡ joinedAs i (is ++ (js ++ ks)))
     (λ p q. refl) functions branches lines i j e
   where
-    functions : (name : Bytes) (s t : Option Extent) (c d : ℕ)
-        → joinedAs (functionItem name s c) (is ++ (joinedAs (functionItem name t d) js ∷ ks)) ≡ joinedAs (functionItem name s c) (is ++ (js ++ ks))
-    functions name s t c d =
-        let x : Item = joinedAs (functionItem name t d) js in
+    functions : (f g : Function) → f .name ≡ g .name
+        → joinedAs (functionItem f) (is ++ (joinedAs (functionItem g) js ∷ ks)) ≡ joinedAs (functionItem f) (is ++ (js ++ ks))
+    functions f g e =
+        let x : Item = joinedAs (functionItem g) js in
         let p : given (map startOf (is ++ (x ∷ ks))) ≡ given (map startOf (is ++ (js ++ ks))) =
         through given startOf is js ks x (extent-start _ _) (given-middle (map startOf is) (map startOf js) (map startOf ks)) in
         let q : largest (map endOf (is ++ (x ∷ ks))) ≡ largest (map endOf (is ++ (js ++ ks))) =
         through largest endOf is js ks x (extent-end _ _ (no-ends js)) (largest-middle (map endOf is) (map endOf js) (map endOf ks)) in
         let n : min (total (map countOf (is ++ (x ∷ ks)))) u64-max ≡ min (total (map countOf (is ++ (js ++ ks)))) u64-max =
         through (λ (l : List ℕ). min (total l) u64-max) countOf is js ks x refl (held-middle (map countOf is) (map countOf js) (map countOf ks)) in
-        λ k. functionItem name (extentFrom (p k) (q k)) (n k)
+        λ k. functionItem (updated f (extentFrom (p k) (q k)) (n k))
 
     branches : (line block branch : ℕ) (s t : Option ℕ)
         → joinedAs (branchItem line block branch s) (is ++ (joinedAs (branchItem line block branch t) js ∷ ks))
@@ -168,7 +168,7 @@ joinedAs-middle i j e is js ks =
 joinedAs-first : (i : Item) (is js : List Item) → joinedAs (joinedAs i is) js ≡ joinedAs i js
 unfolding joinedAs
 joinedAs-first (sectionItem spelling) is js = refl
-joinedAs-first (functionItem name extent count) is js = refl
+joinedAs-first (functionItem f) is js = refl
 joinedAs-first (branchItem line block branch taken) is js = refl
 joinedAs-first (lineItem line count checksum) is js = refl
 
@@ -184,7 +184,7 @@ joined-middle (i ∷ is) j js ks h = joinedAs-middle i j (h i (here refl)) (i �
 -- what an item of the first one's kind does not have, and what it counts for in a sum
 abbrev Kin : Item → Item → Type 0
 Kin (sectionItem spelling) j = (startOf j ≡ none) × (checksumOf j ≡ none) × (summedOf j ≡ 0)
-Kin (functionItem name extent count) j = (checksumOf j ≡ none) × (summedOf j ≡ 0)
+Kin (functionItem f) j = (checksumOf j ≡ none) × (summedOf j ≡ 0)
 Kin (branchItem line block branch taken) j = (startOf j ≡ none) × (checksumOf j ≡ none) × (summedOf j ≡ orZero (takenOf j))
 Kin (lineItem line count checksum) j = (startOf j ≡ none) × (summedOf j ≡ countOf j)
 
@@ -196,7 +196,7 @@ branch-summed line block branch (some t) = refl
 kin : (i j : Item) → itemKey i ≡ itemKey j → Kin i j
 unfolding extentOf takenOf checksumOf summedOf countOf
 kin i j e =
-    by-key Kin (λ p q. (refl, refl, refl)) (λ name s t c d. (refl, refl)) (λ line block branch s t. (refl, refl, branch-summed line block branch t))
+    by-key Kin (λ p q. (refl, refl, refl)) (λ f g h. (refl, refl)) (λ line block branch s t. (refl, refl, branch-summed line block branch t))
     (λ line c d s t. (refl, refl)) i j e
 
 given-none : {A : Type 0} (f : Item → Option A) (is : List Item) → ((j : Item) → Member j is → f j ≡ none) → none ≡ given (map f is)
@@ -238,7 +238,7 @@ module _ (first : Item) (rest : List Item) (h : (j : Item) → Member j (first �
     where
       go : (i : Item) → ((j : Item) → Member j is → Kin i j) → startOf (joinedAs i is) ≡ given (map startOf is)
       go (sectionItem spelling) k = given-none startOf is (λ j m. k j m .0)
-      go (functionItem name extent count) k = extent-start _ _
+      go (functionItem f) k = extent-start _ _
       go (branchItem line block branch taken) k = given-none startOf is (λ j m. k j m .0)
       go (lineItem line count checksum) k = given-none startOf is (λ j m. k j m .0)
 
@@ -248,7 +248,7 @@ module _ (first : Item) (rest : List Item) (h : (j : Item) → Member j (first �
     where
       go : (i : Item) → ((j : Item) → Member j is → Kin i j) → checksumOf (joinedAs i is) ≡ given (map checksumOf is)
       go (sectionItem spelling) k = given-none checksumOf is (λ j m. k j m .1)
-      go (functionItem name extent count) k = given-none checksumOf is (λ j m. k j m .0)
+      go (functionItem f) k = given-none checksumOf is (λ j m. k j m .0)
       go (branchItem line block branch taken) k = given-none checksumOf is (λ j m. k j m .1)
       go (lineItem line count checksum) k = refl
 
@@ -258,7 +258,7 @@ module _ (first : Item) (rest : List Item) (h : (j : Item) → Member j (first �
     where
       go : (i : Item) → ((j : Item) → Member j is → Kin i j) → summedOf (joinedAs i is) ≡ total (map summedOf is)
       go (sectionItem spelling) k = total-zero summedOf is (λ j m. k j m .2)
-      go (functionItem name extent count) k = total-zero summedOf is (λ j m. k j m .1)
+      go (functionItem f) k = total-zero summedOf is (λ j m. k j m .1)
       go (branchItem line block branch taken) k =
           branch-summed line block branch (totalGiven (map takenOf is))
           ∙ orZero-total takenOf is

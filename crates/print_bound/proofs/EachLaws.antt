@@ -47,8 +47,8 @@ pub kinds-each : {B : Type 0} (f : Item → List B) (items : List Item)
 unfolding concatMap filter isFunction isBranch isLine
 kinds-each f [] = omega arith
 kinds-each f (sectionItem spelling ∷ is) = omega (arith, kinds-each f is, length-append (f (sectionItem spelling)) (concatMap f is))
-kinds-each f (functionItem name extent count ∷ is) =
-    let i = functionItem name extent count in
+kinds-each f (functionItem fn ∷ is) =
+    let i = functionItem fn in
     omega (arith, kinds-each f is, length-append (f i) (concatMap f (filter isFunction is)), length-append (f i) (concatMap f is))
 kinds-each f (branchItem line block branch taken ∷ is) =
     let i = branchItem line block branch taken in

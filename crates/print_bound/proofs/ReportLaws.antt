@@ -131,7 +131,7 @@ items-few (e ∷ es) = go (e .item) (items-few es)
   where
     go : (i : Item) → length (itemsHere es) ≤ length es → length (itemsHere (inSection (sectionKey e) i ∷ es)) ≤ length (e ∷ es)
     go (sectionItem spelling) h = omega arith
-    go (functionItem name extent count) h = omega arith
+    go (functionItem f) h = omega arith
     go (branchItem line block branch taken) h = omega arith
     go (lineItem line count checksum) h = omega arith
 
@@ -158,7 +158,7 @@ module _ (thin : Section → Section) (θ : Thins thin) where
   unfolding sections sectionHere itemsHere isSection sectionMost concatMap
   entry-max key (sectionItem spelling) es few h =
       omega (arith, header-max (record { test = key .0; spelling = spelling; items = itemsHere es }) (sections es) (omega (arith, items-few es)))
-  entry-max key (functionItem name extent count) es few h = omega (arith, length-append (itemLines (functionItem name extent count)) (concatMap itemLines (itemsHere es)))
+  entry-max key (functionItem f) es few h = omega (arith, length-append (itemLines (functionItem f)) (concatMap itemLines (itemsHere es)))
   entry-max key (branchItem line block branch taken) es few h =
       omega (arith, length-append (itemLines (branchItem line block branch taken)) (concatMap itemLines (itemsHere es)))
   entry-max key (lineItem line count checksum) es few h = omega (arith, length-append (itemLines (lineItem line count checksum)) (concatMap itemLines (itemsHere es)))

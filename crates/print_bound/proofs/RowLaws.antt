@@ -16,9 +16,9 @@ use Rattle.table.proofs.TabulateLaws.{tabulate-split}
 use Rattle.model.specs.Bytes.{Bytes}
 use Rattle.model.specs.Limits.{u64-max}
 use Rattle.model.specs.Number.{decimal}
-use Rattle.model.specs.Report.{Extent, Entry, Report, sectionItem, functionItem, branchItem, lineItem}
+use Rattle.model.specs.Report.{Extent, updated, Item, Entry, Report, sectionItem, functionItem, branchItem, lineItem}
 use Rattle.format.proofs.DecimalLaws.{decimal-most}
-use Rattle.table_item.specs.Items.{part, extentIn, itemOf}
+use Rattle.table_item.specs.Items.{part, extentIn, functionIn, itemOf}
 use Rattle.table_section.specs.Sections.{testOf, pathOf, entryOf, entryAt}
 use Rattle.print_rows.specs.Emit.{endLen}
 use Rattle.print_rows.proofs.LentLaws.{item}
@@ -65,20 +65,20 @@ module _ (text : Bytes) (r : Row) where
   unfolding itemOf sectionMost
   function-max a n h e q = omega (arith, go (r .tag / 2) (r .tag % 2) h)
     where
-      name : Bytes
-      name = part text (r .k1) (r .k2)
+      function : Option Extent → Item
+      function x = functionItem (updated (functionIn text r) x (r .count))
 
       end-max : (end : Option ℕ) → endLen end ≤ 21
       end-max none = omega arith
       end-max (some end) = omega (arith, decimal-most end)
 
       -- FN and FNDA: two names, three numbers, and what stands between them
-      by-extent : (x : Option Extent) → length (itemLines (functionItem name x (r .count))) ≤ r .k2 + r .k2 + 73
-      by-extent none = omega (arith, item-length (functionItem name none (r .count)), part-max text (r .k1) (r .k2), decimal-most (r .count))
+      by-extent : (x : Option Extent) → length (itemLines (function x)) ≤ r .k2 + r .k2 + 73
+      by-extent none = omega (arith, item-length (function none), part-max text (r .k1) (r .k2), decimal-most (r .count))
       by-extent (some x) =
           omega (
             arith,
-            item-length (functionItem name (some x) (r .count)),
+            item-length (function (some x)),
             part-max text (r .k1) (r .k2),
             decimal-most (x .start),
             end-max (x .end),

@@ -17,7 +17,7 @@ itemLines item = printRecords defaultTag (startRecord item) ++ printRecords defa
 -- each
 unfoldable pub sectionMost : Bytes → Item → ℕ
 sectionMost test (sectionItem spelling) = 80 + length test + length spelling
-sectionMost test (functionItem name extent count) = 0
+sectionMost test (functionItem f) = 0
 sectionMost test (branchItem line block branch taken) = 0
 sectionMost test (lineItem line count checksum) = 0
 

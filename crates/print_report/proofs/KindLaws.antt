@@ -16,7 +16,7 @@ use Rattle.table.specs.Store.{row}
 use Rattle.table.proofs.PlaceLaws.{by-eq, by-lt}
 use Rattle.model.specs.Bytes.{Bytes, compareBytes}
 use Rattle.model.specs.Lists.{concatMap}
-use Rattle.model.specs.Report.{Extent, Item, sectionItem, functionItem, branchItem, lineItem, Entry, Report, SectionKey, itemKey, entryKey, compareKeys, inSection}
+use Rattle.model.specs.Report.{Function, Item, sectionItem, functionItem, branchItem, lineItem, Entry, Report, SectionKey, itemKey, entryKey, compareKeys, inSection}
 use Rattle.model.proofs.Blocks.{SortedEntries, Block, blockEntries, blocksEntries, blocks-of, sorted-items}
 use Rattle.table_item.specs.Items.{kindOf, function-kind, branch-kind, line-kind, byKind, itemOf}
 use Rattle.table_section.specs.Sections.{entryAt, entriesAt}
@@ -28,14 +28,14 @@ use Rattle.print_report.specs.Printing.{IsKindRange}
 -- an item's kind, first in its key
 abbrev pub kindIn : Item → ℕ
 kindIn (sectionItem spelling) = 0
-kindIn (functionItem name extent count) = 1
+kindIn (functionItem f) = 1
 kindIn (branchItem line block branch taken) = 2
 kindIn (lineItem line count checksum) = 3
 
 kind-first : (i : Item) → (rest : List ℕ) × (itemKey i ≡ kindIn i ∷ rest)
 unfolding itemKey
 kind-first (sectionItem spelling) = ([], refl)
-kind-first (functionItem name extent count) = (name, refl)
+kind-first (functionItem f) = (f .name, refl)
 kind-first (branchItem line block branch taken) = (line ∷ block ∷ branch ∷ [], refl)
 kind-first (lineItem line count checksum) = (line ∷ [], refl)
 
@@ -92,17 +92,17 @@ rising-first f (suc m) r h n = r .0 n
 
 -- ---- rows
 
-kind-by : (kind : ℕ) (p n : Bytes) (s : Option Extent) (m l b h : ℕ) (t : Option ℕ) (x y : ℕ) (z : Option Bytes) → kind ≤ line-kind
-    → kindIn (byKind kind (sectionItem p) (functionItem n s m) (branchItem l b h t) (lineItem x y z)) ≡ kind
-kind-by zero p n s m l b h t x y z i = refl
-kind-by (suc zero) p n s m l b h t x y z i = refl
-kind-by (suc (suc zero)) p n s m l b h t x y z i = refl
-kind-by (suc (suc (suc zero))) p n s m l b h t x y z i = refl
-kind-by (suc (suc (suc (suc kind)))) p n s m l b h t x y z i = absurd (omega arith)
+kind-by : (kind : ℕ) (p : Bytes) (f : Function) (l b h : ℕ) (t : Option ℕ) (x y : ℕ) (z : Option Bytes) → kind ≤ line-kind
+    → kindIn (byKind kind (sectionItem p) (functionItem f) (branchItem l b h t) (lineItem x y z)) ≡ kind
+kind-by zero p f l b h t x y z i = refl
+kind-by (suc zero) p f l b h t x y z i = refl
+kind-by (suc (suc zero)) p f l b h t x y z i = refl
+kind-by (suc (suc (suc zero))) p f l b h t x y z i = refl
+kind-by (suc (suc (suc (suc kind)))) p f l b h t x y z i = absurd (omega arith)
 
 kind-of : (text : Bytes) (r : Row) → kindOf r ≤ line-kind → kindIn (itemOf text r) ≡ kindOf r
 unfolding itemOf
-kind-of text r h = kind-by (kindOf r) _ _ _ _ _ _ _ _ _ _ _ h
+kind-of text r h = kind-by (kindOf r) _ _ _ _ _ _ _ _ _ h
 
 module _ {text ws : List ℕ} {index used n : ℕ} (τ : Table text ws index used n) where
   pub kind-at : (k : ℕ) → k < n → kindIn (entryAt text ws index k .item) ≡ kindOf (row ws index k)

@@ -58,7 +58,7 @@ items-run f (suc n) rest h e = rw (h 0 (omega arith), itemsHere) (ap (λ (t : Li
 not-header : (key : SectionKey) (i : Item) (items : List Item) → isSection i ≡ false → sectionHere (inSection key i) items ≡ []
 unfolding sectionHere isSection
 not-header key (sectionItem spelling) items h = cc
-not-header key (functionItem name extent count) items h = refl
+not-header key (functionItem f) items h = refl
 not-header key (branchItem line block branch taken) items h = refl
 not-header key (lineItem line count checksum) items h = refl
 
@@ -108,7 +108,7 @@ module _ {A : Type 0} (f : ℕ → A) where
 pub tests : (i : Item) → (isSection i ≡ eqb (kindIn i) 0) × (isFunction i ≡ eqb (kindIn i) 1) × (isBranch i ≡ eqb (kindIn i) 2) × (isLine i ≡ eqb (kindIn i) 3)
 unfolding isSection isFunction isBranch isLine
 tests (sectionItem spelling) = (refl, refl, refl, refl)
-tests (functionItem name extent count) = (refl, refl, refl, refl)
+tests (functionItem f) = (refl, refl, refl, refl)
 tests (branchItem line block branch taken) = (refl, refl, refl, refl)
 tests (lineItem line count checksum) = (refl, refl, refl, refl)
 

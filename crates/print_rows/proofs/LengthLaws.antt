@@ -15,7 +15,7 @@ use Rattle.model.specs.Number.{decimal}
 use Rattle.model.specs.declared.EndLine.{EndLine}
 use Rattle.model.specs.Parts.{endIn}
 use Rattle.model.specs.Record.{functionName}
-use Rattle.model.specs.Report.{extentAt, Item, extentOf, endOf, sectionItem, functionItem, branchItem, lineItem}
+use Rattle.model.specs.Report.{Extent, updated, Item, extentOf, endOf, sectionItem, functionItem, branchItem, lineItem}
 use Rattle.model.specs.Tags.{defaultTag}
 use Rattle.model.specs.Printing.{startRecord, dataRecord, printRecords}
 use Rattle.table_item.specs.Items.{part, startKey, itemOf, ItemInBounds}
@@ -28,7 +28,7 @@ use Rattle.print_rows.proofs.PassLaws.{lines}
 
 abbrev pub dataLen : Item → ℕ
 dataLen (sectionItem spelling) = 0
-dataLen (functionItem name extent count) = 7 + length (decimal count) + length name
+dataLen (functionItem f) = 7 + length (decimal (f .count)) + length (f .name)
 dataLen (branchItem line block branch none) = 10 + length (decimal line) + length (decimal block) + length (decimal branch)
 dataLen (branchItem line block branch (some taken)) = 9 + length (decimal line) + length (decimal block) + length (decimal branch) + length (decimal taken)
 dataLen (lineItem line count none) = 5 + length (decimal line) + length (decimal count)
@@ -37,7 +37,7 @@ dataLen (lineItem line count (some checksum)) = 6 + length (decimal line) + leng
 pub data-length : (i : Item) → length (lines (dataRecord i)) ≡ dataLen i
 unfolding dataRecord printRecords concatMap printRecord printFields joined printTaken printChecksum defaultTag
 data-length (sectionItem spelling) = refl
-data-length (functionItem name extent count) = simp length-append (omega arith)
+data-length (functionItem f) = simp length-append (omega arith)
 data-length (branchItem line block branch none) = simp length-append (omega arith)
 data-length (branchItem line block branch (some taken)) = simp length-append (omega arith)
 data-length (lineItem line count none) = simp length-append (omega arith)
@@ -46,20 +46,25 @@ data-length (lineItem line count (some checksum)) = simp length-append (omega ar
 -- how long FN is, where there is one
 abbrev pub startLen : Item → ℕ
 startLen (sectionItem spelling) = 0
-startLen (functionItem name none count) = 0
-startLen (functionItem name (some x) count) = 5 + length (decimal (x .start)) + endLen (x .end) + length name
+startLen (functionItem f) = elim (f .extent) [ none ↦ 0 | some x ↦ 5 + length (decimal (x .start)) + endLen (x .end) + length (f .name) ]
 startLen (branchItem line block branch taken) = 0
 startLen (lineItem line count checksum) = 0
 
 pub start-length : (i : Item) → length (lines (startRecord i)) ≡ startLen i
 unfolding startRecord printRecords concatMap printRecord printFields printEnd joined defaultTag
 start-length (sectionItem spelling) = refl
-start-length (functionItem name none count) = refl
-start-length (functionItem name (some x) count) = go (x .end)
+start-length (functionItem f) = go (f .extent)
   where
-    go : (end : Option ℕ) → length (lines (functionName (x .start) end name ∷ [])) ≡ 5 + length (decimal (x .start)) + endLen end + length name
-    go none = simp length-append (omega arith)
-    go (some end) = simp length-append (omega arith)
+    by-end : (start : ℕ) (end : Option ℕ) → length (lines (functionName start end (f .name) ∷ [])) ≡ 5 + length (decimal start) + endLen end + length (f .name)
+    by-end start none = simp length-append (omega arith)
+    by-end start (some end) = simp length-append (omega arith)
+
+    function : Option Extent → Item
+    function extent = functionItem (updated f extent (f .count))
+
+    go : (extent : Option Extent) → length (lines (startRecord (function extent))) ≡ startLen (function extent)
+    go none = refl
+    go (some x) = by-end (x .start) (x .end)
 start-length (branchItem line block branch taken) = refl
 start-length (lineItem line count checksum) = refl
 
@@ -110,6 +115,6 @@ module _ (text : Bytes) (row : Row) where
         → r ≡ min (at + length (lines (startRecord (itemOf text row)))) u64-max
     past-start start is end g a b n p s h l =
         let k = started-kind text row start is in
-        let long = ap (λ (i : Item). length (lines (startRecord i))) (started-item text row start is) ∙ start-length (functionItem (part text (row .k1) (row .k2)) (some (extentAt start (endOf (itemOf text row)))) (row .count)) in
+        let long = ap (λ (i : Item). length (lines (startRecord i))) (started-item text row start is) ∙ start-length _ in
         let same : b ≡ endLen (endOf (itemOf text row)) = s ∙ ap endLen g in
         omega (arith, long, same, part-length text (row .k1) (row .k2) (good .name k))

@@ -24,13 +24,13 @@ use Rattle.model.specs.Answer.{accepted}
 use Rattle.model.specs.Lists.{concatMap}
 use Rattle.model.specs.Number.{decimal}
 use Rattle.model.specs.Record.{Record, testName, sourceFile, functionName, functionData, functionsFound, functionsHit, branchData, branchesFound, branchesHit, lineData, linesFound, linesHit, endOfRecord}
-use Rattle.model.specs.Report.{extentAt, Item, extentOf, endOf, sectionItem, functionItem, branchItem, lineItem, countOf}
+use Rattle.model.specs.Report.{extentAt, Extent, updated, Item, extentOf, endOf, sectionItem, functionItem, branchItem, lineItem, countOf}
 use Rattle.model.specs.Parts.{partOf, endIn, takenIn, checksumIn, recordIn}
 use Rattle.model.specs.Line.{printRecord}
 use Rattle.model.specs.Tags.{defaultTag}
 use Rattle.model.specs.Printing.{startRecord, dataRecord, printRecords}
 use Rattle.model.specs.Valid.{ItemFits}
-use Rattle.table_item.specs.Items.{part, byKind, ifGiven, extentIn, startKey, itemOf, ItemInBounds}
+use Rattle.table_item.specs.Items.{part, byKind, ifGiven, extentIn, startKey, functionIn, itemOf, ItemInBounds}
 use Rattle.table_item.proofs.RowLaws.{started-kind, started-item}
 use Rattle.record_display.specs.Lines.{lineIn, counted}
 use Rattle.record_display.proofs.LineLaws.{part-there, line-made}
@@ -107,7 +107,7 @@ module _ (text : Bytes) (row : Row) where
   item k m =
       byKind k
       (sectionItem (part text (row .path) (row .«path_len»)))
-      (functionItem (part text (row .k1) (row .k2)) (extentIn m (row .k3)) (row .count))
+      (functionItem (updated (functionIn text row) (extentIn m (row .k3)) (row .count)))
       (branchItem (row .k1) (row .k2) (row .k3) (ifGiven m (row .count)))
       (lineItem (row .k1) (row .count) (ifGiven m (part text (row .k2) (row .k3))))
 
@@ -126,7 +126,7 @@ module _ (text : Bytes) (row : Row) where
         ∙ ap (λ (i : Item). printRecords defaultTag (startRecord i)) (sym (started-item text row start is))
 
     pub start-fits : ItemFits (itemOf text row) → Val.Fits w32 start
-    start-fits f = let g : ItemFits (functionItem (part text (row .k1) (row .k2)) (some (extentAt start (endOf (itemOf text row)))) (row .count)) = rw (started-item text row start is) at f in
+    start-fits f = let g : ItemFits (functionItem (updated (functionIn text row) (some (extentAt start (endOf (itemOf text row)))) (row .count))) = rw (started-item text row start is) at f in
         record { fits = omega (arith, g .1 .start) }
 
   pub no-start : startKey (extentOf (itemOf text row)) ≡ 0 → printRecords defaultTag (startRecord (itemOf text row)) ≡ []
@@ -135,8 +135,11 @@ module _ (text : Bytes) (row : Row) where
     where
       go : (i : Item) → startKey (extentOf i) ≡ 0 → printRecords defaultTag (startRecord i) ≡ []
       go (sectionItem spelling) e = refl
-      go (functionItem name none count) e = refl
-      go (functionItem name (some x) count) e = absurd (omega arith)
+      go (functionItem f) e = by-extent (f .extent) e
+        where
+          by-extent : (x : Option Extent) → startKey x ≡ 0 → printRecords defaultTag (startRecord (functionItem (updated f x (f .count)))) ≡ []
+          by-extent none e = refl
+          by-extent (some x) e = absurd (omega arith)
       go (branchItem line block branch taken) e = refl
       go (lineItem line count checksum) e = refl
 

@@ -24,9 +24,9 @@ use Rattle.model.specs.declared.Record.the-variants as Lent
 use Rattle.model.proofs.Record.{the-type}
 use Rattle.model.specs.Bytes.{Bytes}
 use Rattle.model.specs.Answer.{Answer, accepted, refuse}
-use Rattle.model.specs.Report.{extentAt, Extent, sectionItem, functionItem, branchItem, lineItem}
+use Rattle.model.specs.Report.{extentAt, Function, functionOf, sectionItem, functionItem, branchItem, lineItem}
 use Rattle.model.specs.Parts.{partOf, endIn, takenIn}
-use Rattle.table_item.specs.Items.{part, ifGiven, extentIn, partIn, PartInside, checksumPart, ChecksumInside, byKind, kindOf, function-kind, itemOf, Makes}
+use Rattle.table_item.specs.Items.{part, ifGiven, functionIn, partIn, PartInside, checksumPart, ChecksumInside, byKind, kindOf, function-kind, itemOf, Makes}
 use Rattle.report_parser.specs.Effect.{no-part, textPart, PartWithin, ChecksumWithin, TextsWithin, movedPart, movedChecksum, AddsItem, RowOf}
 
 -- ---- parts
@@ -94,17 +94,17 @@ no-text (Lent.LinesFound found) h = refl
 no-text (Lent.LinesHit hit) h = refl
 no-text Lent.EndOfRecord h = refl
 
-function-row : (text : Bytes) (r : Row) (name : Bytes) (extent : Option Extent) (count : ℕ) → itemOf text r ≡ functionItem name extent count → kindOf r ≡ function-kind
+function-row : (text : Bytes) (r : Row) (f : Function) → itemOf text r ≡ functionItem f → kindOf r ≡ function-kind
 unfolding itemOf
-function-row text r name extent count e = go (kindOf r) e
+function-row text r f e = go (kindOf r) e
   where
     go : (kind : ℕ)
         → byKind kind
         (sectionItem (part text (r .path) (r .«path_len»)))
-        (functionItem (part text (r .k1) (r .k2)) (extentIn (r .tag % 2) (r .k3)) (r .count))
+        (functionItem (functionIn text r))
         (branchItem (r .k1) (r .k2) (r .k3) (ifGiven (r .tag % 2) (r .count)))
         (lineItem (r .k1) (r .count) (ifGiven (r .tag % 2) (part text (r .k2) (r .k3))))
-        ≡ functionItem name extent count → kind ≡ function-kind
+        ≡ functionItem f → kind ≡ function-kind
     go zero q = impossible cc
     go (suc zero) q = refl
     go (suc (suc zero)) q = impossible cc
@@ -119,19 +119,19 @@ row-as e ω = rw e ω
 
 module _ {at len : ℕ} {r : Row} where
   pub start-of : {start : ℕ} {end : EndLine} {p q : Part} → q ≡ movedPart at p → TextsWithin len (Lent.FunctionName start end p)
-      → Makes r (λ text. functionItem (partIn text q) (some (extentAt start (endIn end))) 0) (λ text. PartInside text q) → RowOf at len (Lent.FunctionName start end p) r
+      → Makes r (λ text. functionItem (functionOf (partIn text q) (some (extentAt start (endIn end))) 0)) (λ text. PartInside text q) → RowOf at len (Lent.FunctionName start end p) r
   start-of {start} {end} {p} f w μ = record {
-    is = λ text. μ .is text ∙ rw f (ap (λ (b : Bytes). functionItem b (some (extentAt start (endIn end))) 0) (moved-is text at p));
+    is = λ text. μ .is text ∙ rw f (ap (λ (b : Bytes). functionItem (functionOf b (some (extentAt start (endIn end))) 0)) (moved-is text at p));
     inner = λ text h. μ .inner text (rw f (omega (arith, w .text)));
     adds = λ k. absurd (omega arith);
   }
 
   pub calls-of : {count : ℕ} {p q : Part} → q ≡ movedPart at p → TextsWithin len (Lent.FunctionData count p)
-      → Makes r (λ text. functionItem (partIn text q) none count) (λ text. PartInside text q) → RowOf at len (Lent.FunctionData count p) r
+      → Makes r (λ text. functionItem (functionOf (partIn text q) none count)) (λ text. PartInside text q) → RowOf at len (Lent.FunctionData count p) r
   calls-of {count} {p} {q} f w μ = record {
-    is = λ text. μ .is text ∙ rw f (ap (λ (b : Bytes). functionItem b none count) (moved-is text at p));
+    is = λ text. μ .is text ∙ rw f (ap (λ (b : Bytes). functionItem (functionOf b none count)) (moved-is text at p));
     inner = λ text h. μ .inner text (rw f (omega (arith, w .text)));
-    adds = λ k. function-row [] r (partIn [] q) none count (μ .is []);
+    adds = λ k. function-row [] r (functionOf (partIn [] q) none count) (μ .is []);
   }
 
   pub branch-of : {line block branch : ℕ} {taken : Taken} → Makes r (λ text. branchItem line block branch (takenIn taken)) (λ text. Unit {0})

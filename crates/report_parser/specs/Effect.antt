@@ -13,7 +13,7 @@ use Rattle.model.specs.declared.Record.the-variants as Lent
 use Rattle.model.specs.Bytes.{Bytes}
 use Rattle.model.specs.Answer.{accepted}
 use Rattle.model.specs.Record.{Record}
-use Rattle.model.specs.Report.{extentAt, Item, functionItem, branchItem, lineItem}
+use Rattle.model.specs.Report.{extentAt, functionOf, Item, functionItem, branchItem, lineItem}
 use Rattle.model.specs.Parts.{endIn, takenIn, recordIn}
 use Rattle.model.specs.Reading.{effect}
 use Rattle.table_item.specs.Items.{part, partIn, checksumPart, kindOf, function-kind, itemOf, ItemRow}
@@ -94,8 +94,8 @@ AddsItem Lent.EndOfRecord = ⊥
 abbrev pub itemIn : Bytes → LentRecord → Item
 itemIn bytes (Lent.TestName p) = lineItem 0 0 none
 itemIn bytes (Lent.SourceFile p) = lineItem 0 0 none
-itemIn bytes (Lent.FunctionName start end p) = functionItem (partIn bytes p) (some (extentAt start (endIn end))) 0
-itemIn bytes (Lent.FunctionData count p) = functionItem (partIn bytes p) none count
+itemIn bytes (Lent.FunctionName start end p) = functionItem (functionOf (partIn bytes p) (some (extentAt start (endIn end))) 0)
+itemIn bytes (Lent.FunctionData count p) = functionItem (functionOf (partIn bytes p) none count)
 itemIn bytes (Lent.FunctionsFound found) = lineItem 0 0 none
 itemIn bytes (Lent.FunctionsHit hit) = lineItem 0 0 none
 itemIn bytes (Lent.BranchData line block branch taken) = branchItem line block branch (takenIn taken)

@@ -13,7 +13,7 @@ use Rattle.ordmap.proofs.Orderings.{said, Says, says}
 use Rattle.model.specs.Order.{isLess}
 use Rattle.model.specs.Bytes.{Bytes, compareBytes}
 use Rattle.model.proofs.KeyOrder.{bytes-order}
-use Rattle.model.specs.Report.{Extent, sectionItem, functionItem, branchItem, lineItem, itemKey, compareItems}
+use Rattle.model.specs.Report.{Function, sectionItem, functionItem, branchItem, lineItem, itemKey, compareItems}
 use Rattle.table_item.specs.Items.{part, kindOf, function-kind, branch-kind, line-kind, byKind, itemOf, ItemInBounds, ItemRow}
 
 -- a row that the store handed out
@@ -43,18 +43,18 @@ less-is a b = go (compare a b) (says a b)
 abbrev restOf : ℕ → Bytes → Row → List ℕ
 restOf kind text r = byKind kind [] (part text (r .k1) (r .k2)) (r .k1 ∷ r .k2 ∷ r .k3 ∷ []) (r .k1 ∷ [])
 
-key-by : (kind : ℕ) (p n : Bytes) (s : Option Extent) (m l b h : ℕ) (t : Option ℕ) (x y : ℕ) (z : Option Bytes) → kind ≤ line-kind
-    → itemKey (byKind kind (sectionItem p) (functionItem n s m) (branchItem l b h t) (lineItem x y z)) ≡ kind ∷ byKind kind [] n (l ∷ b ∷ h ∷ []) (x ∷ [])
+key-by : (kind : ℕ) (p : Bytes) (f : Function) (l b h : ℕ) (t : Option ℕ) (x y : ℕ) (z : Option Bytes) → kind ≤ line-kind
+    → itemKey (byKind kind (sectionItem p) (functionItem f) (branchItem l b h t) (lineItem x y z)) ≡ kind ∷ byKind kind [] (f .name) (l ∷ b ∷ h ∷ []) (x ∷ [])
 unfolding itemKey
-key-by zero p n s m l b h t x y z i = refl
-key-by (suc zero) p n s m l b h t x y z i = refl
-key-by (suc (suc zero)) p n s m l b h t x y z i = refl
-key-by (suc (suc (suc zero))) p n s m l b h t x y z i = refl
-key-by (suc (suc (suc (suc kind)))) p n s m l b h t x y z i = absurd (omega arith)
+key-by zero p f l b h t x y z i = refl
+key-by (suc zero) p f l b h t x y z i = refl
+key-by (suc (suc zero)) p f l b h t x y z i = refl
+key-by (suc (suc (suc zero))) p f l b h t x y z i = refl
+key-by (suc (suc (suc (suc kind)))) p f l b h t x y z i = absurd (omega arith)
 
 pub key-of : (text : Bytes) (r : Row) → kindOf r ≤ line-kind → itemKey (itemOf text r) ≡ kindOf r ∷ restOf (kindOf r) text r
 unfolding itemOf
-key-of text r h = key-by (kindOf r) _ _ _ _ _ _ _ _ _ _ _ h
+key-of text r h = key-by (kindOf r) _ _ _ _ _ _ _ _ _ h
 
 -- ---- one law for each way out
 

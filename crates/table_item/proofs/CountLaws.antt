@@ -3,16 +3,16 @@ use mathlib.Core.Path.{_≡_, refl, sym, ap, ap₂, _∙_}
 use mathlib.Core.Logic.{_≢_}
 use mathlib.Core.Bool.{Bool, true, false, not}
 use mathlib.Core.Option.{Option}
-use Prim.Native.Nat.{ℕ, zero, suc, _+_, _%_, _≤_, _<_}
+use Prim.Native.Nat.{ℕ, zero, suc, _+_, _≤_, _<_}
 use borrow.Author.Tests.{le-leb, lt-leb}
 use Rattle.table.specs.declared.Row.{Row}
 use Rattle.model.specs.declared.Fault.the-variants.{CallOverflow}
 use Rattle.model.specs.Limits.{u64-max}
 use Rattle.model.specs.Bytes.{Bytes}
-use Rattle.model.specs.Answer.{accepted, refuse, _>>=_}
-use Rattle.model.specs.Report.{Extent, Item, sectionItem, functionItem, branchItem, lineItem, countOf, sum}
+use Rattle.model.specs.Answer.{Answer, accepted, refuse, _>>=_}
+use Rattle.model.specs.Report.{Function, updated, Item, sectionItem, functionItem, branchItem, lineItem, countOf, sum}
 use Rattle.model.specs.Reading.{addCalls}
-use Rattle.table_item.specs.Items.{part, kindOf, function-kind, byKind, extentIn, itemOf, ItemRow}
+use Rattle.table_item.specs.Items.{kindOf, function-kind, byKind, functionIn, itemOf, ItemRow}
 use Rattle.table_item.specs.Combining.{Adds, combineOf}
 
 abbrev pub withCount : Row → ℕ → Row
@@ -32,18 +32,18 @@ pub inner-count : {text : Bytes} {r : Row} (n : ℕ) → ItemRow text r → Item
 inner-count n ι = record { good = record { kind = ι .good .kind; name = ι .good .name; checksum = ι .good .checksum }; inner = ι .inner }
 
 pub function-item : (text : Bytes) (r : Row) → kindOf r ≡ function-kind
-    → itemOf text r ≡ functionItem (part text (r .k1) (r .k2)) (extentIn (r .tag % 2) (r .k3)) (r .count)
+    → itemOf text r ≡ functionItem (functionIn text r)
 unfolding itemOf
 function-item text r e = rw e
 
 -- what is no function is replaced
-other-item : (kind : ℕ) → kind ≢ function-kind → (p n : Bytes) (s : Option Extent) (m l b h : ℕ) (t : Option ℕ) (x y : ℕ) (z : Option Bytes) (later : Item)
-    → accepted later ≡ addCalls (byKind kind (sectionItem p) (functionItem n s m) (branchItem l b h t) (lineItem x y z)) later
+other-item : (kind : ℕ) → kind ≢ function-kind → (p : Bytes) (f : Function) (l b h : ℕ) (t : Option ℕ) (x y : ℕ) (z : Option Bytes) (later : Item)
+    → accepted later ≡ addCalls (byKind kind (sectionItem p) (functionItem f) (branchItem l b h t) (lineItem x y z)) later
 unfolding addCalls
-other-item zero e p n s m l b h t x y z later = refl
-other-item (suc zero) e p n s m l b h t x y z later = absurd (e refl)
-other-item (suc (suc zero)) e p n s m l b h t x y z later = refl
-other-item (suc (suc (suc kind))) e p n s m l b h t x y z later = refl
+other-item zero e p f l b h t x y z later = refl
+other-item (suc zero) e p f l b h t x y z later = absurd (e refl)
+other-item (suc (suc zero)) e p f l b h t x y z later = refl
+other-item (suc (suc (suc kind))) e p f l b h t x y z later = refl
 
 -- ---- one law for each way out
 
@@ -54,21 +54,21 @@ module _ (text : Bytes) (old r : Row) where
 
   pub combined-other : (adds : Bool) → kindOf old ≢ function-kind → accepted (itemOf text r) ≡ combineOf adds (itemOf text old) (itemOf text r)
   unfolding itemOf
-  combined-other true e = other-item (kindOf old) e _ _ _ _ _ _ _ _ _ _ _ (itemOf text r)
+  combined-other true e = other-item (kindOf old) e _ _ _ _ _ _ _ _ _ (itemOf text r)
   combined-other false e = refl
 
-  added : kindOf old ≡ function-kind → kindOf r ≡ function-kind → addCalls (itemOf text old) (itemOf text r)
-      ≡ (sum CallOverflow (old .count) (r .count) >>= λ total. accepted (functionItem (part text (old .k1) (old .k2)) (extentIn (old .tag % 2) (old .k3)) total))
+  abbrev summed : Answer Item
+  summed = sum CallOverflow (old .count) (r .count) >>= λ total. accepted (functionItem (updated (functionIn text old) (functionIn text old .extent) total))
+
+  added : kindOf old ≡ function-kind → kindOf r ≡ function-kind → addCalls (itemOf text old) (itemOf text r) ≡ summed
   unfolding addCalls countOf
   added a b = ap₂ addCalls (function-item text old a) (function-item text r b)
 
   module _ (adds : Bool) (e : not adds ≡ false) (a : kindOf old ≡ function-kind) (b : Adds adds r) where
-    both : combineOf adds (itemOf text old) (itemOf text r)
-        ≡ (sum CallOverflow (old .count) (r .count) >>= λ total. accepted (functionItem (part text (old .k1) (old .k2)) (extentIn (old .tag % 2) (old .k3)) total))
+    both : combineOf adds (itemOf text old) (itemOf text r) ≡ summed
     both = go adds e b
       where
-        go : (adds : Bool) → not adds ≡ false → Adds adds r → combineOf adds (itemOf text old) (itemOf text r)
-            ≡ (sum CallOverflow (old .count) (r .count) >>= λ total. accepted (functionItem (part text (old .k1) (old .k2)) (extentIn (old .tag % 2) (old .k3)) total))
+        go : (adds : Bool) → not adds ≡ false → Adds adds r → combineOf adds (itemOf text old) (itemOf text r) ≡ summed
         go true e b = added a b
         go false e b = cc
 

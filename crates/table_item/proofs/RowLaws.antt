@@ -15,28 +15,28 @@ use Rattle.model.specs.declared.Taken.the-variants as Tk
 use Rattle.model.specs.declared.Checksum.{Checksum}
 use Rattle.model.specs.declared.Checksum.the-variants as Ck
 use Rattle.model.specs.Parts.{endIn, takenIn}
-use Rattle.model.specs.Report.{extentAt, Extent, extentOf, givenEnd, endOf, sectionItem, functionItem, branchItem, lineItem}
+use Rattle.model.specs.Report.{extentAt, Extent, functionOf, updated, extentOf, givenEnd, endOf, sectionItem, functionItem, branchItem, lineItem}
 use Rattle.table_item.proofs.CountLaws.{function-item}
-use Rattle.table_item.specs.Items.{part, kindOf, function-kind, byKind, ifGiven, line-numbers, extentTag, extentWord, extentIn, startKey, partIn, itemOf, PartInside, checksumPart, ChecksumInside, itemRow, Makes}
+use Rattle.table_item.specs.Items.{part, kindOf, function-kind, byKind, ifGiven, line-numbers, extentTag, extentWord, extentIn, startKey, functionIn, partIn, itemOf, PartInside, checksumPart, ChecksumInside, itemRow, Makes}
 
 pub word-is : (start : ℕ) (a b : EndLine) (n : ℕ) → a ≡ b → n ≡ extentWord start b → n ≡ extentWord start a
 word-is start a b n e h = rw e h
 
 module _ (p : Part) (start : ℕ) (small : start < line-numbers) where
   start-made : (end : EndLine)
-      → Makes (itemRow (extentTag end) (p .start) (p .len) (extentWord start end) 0) (λ text. functionItem (partIn text p) (some (extentAt start (endIn end))) 0) (λ text. PartInside text p)
+      → Makes (itemRow (extentTag end) (p .start) (p .len) (extentWord start end) 0) (λ text. functionItem (functionOf (partIn text p) (some (extentAt start (endIn end))) 0)) (λ text. PartInside text p)
   unfolding itemOf endIn
   start-made (El.Given line) =
       let low : (start + line * line-numbers) % line-numbers ≡ start = omega (arith, small) in
       let high : (start + line * line-numbers) / line-numbers ≡ line = omega (arith, small) in
       record {
-        is = λ text. ap₂ (λ (s l : ℕ). functionItem (partIn text p) (some (extentAt s (some l))) 0) low high;
+        is = λ text. ap₂ (λ (s l : ℕ). functionItem (functionOf (partIn text p) (some (extentAt s (some l))) 0)) low high;
         inner = λ text i. omega arith;
       }
   start-made El.Absent = rw add-one (record { is = λ text. refl; inner = λ text i. omega arith })
 
   pub start-row-made : {r : Row} {tag word : ℕ} (end : EndLine) → tag ≡ extentTag end → word ≡ extentWord start end → r ≡ itemRow tag (p .start) (p .len) word 0
-      → Makes r (λ text. functionItem (partIn text p) (some (extentAt start (endIn end))) 0) (λ text. PartInside text p)
+      → Makes r (λ text. functionItem (functionOf (partIn text p) (some (extentAt start (endIn end))) 0)) (λ text. PartInside text p)
   start-row-made end e f q = rw (q, e, f) (start-made end)
 
 -- ---- what a row tells of its function
@@ -52,7 +52,7 @@ extent-is text r = go (kindOf r)
     go : (k : ℕ) → extentOf
         (byKind k
         (sectionItem (part text (r .path) (r .«path_len»)))
-        (functionItem (part text (r .k1) (r .k2)) (extentIn (r .tag % 2) (r .k3)) (r .count))
+        (functionItem (functionIn text r))
         (branchItem (r .k1) (r .k2) (r .k3) (ifGiven (r .tag % 2) (r .count)))
         (lineItem (r .k1) (r .count) (ifGiven (r .tag % 2) (part text (r .k2) (r .k3)))))
         ≡ extentBy k (r .tag % 2) (r .k3)
@@ -118,10 +118,10 @@ module _ (text : Bytes) (r : Row) (start : ℕ) (is : startKey (extentOf (itemOf
       go (suc (suc zero)) e = absurd (omega arith)
       go (suc (suc (suc k))) e = absurd (omega arith)
 
-  pub started-item : itemOf text r ≡ functionItem (part text (r .k1) (r .k2)) (some (extentAt start (endOf (itemOf text r)))) (r .count)
+  pub started-item : itemOf text r ≡ functionItem (updated (functionIn text r) (some (extentAt start (endOf (itemOf text r)))) (r .count))
   started-item =
       function-item text r started-kind
-      ∙ ap (λ (x : Option Extent). functionItem (part text (r .k1) (r .k2)) x (r .count))
+      ∙ ap (λ (x : Option Extent). functionItem (updated (functionIn text r) x (r .count)))
       (sym (function-extent r started-kind text) ∙ whole (extentOf (itemOf text r)) is)
     where
       whole : (x : Option Extent) → startKey x ≡ suc start → x ≡ some (extentAt start (givenEnd x))
@@ -129,7 +129,7 @@ module _ (text : Bytes) (r : Row) (start : ℕ) (is : startKey (extentOf (itemOf
       whole (some x) e = let q : x .start ≡ start = omega arith in ap (λ (s : ℕ). some (extentAt s (x .end))) q
 
 pub calls-made : {r : Row} (p : Part) (count : ℕ) → r ≡ itemRow 2 (p .start) (p .len) 0 count
-    → Makes r (λ text. functionItem (partIn text p) none count) (λ text. PartInside text p)
+    → Makes r (λ text. functionItem (functionOf (partIn text p) none count)) (λ text. PartInside text p)
 unfolding itemOf
 calls-made p count e = rw e (record { is = λ text. refl; inner = λ text h. omega arith })
 

@@ -10,7 +10,7 @@ use Rattle.model.specs.declared.EndLine.the-variants as El
 use Rattle.model.specs.declared.Checksum.{Checksum}
 use Rattle.model.specs.declared.Checksum.the-variants.{Given, Absent}
 use Rattle.model.specs.Bytes.{Bytes}
-use Rattle.model.specs.Report.{Extent, extentAt, Item, sectionItem, functionItem, branchItem, lineItem}
+use Rattle.model.specs.Report.{Extent, extentAt, Function, functionOf, Item, sectionItem, functionItem, branchItem, lineItem}
 
 -- the part of the text that has a start and a length
 abbrev pub part : Bytes → ℕ → ℕ → Bytes
@@ -74,13 +74,16 @@ abbrev pub startKey : Option Extent → ℕ
 startKey none = 0
 startKey (some x) = suc (x .start)
 
+abbrev pub functionIn : Bytes → Row → Function
+functionIn text r = functionOf (part text (r .k1) (r .k2)) (extentIn (r .tag % 2) (r .k3)) (r .count)
+
 -- ---- items
 
 unfoldable pub itemOf : Bytes → Row → Item
 itemOf text r =
     byKind (kindOf r)
     (sectionItem (part text (r .path) (r .«path_len»)))
-    (functionItem (part text (r .k1) (r .k2)) (extentIn (r .tag % 2) (r .k3)) (r .count))
+    (functionItem (functionIn text r))
     (branchItem (r .k1) (r .k2) (r .k3) (ifGiven (r .tag % 2) (r .count)))
     (lineItem (r .k1) (r .count) (ifGiven (r .tag % 2) (part text (r .k2) (r .k3))))
 

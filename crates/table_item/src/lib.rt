@@ -13,7 +13,7 @@ ghost use Prim.Native.Nat.{ℕ, _+_, _≤_};
 ghost use lib.ListN.{length};
 ghost use Rattle.model.specs.Order.{isLess};
 ghost use Rattle.model.specs.Bytes.{compareBytes};
-ghost use Rattle.model.specs.Report.{extentAt, functionItem, branchItem, lineItem, extentOf, endOf, compareItems};
+ghost use Rattle.model.specs.Report.{extentAt, functionOf, functionItem, branchItem, lineItem, extentOf, endOf, compareItems};
 ghost use Rattle.model.specs.Parts.{endIn, takenIn};
 ghost use Rattle.compare.specs.Orders.{orderOf};
 ghost use Rattle.table.specs.Places.{PartitionPoint};
@@ -60,7 +60,7 @@ fn extent_word(start: u32, end: EndLine) -> u64
 
 // "FN:10,main", "FN:10,12,main"
 pub fn start_row(name: Part, start: u32, end: EndLine) -> Row
-    ensures { λ r. ⌜ Makes r (λ text. functionItem (partIn text name) (some (extentAt start (endIn end))) 0) (λ text. PartInside text name) ⌝ }
+    ensures { λ r. ⌜ Makes r (λ text. functionItem (functionOf (partIn text name) (some (extentAt start (endIn end))) 0)) (λ text. PartInside text name) ⌝ }
 {
     item_row(
         extent_tag(end),
@@ -96,7 +96,7 @@ pub fn end_line(row: Row) -> EndLine
 
 // "FNDA:1,main"
 pub fn calls_row(name: Part, count: u64) -> Row
-    ensures { λ r. ⌜ Makes r (λ text. functionItem (partIn text name) none count) (λ text. PartInside text name) ⌝ }
+    ensures { λ r. ⌜ Makes r (λ text. functionItem (functionOf (partIn text name) none count)) (λ text. PartInside text name) ⌝ }
 {
     item_row(FUNCTION * 2, name.start as u64, name.len as u64, 0, count)
 }

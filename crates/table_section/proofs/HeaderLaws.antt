@@ -12,7 +12,7 @@ use Rattle.table.specs.Store.{row, Store}
 use Rattle.table.proofs.PlaceLaws.{by-eq, by-lt}
 use Rattle.model.specs.Bytes.{Bytes}
 use Rattle.model.specs.Path.{Path, components}
-use Rattle.model.specs.Report.{Extent, Item, sectionItem, functionItem, branchItem, lineItem, Entry, Report, SectionKey, inSection}
+use Rattle.model.specs.Report.{Function, Item, sectionItem, functionItem, branchItem, lineItem, Entry, Report, SectionKey, inSection}
 use Rattle.model.specs.Reading.{spellingOf}
 use Rattle.model.proofs.KeyOrder.{sections-order}
 use Rattle.table_item.specs.Items.{kindOf, tombstone-tag, byKind, itemOf, ItemInBounds}
@@ -69,14 +69,14 @@ pub section-item : (text : Bytes) (r : Row) → kindOf r ≡ 0 → itemOf text r
 unfolding itemOf
 section-item text r e = rw e
 
-other-kind : (path : Bytes) (key : SectionKey) (es : Report) (kind : ℕ) → kind ≢ 0 → (p n : Bytes) (s : Option Extent) (m l b h : ℕ) (u : Option ℕ)
+other-kind : (path : Bytes) (key : SectionKey) (es : Report) (kind : ℕ) → kind ≢ 0 → (p : Bytes) (f : Function) (l b h : ℕ) (u : Option ℕ)
     (x y : ℕ) (z : Option Bytes)
-    → spellingOf path (inSection key (byKind kind (sectionItem p) (functionItem n s m) (branchItem l b h u) (lineItem x y z)) ∷ es) ≡ path
+    → spellingOf path (inSection key (byKind kind (sectionItem p) (functionItem f) (branchItem l b h u) (lineItem x y z)) ∷ es) ≡ path
 unfolding spellingOf
-other-kind path key es zero e p n s m l b h u x y z = absurd (e refl)
-other-kind path key es (suc zero) e p n s m l b h u x y z = refl
-other-kind path key es (suc (suc zero)) e p n s m l b h u x y z = refl
-other-kind path key es (suc (suc (suc kind))) e p n s m l b h u x y z = refl
+other-kind path key es zero e p f l b h u x y z = absurd (e refl)
+other-kind path key es (suc zero) e p f l b h u x y z = refl
+other-kind path key es (suc (suc zero)) e p f l b h u x y z = refl
+other-kind path key es (suc (suc (suc kind))) e p f l b h u x y z = refl
 
 -- the spelling that a row gives
 module _ (path text : Bytes) (r : Row) (es : Report) where
@@ -86,7 +86,7 @@ module _ (path text : Bytes) (r : Row) (es : Report) where
 
   not-spelled-by : kindOf r ≢ 0 → spellingOf path (entryOf text r ∷ es) ≡ path
   unfolding itemOf
-  not-spelled-by h = other-kind path (keyOf text r) es (kindOf r) h _ _ _ _ _ _ _ _ _ _ _
+  not-spelled-by h = other-kind path (keyOf text r) es (kindOf r) h _ _ _ _ _ _ _ _ _
 
 -- the entries from lo up to hi
 abbrev pub runAt : Bytes → (ℕ → Row) → ℕ → ℕ → Report
