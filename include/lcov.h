@@ -32,6 +32,30 @@ extern "C" {
 /* The most texts that a bundle names. */
 #define LCOV_MAX_TEXTS 64
 
+/* A table of tags: so many kinds of record, so many bytes for a tag, and so many for the table, which has a length and a tag for each kind. */
+#define LCOV_KINDS 13
+#define LCOV_TAG_SLOT 16
+#define LCOV_TAGS_LEN 221
+
+/* The table that the calls without one use: `static const uint8_t tags[LCOV_TAGS_LEN] = LCOV_DEFAULT_TAGS;`. */
+#define LCOV_DEFAULT_TAGS \
+    { \
+        2, 2, 2, 4, 3, 3, 4, 3, 3, 2, 2, 2, 13, \
+        'T', 'N', 0, 0, 0, 0, 0, 0, 0, 0, 0, 0, 0, 0, 0, 0, \
+        'S', 'F', 0, 0, 0, 0, 0, 0, 0, 0, 0, 0, 0, 0, 0, 0, \
+        'F', 'N', 0, 0, 0, 0, 0, 0, 0, 0, 0, 0, 0, 0, 0, 0, \
+        'F', 'N', 'D', 'A', 0, 0, 0, 0, 0, 0, 0, 0, 0, 0, 0, 0, \
+        'F', 'N', 'F', 0, 0, 0, 0, 0, 0, 0, 0, 0, 0, 0, 0, 0, \
+        'F', 'N', 'H', 0, 0, 0, 0, 0, 0, 0, 0, 0, 0, 0, 0, 0, \
+        'B', 'R', 'D', 'A', 0, 0, 0, 0, 0, 0, 0, 0, 0, 0, 0, 0, \
+        'B', 'R', 'F', 0, 0, 0, 0, 0, 0, 0, 0, 0, 0, 0, 0, 0, \
+        'B', 'R', 'H', 0, 0, 0, 0, 0, 0, 0, 0, 0, 0, 0, 0, 0, \
+        'D', 'A', 0, 0, 0, 0, 0, 0, 0, 0, 0, 0, 0, 0, 0, 0, \
+        'L', 'F', 0, 0, 0, 0, 0, 0, 0, 0, 0, 0, 0, 0, 0, 0, \
+        'L', 'H', 0, 0, 0, 0, 0, 0, 0, 0, 0, 0, 0, 0, 0, 0, \
+        'e', 'n', 'd', '_', 'o', 'f', '_', 'r', 'e', 'c', 'o', 'r', 'd', 0, 0, 0 \
+    }
+
 /* Why a call is refused, and which of its words are told. */
 enum lcov_refusal {
     LCOV_UNKNOWN_RECORD = 1,           /* tag unknown: text, line */
@@ -53,6 +77,8 @@ enum lcov_refusal {
     LCOV_PART_OUTSIDE = 17,            /* record's text part outside the lent text */
     LCOV_MALFORMED_RANGES = 18,        /* range list not well formed */
     LCOV_SIGNED_NUMBER = 19,           /* number with a plus sign: text, line, field */
+    LCOV_MALFORMED_TAGS = 21,          /* table of tags not well formed */
+    LCOV_EQUAL_TAGS = 22,              /* two equal tags in the table */
     LCOV_END_BEFORE_START = 23,        /* end line below the start line: text, line */
     LCOV_SECOND_SOURCE_FILE = 25       /* second SF in a section: text, line */
 };
@@ -133,6 +159,53 @@ uint32_t lcov_filter(const uint8_t *text, size_t text_len, const uint32_t (*pair
 
 /* Compares two paths by their components, as sections are ordered: 0 less, 1 equal, 2 greater. */
 uint32_t lcov_compare_paths(const uint8_t *a, size_t a_len, const uint8_t *b, size_t b_len);
+
+/* A table of tags takes the place of the default ones, in what is read and in what is printed: a default tag that it lacks is unknown. It has
+ * a byte for the length of each tag, then a slot for each, in the order of the kinds at lcov_read_line. It is well formed if the slice is
+ * LCOV_TAGS_LEN long, each length is 1 to LCOV_TAG_SLOT, the bytes of a slot past its tag are 0, and no tag has byte 10, byte 13 or ':'. Any
+ * other byte may be in a tag, also byte 0. The calls below take it first, and refuse one that is not well formed with 21, and one in which
+ * two tags are equal with 22, before all else and with all words 0. Otherwise each does what the call without _tagged does, with the table's
+ * tags: the needed length of refusal 14 counts them. */
+uint32_t lcov_read_line_tagged(const uint8_t *tags, size_t tags_len, const uint8_t *line, size_t line_len, uint64_t *answer,
+                               size_t answer_len);
+
+uint32_t lcov_print_line_tagged(const uint8_t *tags, size_t tags_len, const uint8_t *line, size_t line_len, uint8_t *out, size_t out_len,
+                                uint64_t *answer, size_t answer_len);
+
+uint32_t lcov_read_text_tagged(const uint8_t *tags, size_t tags_len, const uint8_t *text, size_t text_len, uint64_t *scratch,
+                               size_t scratch_len, uint8_t *out, size_t out_len, uint64_t *answer, size_t answer_len);
+
+/* As lcov_gather_with, in lent scratch. */
+uint32_t lcov_gather_tagged(const uint8_t *tags, size_t tags_len, const uint8_t *bundle, size_t bundle_len, uint64_t *scratch,
+                            size_t scratch_len, uint8_t *out, size_t out_len, uint64_t *answer, size_t answer_len);
+
+uint32_t lcov_gather_lossy_tagged(const uint8_t *tags, size_t tags_len, const uint8_t *bundle, size_t bundle_len, uint64_t *scratch,
+                                  size_t scratch_len, uint8_t *out, size_t out_len, uint64_t *answer, size_t answer_len);
+
+uint32_t lcov_filter_tagged(const uint8_t *tags, size_t tags_len, const uint8_t *text, size_t text_len, const uint32_t (*pairs)[2],
+                            size_t pairs_len, size_t used, uint64_t *scratch, size_t scratch_len, uint8_t *out, size_t out_len,
+                            uint64_t *answer, size_t answer_len);
+
+/* Makes a table of strings, in the order of the kinds. Returns 0, or -1 where one is empty or longer than LCOV_TAG_SLOT bytes; the table then
+ * holds anything. What else is wrong in it the calls refuse. */
+static inline int lcov_make_tags(const char *const tags[LCOV_KINDS], uint8_t table[LCOV_TAGS_LEN])
+{
+    size_t kind, at;
+    for (kind = 0; kind < LCOV_KINDS; kind++) {
+        uint8_t *slot = table + LCOV_KINDS + LCOV_TAG_SLOT * kind;
+        for (at = 0; at < LCOV_TAG_SLOT; at++)
+            slot[at] = 0;
+        for (at = 0; tags[kind][at] != 0; at++) {
+            if (at == LCOV_TAG_SLOT)
+                return -1;
+            slot[at] = (uint8_t)tags[kind][at];
+        }
+        if (at == 0)
+            return -1;
+        table[kind] = (uint8_t)at;
+    }
+    return 0;
+}
 
 #ifdef __cplusplus
 }

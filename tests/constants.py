@@ -42,6 +42,9 @@ SAME = [
     (definition("max-entries"), [macro("MAX_ENTRIES"), constant("MAX_ENTRIES")]),
     (definition("max-texts"), [macro("MAX_TEXTS"), constant("MAX_TEXTS")]),
     (definition("words-per-entry"), [macro("WORDS_PER_ENTRY"), constant("WORDS_PER_ENTRY")]),
+    (macro("KINDS"), [constant("KINDS")]),
+    (macro("TAG_SLOT"), [constant("TAG_SLOT")]),
+    (macro("TAGS_LEN"), [constant("TAGS_LEN")]),
     ((WORDS, r"^pub fn put_words\(words: \[u64; (\d+)\]"), [macro("ANSWER_WORDS"), constant("WORDS")]),
 ]
 

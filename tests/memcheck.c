@@ -65,7 +65,7 @@ static bool is_kept(const struct list *after, const struct list *before)
 /* ---- questions: a call, what it is told, and how long its buffers are */
 
 struct input {
-    struct text bytes, other;
+    struct text bytes, other, tags;
     struct list list;
     uint32_t start, end;
     uint64_t max;
@@ -92,6 +92,7 @@ struct call {
 };
 
 #define TEXT lent->in.bytes.bytes, lent->in.bytes.len
+#define TABLE lent->in.tags.bytes, lent->in.tags.len
 #define OTHER_TEXT lent->in.other.bytes, lent->in.other.len
 #define LIST lent->in.list.pairs, lent->in.list.len, lent->in.list.used
 #define CONST_LIST (const uint32_t(*)[2])lent->in.list.pairs, lent->in.list.len, lent->in.list.used
@@ -160,6 +161,36 @@ static uint32_t compare_paths(struct lent *lent)
     return lcov_compare_paths(TEXT, OTHER_TEXT);
 }
 
+static uint32_t read_line_tagged(struct lent *lent)
+{
+    return lcov_read_line_tagged(TABLE, TEXT, ANSWER);
+}
+
+static uint32_t print_line_tagged(struct lent *lent)
+{
+    return lcov_print_line_tagged(TABLE, TEXT, OUT, ANSWER);
+}
+
+static uint32_t read_text_tagged(struct lent *lent)
+{
+    return lcov_read_text_tagged(TABLE, TEXT, SCRATCH, OUT, ANSWER);
+}
+
+static uint32_t gather_tagged(struct lent *lent)
+{
+    return lcov_gather_tagged(TABLE, TEXT, SCRATCH, OUT, ANSWER);
+}
+
+static uint32_t gather_lossy_tagged(struct lent *lent)
+{
+    return lcov_gather_lossy_tagged(TABLE, TEXT, SCRATCH, OUT, ANSWER);
+}
+
+static uint32_t filter_tagged(struct lent *lent)
+{
+    return lcov_filter_tagged(TABLE, TEXT, CONST_LIST, SCRATCH, OUT, ANSWER);
+}
+
 enum {
     READ_LINE,
     PRINT_LINE,
@@ -173,26 +204,42 @@ enum {
     QUERY_RANGE,
     HALF_OPEN,
     COMPARE_PATHS,
+    READ_LINE_TAGGED,
+    PRINT_LINE_TAGGED,
+    READ_TEXT_TAGGED,
+    GATHER_TAGGED,
+    GATHER_LOSSY_TAGGED,
+    FILTER_TAGGED,
 };
 
 #define BIT(number) (1u << (number))
 #define UP_TO(number) (2 * BIT(number) - 1)
 #define OF_LINE (UP_TO(6) | BIT(19) | BIT(23))
 #define OF_TEXT (OF_LINE | UP_TO(10) | BIT(25))
+#define OF_CHECKED (OF_TEXT | UP_TO(14) | BIT(16))
+#define OF_LOSSY (OF_TEXT | BIT(13) | BIT(14) | BIT(16))
+#define OF_FILTER (OF_TEXT | BIT(14) | BIT(18))
+#define OF_TAGS (BIT(21) | BIT(22))
 
 static const struct call CALLS[] = {
     [READ_LINE] = { "read_line", read_line, false, false, true, false, OF_LINE },
     [PRINT_LINE] = { "print_line", print_line, false, true, true, false, OF_LINE | BIT(14) },
     [READ_NUMBER] = { "read_number", read_number, false, false, true, false, BIT(0) | BIT(4) | BIT(5) | BIT(6) | BIT(19) },
     [READ_TEXT] = { "read_text", read_text, true, true, true, false, OF_TEXT | BIT(14) },
-    [GATHER] = { "gather", gather, false, true, true, false, OF_TEXT | UP_TO(14) | BIT(16) },
-    [GATHER_WITH] = { "gather_with", gather_with, true, true, true, false, OF_TEXT | UP_TO(14) | BIT(16) },
-    [GATHER_LOSSY] = { "gather_lossy", gather_lossy, true, true, true, false, OF_TEXT | BIT(13) | BIT(14) | BIT(16) },
-    [FILTER] = { "filter", filter, true, true, true, false, OF_TEXT | BIT(14) | BIT(18) },
+    [GATHER] = { "gather", gather, false, true, true, false, OF_CHECKED },
+    [GATHER_WITH] = { "gather_with", gather_with, true, true, true, false, OF_CHECKED },
+    [GATHER_LOSSY] = { "gather_lossy", gather_lossy, true, true, true, false, OF_LOSSY },
+    [FILTER] = { "filter", filter, true, true, true, false, OF_FILTER },
     [INSERT_RANGE] = { "insert_range", insert_range, false, false, true, true, BIT(0) | BIT(15) | BIT(18) },
     [QUERY_RANGE] = { "query_range", query_range, false, false, true, false, BIT(0) | BIT(18) },
     [HALF_OPEN] = { "half_open", half_open, false, false, true, false, BIT(0) },
     [COMPARE_PATHS] = { "compare_paths", compare_paths, false, false, false, false, UP_TO(2) },
+    [READ_LINE_TAGGED] = { "read_line_tagged", read_line_tagged, false, false, true, false, OF_LINE | OF_TAGS },
+    [PRINT_LINE_TAGGED] = { "print_line_tagged", print_line_tagged, false, true, true, false, OF_LINE | BIT(14) | OF_TAGS },
+    [READ_TEXT_TAGGED] = { "read_text_tagged", read_text_tagged, true, true, true, false, OF_TEXT | BIT(14) | OF_TAGS },
+    [GATHER_TAGGED] = { "gather_tagged", gather_tagged, true, true, true, false, OF_CHECKED | OF_TAGS },
+    [GATHER_LOSSY_TAGGED] = { "gather_lossy_tagged", gather_lossy_tagged, true, true, true, false, OF_LOSSY | OF_TAGS },
+    [FILTER_TAGGED] = { "filter_tagged", filter_tagged, true, true, true, false, OF_FILTER | OF_TAGS },
 };
 
 static uint32_t met[COUNT(CALLS)];
@@ -210,6 +257,7 @@ static struct lent lend(const struct input *in, struct room room, bool filled)
     struct lent lent = { *in, NULL, NULL, NULL, room };
     lent.in.bytes.bytes = copy_of(in->bytes.bytes, in->bytes.len);
     lent.in.other.bytes = copy_of(in->other.bytes, in->other.len);
+    lent.in.tags.bytes = copy_of(in->tags.bytes, in->tags.len);
     lent.in.list = list_copy(&in->list, filled);
     lent.scratch = block(room.scratch * sizeof *lent.scratch);
     lent.out = block(room.out);
@@ -227,6 +275,7 @@ static void give_back(struct lent *lent)
 {
     free(lent->in.bytes.bytes);
     free(lent->in.other.bytes);
+    free(lent->in.tags.bytes);
     free(lent->in.list.pairs);
     free(lent->scratch);
     free(lent->out);
@@ -265,7 +314,8 @@ static struct told run(const struct call *call, const struct input *in, struct r
         written = (size_t)told.words[0];
     expect(written <= room.out, call->name, "more is written than the output holds");
 
-    expect(is_same(&lent.in.bytes, &in->bytes) && is_same(&lent.in.other, &in->other), call->name, "an input is written");
+    expect(is_same(&lent.in.bytes, &in->bytes) && is_same(&lent.in.other, &in->other) && is_same(&lent.in.tags, &in->tags), call->name,
+           "an input is written");
     told.sum = add_to_sum(told.number, told.words, sizeof told.words);
     told.sum = add_to_sum(told.sum, lent.out, written);
     if (call->writes_list && told.number == 0)
@@ -402,31 +452,38 @@ static void free_input(struct input *in)
 {
     free(in->bytes.bytes);
     free(in->other.bytes);
+    free(in->tags.bytes);
     free(in->list.pairs);
 }
 
-static void ask_text(struct text text)
+static void ask_text(struct text text, struct text tags)
 {
-    struct input in = { .bytes = text, .list = some_list(), .has_largest = one_in(40) };
+    struct input in = { .bytes = text, .tags = tags, .list = some_list(), .has_largest = one_in(40) };
     ask_report(READ_TEXT, &in);
     ask_report(FILTER, &in);
+    ask_report(READ_TEXT_TAGGED, &in);
+    ask_report(FILTER_TAGGED, &in);
     free_input(&in);
 }
 
-static void ask_bundle(struct text bundle)
+static void ask_bundle(struct text bundle, struct text tags)
 {
-    struct input in = { .bytes = bundle, .has_largest = one_in(40) };
+    struct input in = { .bytes = bundle, .tags = tags, .has_largest = one_in(40) };
     ask_report(GATHER, &in);
     ask_report(GATHER_WITH, &in);
     ask_report(GATHER_LOSSY, &in);
+    ask_report(GATHER_TAGGED, &in);
+    ask_report(GATHER_LOSSY_TAGGED, &in);
     free_input(&in);
 }
 
-static void ask_line(struct text line)
+static void ask_line(struct text line, struct text tags)
 {
-    struct input in = { .bytes = line };
+    struct input in = { .bytes = line, .tags = tags };
     ask_words(READ_LINE, &in);
     ask_report(PRINT_LINE, &in);
+    ask_words(READ_LINE_TAGGED, &in);
+    ask_report(PRINT_LINE_TAGGED, &in);
     free_input(&in);
 }
 
@@ -443,12 +500,12 @@ static void ask_faults(void)
         struct text line = { NULL, 0 }, text = { NULL, 0 };
         put(&line, "%s", FAULTS[k]);
         put(&text, "%s", FAULTS[k]);
-        ask_line(line);
-        ask_text(text);
-        ask_bundle(bundle_of_two("SF:m\nDA:1,1\nend_of_record\n", FAULTS[k]));
+        ask_line(line, default_tags());
+        ask_text(text, default_tags());
+        ask_bundle(bundle_of_two("SF:m\nDA:1,1\nend_of_record\n", FAULTS[k]), default_tags());
     }
     for (size_t k = 0; k < COUNT(CONFLICTS); k++)
-        ask_bundle(bundle_of_two(CONFLICTS[k][0], CONFLICTS[k][1]));
+        ask_bundle(bundle_of_two(CONFLICTS[k][0], CONFLICTS[k][1]), default_tags());
 
     /* more entries than lcov_gather has words for */
     struct text many = { NULL, 0 };
@@ -456,7 +513,7 @@ static void ask_faults(void)
         put(&many, "DA:%zu,1\n", line);
     put(&many, "end_of_record\n");
     size_t start = 0;
-    ask_bundle(bundle_of(&many, &start, &many.len, 1));
+    ask_bundle(bundle_of(&many, &start, &many.len, 1), default_tags());
     free(many.bytes);
 }
 
@@ -464,7 +521,7 @@ static void ask_texts(void)
 {
     for (size_t k = 0; k < TEXTS; k++) {
         names_used = 1 + below(COUNT(TESTS));
-        ask_text(some_text(3));
+        ask_text(some_text(3), some_tags());
     }
 }
 
@@ -472,7 +529,7 @@ static void ask_bundles(void)
 {
     for (size_t k = 0; k < BUNDLES; k++) {
         names_used = 1 + below(COUNT(TESTS));
-        ask_bundle(some_bundle());
+        ask_bundle(some_bundle(), some_tags());
     }
 }
 
@@ -505,7 +562,7 @@ static void ask_lines(void)
         put(&line, "%s", one_in(3) ? "\r\n" : one_in(2) ? "\n" : "");
         if (one_in(6))
             damage(&line);
-        ask_line(line);
+        ask_line(line, some_tags());
     }
 }
 

@@ -1,4 +1,4 @@
-/* Random texts, bundles and range lists for tests/memcheck.c, from a fixed seed. They have few names and lines, so that keys meet. */
+/* Random texts, bundles, tables of tags and range lists for tests/memcheck.c, from a fixed seed. They have few names and lines, so that keys meet. */
 #ifndef QUESTIONS_H
 #define QUESTIONS_H
 
@@ -315,6 +315,50 @@ static struct text some_bundle(void)
     free(bytes.bytes);
     damage_bundle(&bundle, many);
     return bundle;
+}
+
+/* ---- tables of tags */
+
+static struct text default_tags(void)
+{
+    static const uint8_t DEFAULT[LCOV_TAGS_LEN] = LCOV_DEFAULT_TAGS;
+    struct text tags = { NULL, 0 };
+    put_bytes(&tags, DEFAULT, sizeof DEFAULT);
+    return tags;
+}
+
+/* Any bytes, few of them of the three that no tag may have; the rest of the slot is zeroed. */
+static void replace_tag(struct text *tags, size_t kind)
+{
+    uint8_t *slot = tags->bytes + LCOV_KINDS + LCOV_TAG_SLOT * kind;
+    tags->bytes[kind] = (uint8_t)(1 + below(LCOV_TAG_SLOT));
+    for (size_t k = 0; k < LCOV_TAG_SLOT; k++)
+        slot[k] = k < tags->bytes[kind] ? (uint8_t)below(256) : 0;
+}
+
+static void double_tag(struct text *tags)
+{
+    size_t from = below(LCOV_KINDS), to = (from + 1 + below(LCOV_KINDS - 1)) % LCOV_KINDS;
+    uint8_t *slots = tags->bytes + LCOV_KINDS;
+    tags->bytes[to] = tags->bytes[from];
+    memcpy(slots + LCOV_TAG_SLOT * to, slots + LCOV_TAG_SLOT * from, LCOV_TAG_SLOT);
+}
+
+/* Mostly the default ones, since the texts have those. */
+static struct text some_tags(void)
+{
+    struct text tags = default_tags();
+    for (size_t k = one_in(4) ? 1 + below(3) : 0; k > 0; k--)
+        replace_tag(&tags, below(LCOV_KINDS));
+    if (one_in(16))
+        double_tag(&tags);
+    if (one_in(16))
+        tags.bytes[below(tags.len)] = (uint8_t)below(one_in(2) ? 18 : 256);
+    if (one_in(30))
+        tags.len = one_in(2) ? below(tags.len) : LCOV_TAGS_LEN - 1;
+    else if (one_in(30))
+        put(&tags, "x");
+    return tags;
 }
 
 /* ---- range lists */

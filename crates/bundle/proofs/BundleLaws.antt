@@ -15,7 +15,7 @@ use Rattle.model.specs.Lists.{all, from}
 use Rattle.model.specs.Bytes.{Bytes}
 use Rattle.model.specs.Limits.{u32-max, max-texts}
 use Rattle.model.specs.Bundle.{u32At, textCount, textBytes, textStart, textLength, wellFormed}
-use Rattle.model.proofs.ListLaws.{and-left, and-right, all-each}
+use Rattle.model.proofs.ListLaws.{and-left, and-right, all-each, from-member}
 use Rattle.compare.specs.Prefixes.{numberOf, IsNumber}
 use Rattle.bundle.specs.Places.{partAt, fitsFrom}
 
@@ -89,15 +89,6 @@ module _ (s : Bytes) where
           e ∙ sym (rw (le-leb 8 (length s) sized, ← count, ← bytes, le-leb n max-texts few, eq-eqb (length s) (8 + 8 * n + total) h, all-of))
 
 -- ---- what a well-formed bundle says
-
-from-member : (a n k : ℕ) → a ≤ k → k < a + n → Member k (from a n)
-unfolding from
-from-member a zero k h l = absurd (omega arith)
-from-member a (suc n) k h l = go (eqb k a) refl (λ m. from-member (suc a) n k m (omega arith))
-  where
-    go : (t : Bool) → eqb k a ≡ t → (suc a ≤ k → Member k (from (suc a) n)) → Member k (a ∷ from (suc a) n)
-    go true e rest = here (eqb-true k a e)
-    go false e rest = there (rest (omega (arith, eqb-false k a e)))
 
 module _ (s : Bytes) (well : wellFormed s ≡ true) where
   abbrev sized : Bool

@@ -5,10 +5,10 @@ use mathlib.Core.Bool.{Bool}
 use mathlib.Core.List.{List, [], _∷_, _++_, append-nil}
 use lib.ListN.{length}
 use Rattle.table.specs.declared.Row.{Row}
+use Rattle.model.specs.declared.Kind.{Kind}
 use Rattle.model.specs.Bytes.{Bytes}
 use Rattle.model.specs.Limits.{u64-max}
 use Rattle.model.specs.Record.{endOfRecord}
-use Rattle.model.specs.Tags.{defaultTag}
 use Rattle.model.specs.Printing.{printRecords}
 use Rattle.table_item.specs.Items.{branch-kind, line-kind}
 use Rattle.print_sort.specs.Sorting.{itemsBy}
@@ -19,29 +19,29 @@ use Rattle.filter.specs.declared.Kept.{Kept}
 use Rattle.filter.specs.Filtered.{keptLines}
 
 -- the lines are to be printed at a place, with room for them
-pub record Begun (write : Bool) (text ws out : List ℕ) (header : Row) (numbers at : ℕ) (kept : Kept) : Type 0 where
-  pub room : RoomFor write out at (keptLines text ws header numbers kept)
+pub record Begun (tag : Kind → Bytes) (write : Bool) (text ws out : List ℕ) (header : Row) (numbers at : ℕ) (kept : Kept) : Type 0 where
+  pub room : RoomFor write out at (keptLines tag text ws header numbers kept)
   pub few : length out * 1 < 2 ^ 63
   pub place : at ≤ u64-max
 
-module _ {write : Bool} {text ws out : List ℕ} {header : Row} {numbers at : ℕ} {kept : Kept} (β : Begun write text ws out header numbers at kept) where
+module _ {tag : Kind → Bytes} {write : Bool} {text ws out : List ℕ} {header : Row} {numbers at : ℕ} {kept : Kept} (β : Begun tag write text ws out header numbers at kept) where
   abbrev head : Bytes
-  head = headLines text header
+  head = headLines tag text header
 
   abbrev functions : Bytes
-  functions = functionLines (itemsBy text ws numbers (kept .functions))
+  functions = functionLines tag (itemsBy text ws numbers (kept .functions))
 
   abbrev branches : Bytes
-  branches = groupLines branch-kind (itemsBy text ws (numbers + kept .functions) (kept .branches))
+  branches = groupLines tag branch-kind (itemsBy text ws (numbers + kept .functions) (kept .branches))
 
   abbrev lines : Bytes
-  lines = groupLines line-kind (itemsBy text ws (numbers + kept .functions + kept .branches) (kept .lines))
+  lines = groupLines tag line-kind (itemsBy text ws (numbers + kept .functions + kept .branches) (kept .lines))
 
   abbrev end : Bytes
-  end = printRecords defaultTag (endOfRecord ∷ [])
+  end = printRecords tag (endOfRecord ∷ [])
 
   abbrev all : Bytes
-  all = keptLines text ws header numbers kept
+  all = keptLines tag text ws header numbers kept
 
   at-head : Going write out out at at all all
   at-head = going-start (β .room) (β .few) (β .place)

@@ -7,13 +7,13 @@ use mathlib.Core.List.{List, [], _∷_, _++_, map, append-assoc, append-nil}
 use Rattle.ordmap.proofs.Results.{impossible}
 use Rattle.table.specs.declared.Row.{Row}
 use Rattle.table.specs.Store.{row}
+use Rattle.model.specs.declared.Kind.{Kind}
 use Rattle.model.specs.declared.Range.{Range}
 use Rattle.model.specs.Order.{if_then_else_}
 use Rattle.model.specs.Bytes.{Bytes}
 use Rattle.model.specs.Lists.{filter, sort, concatMap}
 use Rattle.model.specs.Record.{endOfRecord}
 use Rattle.model.specs.Report.{Item, sectionItem, functionItem, branchItem, lineItem, Report, compareItems}
-use Rattle.model.specs.Tags.{defaultTag}
 use Rattle.model.specs.Printing.{Section, isFunction, isBranch, isLine, functionsOf, sections, comparePrinted, printRecords, printSections}
 use Rattle.model.specs.Filter.{isHeld, hasStart, filterItems, filterSection}
 use Rattle.model.proofs.ListLaws.{All, all-map, all-select, all-sort, select-all, select-none, select-append}
@@ -146,19 +146,21 @@ module _ (ranges : List Range) (its fs bs ls : List Item) (F : filter isFunction
         kind-in isLine lines all-lines,
       ) refl
 
-  -- THE LINES OF A FILTERED SECTION: the functions left in printing order, the branches and lines that are held
-  filtered-lines : (s : Section) → s .items ≡ its → (rest : List Section)
-      → printSections defaultTag (filterSection ranges s ∷ rest)
-      ≡ sectionLines (s .test) (s .spelling) functions branches lines (printSections defaultTag rest)
-  unfolding filterSection
-  filtered-lines s e rest =
-      lines-of (filterSection ranges s) functions branches lines rest
-      (ap (λ (l : List Item). filter isFunction (filterItems ranges l)) e ∙ functions-left)
-      (ap (λ (l : List Item). filter isBranch (filterItems ranges l)) e ∙ branches-left)
-      (ap (λ (l : List Item). filter isLine (filterItems ranges l)) e ∙ lines-left)
-
   left-again : sort comparePrinted functions ≡ functionsLeft ranges fs
   left-again = printed-again ranges fs all-fs
+
+module _ (tag : Kind → Bytes) (ranges : List Range) (its fs bs ls : List Item) (F : filter isFunction its ≡ fs) (B : filter isBranch its ≡ bs)
+    (L : filter isLine its ≡ ls) where
+  -- THE LINES OF A FILTERED SECTION: the functions left in printing order, the branches and lines that are held
+  filtered-lines : (s : Section) → s .items ≡ its → (rest : List Section)
+      → printSections tag (filterSection ranges s ∷ rest)
+      ≡ sectionLines tag (s .test) (s .spelling) (sort compareItems (functionsLeft ranges fs)) (filter (isHeld ranges) bs) (filter (isHeld ranges) ls) (printSections tag rest)
+  unfolding filterSection
+  filtered-lines s e rest =
+      lines-of tag (filterSection ranges s) (sort compareItems (functionsLeft ranges fs)) (filter (isHeld ranges) bs) (filter (isHeld ranges) ls) rest
+      (ap (λ (l : List Item). filter isFunction (filterItems ranges l)) e ∙ functions-left ranges its fs bs ls F B L)
+      (ap (λ (l : List Item). filter isBranch (filterItems ranges l)) e ∙ branches-left ranges its fs bs ls F B L)
+      (ap (λ (l : List Item). filter isLine (filterItems ranges l)) e ∙ lines-left ranges its fs bs ls F B L)
 
 -- ---- the section at a place
 
@@ -174,6 +176,9 @@ module _ {text ws ws′ : List ℕ} {index used n lo spare : ℕ} {header : Row}
     few = (κ .functions .few, κ .branches .few, κ .lines .few);
   }
 
+module _ (tag : Kind → Bytes) {text ws ws′ : List ℕ} {index used n lo spare : ℕ} {header : Row} {r : KindRanges} {kept : Kept} (π : PrintableTable text ws index used n spare)
+    (more : lo < n) (kind : kindOf (row ws index lo) ≡ 0) (is : header ≡ row ws index lo) (ρ : AreKindRanges ws index n (lo + 1) r) (ranges : List Range)
+    (κ : KeptRows ranges text ws ws′ index (lo + 1) spare r kept) where
   abbrev fs : List Item
   fs = itemsAt text ws index (lo + 1) (r .functions - (lo + 1))
 
@@ -184,22 +189,22 @@ module _ {text ws ws′ : List ℕ} {index used n lo spare : ℕ} {header : Row}
   ls = itemsAt text ws index (r .branches) (r .lines - r .branches)
 
   abbrev end : Bytes
-  end = printRecords defaultTag (endOfRecord ∷ [])
+  end = printRecords tag (endOfRecord ∷ [])
 
   abbrev rest : Bytes
-  rest = filteredFrom ranges text index n ws (r .lines)
+  rest = filteredFrom tag ranges text index n ws (r .lines)
 
-  lines-of-items : filteredFrom ranges text index n ws lo
-      ≡ headLines text header
-      ++ (functionLines (functionsLeft ranges fs)
-      ++ (groupLines branch-kind (filter (isHeld ranges) bs) ++ (groupLines line-kind (filter (isHeld ranges) ls) ++ (end ++ rest))))
+  lines-of-items : filteredFrom tag ranges text index n ws lo
+      ≡ headLines tag text header
+      ++ (functionLines tag (functionsLeft ranges fs)
+      ++ (groupLines tag branch-kind (filter (isHeld ranges) bs) ++ (groupLines tag line-kind (filter (isHeld ranges) ls) ++ (end ++ rest))))
   lines-of-items =
-      ap (λ (l : List Section). printSections defaultTag (map (filterSection ranges) l))
+      ap (λ (l : List Section). printSections tag (map (filterSection ranges) l))
       (sections-at (π .table) kind more (ρ .functions) (ρ .branches) (ρ .lines))
-      ∙ filtered-lines ranges its fs bs ls F B L (sectionAt (π .table) kind more (ρ .functions) (ρ .branches) (ρ .lines)) refl
+      ∙ filtered-lines tag ranges its fs bs ls F B L (sectionAt (π .table) kind more (ρ .functions) (ρ .branches) (ρ .lines)) refl
       (map (filterSection ranges) (sections (entriesFrom text ws index n (r .lines))))
-      ∙ ap₂ (λ (o : Row) (l : List Item). headLines text o ++ (functionLines l
-      ++ (groupLines branch-kind (filter (isHeld ranges) bs) ++ (groupLines line-kind (filter (isHeld ranges) ls) ++ (end ++ rest)))))
+      ∙ ap₂ (λ (o : Row) (l : List Item). headLines tag text o ++ (functionLines tag l
+      ++ (groupLines tag branch-kind (filter (isHeld ranges) bs) ++ (groupLines tag line-kind (filter (isHeld ranges) ls) ++ (end ++ rest)))))
       (sym is) (left-again ranges its fs bs ls F B L)
     where
       its : List Item
@@ -217,27 +222,27 @@ module _ {text ws ws′ : List ℕ} {index used n lo spare : ℕ} {header : Row}
   regroup : (a b c d e f : Bytes) → a ++ (b ++ (c ++ (d ++ (e ++ f)))) ≡ (a ++ (b ++ (c ++ (d ++ e)))) ++ f
   regroup a b c d e f = simp append-assoc
 
-  kept-is : keptLines text ws′ header spare kept
-      ≡ headLines text header
-      ++ (functionLines (functionsLeft ranges fs)
-      ++ (groupLines branch-kind (filter (isHeld ranges) bs) ++ (groupLines line-kind (filter (isHeld ranges) ls) ++ end)))
+  kept-is : keptLines tag text ws′ header spare kept
+      ≡ headLines tag text header
+      ++ (functionLines tag (functionsLeft ranges fs)
+      ++ (groupLines tag branch-kind (filter (isHeld ranges) bs) ++ (groupLines tag line-kind (filter (isHeld ranges) ls) ++ end)))
   kept-is = rw (κ .functions .are, κ .branches .are, κ .lines .are)
 
-  pub section-first : filteredFrom ranges text index n ws lo ≡ keptLines text ws′ header spare kept ++ rest
+  pub section-first : filteredFrom tag ranges text index n ws lo ≡ keptLines tag text ws′ header spare kept ++ rest
   section-first =
       lines-of-items
-      ∙ regroup (headLines text header) (functionLines (functionsLeft ranges fs)) (groupLines branch-kind (filter (isHeld ranges) bs))
-      (groupLines line-kind (filter (isHeld ranges) ls)) end rest
+      ∙ regroup (headLines tag text header) (functionLines tag (functionsLeft ranges fs)) (groupLines tag branch-kind (filter (isHeld ranges) bs))
+      (groupLines tag line-kind (filter (isHeld ranges) ls)) end rest
       ∙ ap (λ (t : Bytes). t ++ rest) (sym kept-is)
 
-  pub section-room : (write : Bool) (out : Bytes) (at : ℕ) → RoomFor write out at (filteredFrom ranges text index n ws lo)
-      → RoomFor write out at (keptLines text ws′ header spare kept)
-  section-room write out at h = room-first write out at (keptLines text ws′ header spare kept) rest (rw section-first at h)
+  pub section-room : (write : Bool) (out : Bytes) (at : ℕ) → RoomFor write out at (filteredFrom tag ranges text index n ws lo)
+      → RoomFor write out at (keptLines tag text ws′ header spare kept)
+  section-room write out at h = room-first write out at (keptLines tag text ws′ header spare kept) rest (rw section-first at h)
 
-  pub section-done : {write : Bool} {out out′ : Bytes} {at e : ℕ} → Emitted write out out′ at (keptLines text ws′ header spare kept) e
-      → SectionPrinted (filteredFrom ranges text index n) write ws ws′ out out′ index n lo spare at (record { next = r .lines; at = e })
+  pub section-done : {write : Bool} {out out′ : Bytes} {at e : ℕ} → Emitted write out out′ at (keptLines tag text ws′ header spare kept) e
+      → SectionPrinted (filteredFrom tag ranges text index n) write ws ws′ out out′ index n lo spare at (record { next = r .lines; at = e })
   section-done ε = record {
-    lines = keptLines text ws′ header spare kept;
+    lines = keptLines tag text ws′ header spare kept;
     first = section-first;
     emitted = ε;
     more = omega (arith, ρ .functions .least, ρ .branches .least, ρ .lines .least);
@@ -248,10 +253,10 @@ module _ {text ws ws′ : List ℕ} {index used n lo spare : ℕ} {header : Row}
 
 -- ---- all sections
 
-pub filtered-prints : (ranges : List Range) {text ws : List ℕ} {index used n spare : ℕ} → PrintableTable text ws index used n spare
-    → Prints (filteredFrom ranges text index n) ws n spare
+pub filtered-prints : (tag : Kind → Bytes) (ranges : List Range) {text ws : List ℕ} {index used n spare : ℕ} → PrintableTable text ws index used n spare
+    → Prints (filteredFrom tag ranges text index n) ws n spare
 unfolding printSections printRecords sections concatMap
-filtered-prints ranges π = record {
-  same = λ ws′ σ lo. ap (λ (e : Report). printSections defaultTag (map (filterSection ranges) (sections e))) (entries-kept π σ lo);
-  none = λ lo h. ap (λ (e : Report). printSections defaultTag (map (filterSection ranges) (sections e))) (entries-none π lo h);
+filtered-prints tag ranges π = record {
+  same = λ ws′ σ lo. ap (λ (e : Report). printSections tag (map (filterSection ranges) (sections e))) (entries-kept π σ lo);
+  none = λ lo h. ap (λ (e : Report). printSections tag (map (filterSection ranges) (sections e))) (entries-none π lo h);
 }

@@ -5,12 +5,13 @@ use mathlib.Core.Path.{_≡_, refl, ap}
 use mathlib.Core.Bool.{Bool, true, false}
 use mathlib.Core.List.{List, [], _∷_, _++_, map}
 use lib.ListN.{length, length-append}
+use Rattle.model.specs.Bytes.{Bytes}
+use Rattle.model.specs.declared.Kind.{Kind}
 use Rattle.model.specs.declared.Range.{Range}
 use Rattle.model.specs.Order.{if_then_else_}
 use Rattle.model.specs.Lists.{filter, sort, concatMap}
 use Rattle.model.specs.Ranges.{holds}
 use Rattle.model.specs.Report.{Item, Report, compareItems}
-use Rattle.model.specs.Tags.{defaultTag}
 use Rattle.model.specs.Printing.{isFunction, isBranch, isLine, functionsOf, comparePrinted, sections, printSections}
 use Rattle.model.specs.Filter.{isHeld, startLine, hasStart, endLine, heldFunctions, filterItems, filterSection}
 use Rattle.model.proofs.ListLaws.{each-append}
@@ -61,9 +62,9 @@ unfolding concatMap
 each-one [] = refl
 each-one (x ∷ xs) = ap (λ (t : List Item). x ∷ t) (each-one xs)
 
-thins : (ranges : List Range) → Thins (filterSection ranges)
+thins : (tag : Kind → Bytes) (ranges : List Range) → Thins tag (filterSection ranges)
 unfolding filterSection
-thins ranges = record {
+thins tag ranges = record {
   test = λ s. refl;
   spelling = λ s. refl;
   items = λ s. omega (
@@ -72,14 +73,14 @@ thins ranges = record {
     ap length (each-one (s .items)),
     ap length (each-one (filterItems ranges (s .items))),
   );
-  lines = λ s. items-each-most itemLines ranges (s .items);
+  fewer = λ s. items-each-most (itemLines tag) ranges (s .items);
 }
 
-pub filtered-most : {text ws : List ℕ} {index used n spare : ℕ} (ranges : List Range) → PrintableTable text ws index used n spare
-    → length (filteredFrom ranges text index n ws 0) ≤ reportMost (entriesAt text ws index n)
-filtered-most {text} {ws} {index} {n = n} ranges π =
+pub filtered-most : (tag : Kind → Bytes) {text ws : List ℕ} {index used n spare : ℕ} (ranges : List Range) → PrintableTable text ws index used n spare
+    → length (filteredFrom tag ranges text index n ws 0) ≤ reportMost tag (entriesAt text ws index n)
+filtered-most tag {text} {ws} {index} {n = n} ranges π =
     omega (
       arith,
-      thinned-max (filterSection ranges) (thins ranges) (entriesAt text ws index n) (entries-few π),
-      ap (λ (r : Report). length (printSections defaultTag (map (filterSection ranges) (sections r)))) (entries-all text ws index n),
+      thinned-max tag (filterSection ranges) (thins tag ranges) (entriesAt text ws index n) (entries-few π),
+      ap (λ (r : Report). length (printSections tag (map (filterSection ranges) (sections r)))) (entries-all text ws index n),
     )

@@ -3,13 +3,13 @@ use Prim.Native.Nat.{ℕ, _+_, _-_, _≤_}
 use mathlib.Core.Path.{_≡_}
 use mathlib.Core.List.{List, [], _∷_, _++_, map}
 use Rattle.table.specs.declared.Row.{Row}
+use Rattle.model.specs.declared.Kind.{Kind}
 use Rattle.model.specs.declared.Range.{Range}
 use Rattle.model.specs.Bytes.{Bytes}
 use Rattle.model.specs.Limits.{max-entries}
 use Rattle.model.specs.Lists.{filter, sort}
 use Rattle.model.specs.Record.{endOfRecord}
 use Rattle.model.specs.Report.{Item}
-use Rattle.model.specs.Tags.{defaultTag}
 use Rattle.model.specs.Printing.{sections, comparePrinted, printRecords, printSections}
 use Rattle.model.specs.Filter.{isHeld, hasStart, heldFunctions, filterSection}
 use Rattle.table_item.specs.Items.{branch-kind, line-kind}
@@ -23,8 +23,8 @@ use Rattle.filter.specs.declared.Kept.{Kept}
 use Rattle.filter.specs.Keeping.{Behind}
 
 -- what the filtered sections of the entries from a place on print
-abbrev pub filteredFrom : List Range → Bytes → ℕ → ℕ → List ℕ → ℕ → Bytes
-filteredFrom ranges text index n ws lo = printSections defaultTag (map (filterSection ranges) (sections (entriesFrom text ws index n lo)))
+abbrev pub filteredFrom : (tag : Kind → Bytes) → List Range → Bytes → ℕ → ℕ → List ℕ → ℕ → Bytes
+filteredFrom tag ranges text index n ws lo = printSections tag (map (filterSection ranges) (sections (entriesFrom text ws index n lo)))
 
 -- the n rows whose numbers are at word `numbers` on are the items
 pub record Holding (text ws : List ℕ) (numbers n : ℕ) (items : List Item) : Type 0 where
@@ -55,9 +55,9 @@ pub record SectionPrintable (text ws : List ℕ) (header : Row) (numbers : ℕ) 
   pub few : (r .functions ≤ max-entries) × (r .branches ≤ max-entries) × (r .lines ≤ max-entries)
 
 -- the lines of what stays
-abbrev pub keptLines : Bytes → List ℕ → Row → ℕ → Kept → Bytes
-keptLines text ws header numbers r =
-    headLines text header
-    ++ (functionLines (itemsBy text ws numbers (r .functions))
-    ++ (groupLines branch-kind (itemsBy text ws (numbers + r .functions) (r .branches))
-    ++ (groupLines line-kind (itemsBy text ws (numbers + r .functions + r .branches) (r .lines)) ++ printRecords defaultTag (endOfRecord ∷ []))))
+abbrev pub keptLines : (tag : Kind → Bytes) → Bytes → List ℕ → Row → ℕ → Kept → Bytes
+keptLines tag text ws header numbers r =
+    headLines tag text header
+    ++ (functionLines tag (itemsBy text ws numbers (r .functions))
+    ++ (groupLines tag branch-kind (itemsBy text ws (numbers + r .functions) (r .branches))
+    ++ (groupLines tag line-kind (itemsBy text ws (numbers + r .functions + r .branches) (r .lines)) ++ printRecords tag (endOfRecord ∷ []))))

@@ -19,7 +19,7 @@ ghost use Rattle.model.specs.Lists.{filter};
 ghost use Rattle.model.specs.Output.{written, outputAfter};
 ghost use Rattle.model.specs.Printing.{sections, printSections};
 ghost use Rattle.model.specs.Ranges.{wellFormedRanges};
-ghost use Rattle.model.specs.Tags.{defaultTag};
+ghost use Rattle.model.specs.TagTable.{tagsOf, areTags};
 ghost use Rattle.model.specs.Valid.{ItemFits};
 ghost use Rattle.table_item.specs.Items.{kindOf, itemOf};
 ghost use Rattle.table_item.specs.SortedItems.{itemsAt};
@@ -235,6 +235,7 @@ fn keep_rows(
 
 // The lines of a section of which rows stay. "Emptied sections print TN, SF, end_of_record."
 fn print_kept(
+    tags: &[u8],
     text: &[u8],
     words: &[u64],
     header: Row,
@@ -244,18 +245,20 @@ fn print_kept(
     at: usize,
     write: bool,
 ) -> usize
+    requires { ⌜ areTags (now tags) ≡ true ⌝ }
     requires { ⌜ SectionPrintable (now text) (now words) header numbers kept ⌝ }
-    requires { ⌜ RoomFor write (now out) at (keptLines (now text) (now words) header numbers kept) ⌝ }
-    ensures { λ r. ⌜ Emitted write (now (out .entry)) (now (out .exit)) at (keptLines (now (text .entry)) (now (words .entry)) header numbers kept) r ⌝ }
+    requires { ⌜ RoomFor write (now out) at (keptLines (tagsOf (now tags)) (now text) (now words) header numbers kept) ⌝ }
+    ensures { λ r. ⌜ Emitted write (now (out .entry)) (now (out .exit)) at (keptLines (tagsOf (now (tags .entry))) (now (text .entry)) (now (words .entry)) header numbers kept) r ⌝ }
 {
     let f = kept.functions;
     let b = kept.branches;
     let l = kept.lines;
     let first = numbers + f;
     let then = first + b;
-    let start = print_rows::emit_head(text, header, out, at, write);
-    let functions = print_report::print_numbered(text, words, numbers, f, out, start, write);
+    let start = print_rows::emit_head(tags, text, header, out, at, write);
+    let functions = print_report::print_numbered(tags, text, words, numbers, f, out, start, write);
     let branches = print_rows::emit_group(
+        tags,
         text,
         words,
         table_item::BRANCH,
@@ -266,6 +269,7 @@ fn print_kept(
         write,
     );
     let lines = print_rows::emit_group(
+        tags,
         text,
         words,
         table_item::LINE,
@@ -275,11 +279,12 @@ fn print_kept(
         branches,
         write,
     );
-    print_rows::emit_end(text, out, lines, write)
+    print_rows::emit_end(tags, text, out, lines, write)
 }
 
 // Filters the section whose header row is at position lo.
 fn filter_section(
+    tags: &[u8],
     text: &[u8],
     words: &mut [u64],
     pairs: &[[u32; 2]],
@@ -293,9 +298,10 @@ fn filter_section(
     at: usize,
     write: bool,
 ) -> Printed
+    requires { ⌜ areTags (now tags) ≡ true ⌝ }
     requires { ⌜ PrintableTable (now text) (now words) index used n spare × (lo < n) × (kindOf (row (now words) index lo) ≡ 0) ⌝ }
-    requires { ⌜ (wellFormedRanges (rangesIn (now pairs)) count ≡ true) × RoomFor write (now out) at (filteredFrom (take count (rangesIn (now pairs))) (now text) index n (now words) lo) ⌝ }
-    ensures { λ r. ⌜ SectionPrinted (filteredFrom (take count (rangesIn (now (pairs .entry)))) (now (text .entry)) index n) write (now (words .entry)) (now (words .exit)) (now (out .entry)) (now (out .exit)) index n lo spare at r ⌝ }
+    requires { ⌜ (wellFormedRanges (rangesIn (now pairs)) count ≡ true) × RoomFor write (now out) at (filteredFrom (tagsOf (now tags)) (take count (rangesIn (now pairs))) (now text) index n (now words) lo) ⌝ }
+    ensures { λ r. ⌜ SectionPrinted (filteredFrom (tagsOf (now (tags .entry))) (take count (rangesIn (now (pairs .entry)))) (now (text .entry)) index n) write (now (words .entry)) (now (words .exit)) (now (out .entry)) (now (out .exit)) index n lo spare at r ⌝ }
 {
     let header = table::get(words, index, used, lo);
     let runs = print_report::find_kind_ranges(words, index, used, n, lo + 1);
@@ -312,12 +318,13 @@ fn filter_section(
         runs,
         spare,
     );
-    let end = print_kept(text, words, header, spare, kept, out, at, write);
+    let end = print_kept(tags, text, words, header, spare, kept, out, at, write);
     Printed { next, at: end }
 }
 
 // All sections, from the output's start on.
 fn filter_sections(
+    tags: &[u8],
     text: &[u8],
     words: &mut [u64],
     pairs: &[[u32; 2]],
@@ -329,15 +336,17 @@ fn filter_sections(
     out: &mut [u8],
     write: bool,
 ) -> usize
+    requires { ⌜ areTags (now tags) ≡ true ⌝ }
     requires { ⌜ PrintableTable (now text) (now words) index used n spare ⌝ }
-    requires { ⌜ (wellFormedRanges (rangesIn (now pairs)) count ≡ true) × RoomFor write (now out) 0 (filteredFrom (take count (rangesIn (now pairs))) (now text) index n (now words) 0) ⌝ }
-    ensures { λ r. ⌜ Emitted write (now (out .entry)) (now (out .exit)) 0 (filteredFrom (take count (rangesIn (now (pairs .entry)))) (now (text .entry)) index n (now (words .entry)) 0) r ⌝ }
+    requires { ⌜ (wellFormedRanges (rangesIn (now pairs)) count ≡ true) × RoomFor write (now out) 0 (filteredFrom (tagsOf (now tags)) (take count (rangesIn (now pairs))) (now text) index n (now words) 0) ⌝ }
+    ensures { λ r. ⌜ Emitted write (now (out .entry)) (now (out .exit)) 0 (filteredFrom (tagsOf (now (tags .entry))) (take count (rangesIn (now (pairs .entry)))) (now (text .entry)) index n (now (words .entry)) 0) r ⌝ }
     ensures { λ _. ⌜ UnchangedBefore (now (words .entry)) (now (words .exit)) spare ⌝ }
 {
     let mut lo = 0;
     let mut at = 0;
     while lo < n {
         let done = filter_section(
+            tags,
             text,
             words,
             pairs,
@@ -359,6 +368,7 @@ fn filter_sections(
 
 // A length that is enough for the filtered report, as `print_report::required_len`: where all of the report fits, so does what stays of it.
 fn required_len(
+    tags: &[u8],
     text: &[u8],
     words: &mut [u64],
     pairs: &[[u32; 2]],
@@ -369,18 +379,32 @@ fn required_len(
     spare: usize,
     out: &mut [u8],
 ) -> usize
+    requires { ⌜ areTags (now tags) ≡ true ⌝ }
     requires { ⌜ PrintableTable (now text) (now words) index used n spare × (wellFormedRanges (rangesIn (now pairs)) count ≡ true) ⌝ }
-    ensures { λ r. ⌜ RequiredLength (now (out .entry)) (now (out .exit)) (filteredFrom (take count (rangesIn (now (pairs .entry)))) (now (text .entry)) index n (now (words .entry)) 0) r ⌝ }
+    ensures { λ r. ⌜ RequiredLength (now (out .entry)) (now (out .exit)) (filteredFrom (tagsOf (now (tags .entry))) (take count (rangesIn (now (pairs .entry)))) (now (text .entry)) index n (now (words .entry)) 0) r ⌝ }
     ensures { λ _. ⌜ UnchangedBefore (now (words .entry)) (now (words .exit)) spare ⌝ }
 {
-    if print_bound::surely_fits(words, index, used, n, out.len()) {
+    if print_bound::surely_fits(tags, words, index, used, n, out.len()) {
         return 0;
     }
-    filter_sections(text, words, pairs, count, index, used, n, spare, out, false)
+    filter_sections(
+        tags,
+        text,
+        words,
+        pairs,
+        count,
+        index,
+        used,
+        n,
+        spare,
+        out,
+        false,
+    )
 }
 
 // Prints the report of the first n rows, filtered by the first `count` pairs; the output and `spare` as for `print_report::print_report`.
 pub fn print_filtered(
+    tags: &[u8],
     text: &[u8],
     words: &mut [u64],
     pairs: &[[u32; 2]],
@@ -391,15 +415,28 @@ pub fn print_filtered(
     spare: usize,
     out: &mut [u8],
 ) -> WriteAnswer
+    requires { ⌜ areTags (now tags) ≡ true ⌝ }
     requires { ⌜ Table (now text) (now words) index used n × (n ≤ max-entries) × (wellFormedRanges (rangesIn (now pairs)) count ≡ true) ⌝ }
     requires { ⌜ (index + used ≤ spare) × (spare + n + n ≤ length (now words)) ⌝ }
-    ensures { λ r. ⌜ r ≡ writeAnswer (written (length (now (out .entry))) (printSections defaultTag (map (filterSection (take count (rangesIn (now (pairs .entry))))) (sections (entriesAt (now (text .entry)) (now (words .entry)) index n))))) ⌝ }
-    ensures { λ _. ⌜ now (out .exit) ≡ outputAfter (written (length (now (out .entry))) (printSections defaultTag (map (filterSection (take count (rangesIn (now (pairs .entry))))) (sections (entriesAt (now (text .entry)) (now (words .entry)) index n))))) (now (out .entry)) ⌝ }
+    ensures { λ r. ⌜ r ≡ writeAnswer (written (length (now (out .entry))) (printSections (tagsOf (now (tags .entry))) (map (filterSection (take count (rangesIn (now (pairs .entry))))) (sections (entriesAt (now (text .entry)) (now (words .entry)) index n))))) ⌝ }
+    ensures { λ _. ⌜ now (out .exit) ≡ outputAfter (written (length (now (out .entry))) (printSections (tagsOf (now (tags .entry))) (map (filterSection (take count (rangesIn (now (pairs .entry))))) (sections (entriesAt (now (text .entry)) (now (words .entry)) index n))))) (now (out .entry)) ⌝ }
 {
-    let needed = required_len(text, words, pairs, count, index, used, n, spare, out);
+    let needed = required_len(tags, text, words, pairs, count, index, used, n, spare, out);
     if out.len() < needed {
         return print_report::too_short(needed);
     }
-    let len = filter_sections(text, words, pairs, count, index, used, n, spare, out, true);
+    let len = filter_sections(
+        tags,
+        text,
+        words,
+        pairs,
+        count,
+        index,
+        used,
+        n,
+        spare,
+        out,
+        true,
+    );
     WriteAnswer::Written(len)
 }

@@ -5,7 +5,12 @@ use mathlib.Core.Path.{_≡_, refl, sym, ap, subst, _∙_}
 use mathlib.Core.Bool.{Bool, true, false}
 use mathlib.Core.List.{List, [], _++_, map}
 use lib.ListN.{length, take, drop, take-append-drop}
+use Rattle.model.specs.declared.Kind.{Kind}
+use Rattle.model.specs.declared.Fault.{Fault}
 use Rattle.model.specs.declared.Fault.the-variants.{MalformedBundle, MalformedRanges}
+use Rattle.model.specs.declared.LineAnswer.{LineAnswer}
+use Rattle.model.specs.declared.LineAnswer.the-variants as A
+use Rattle.model.specs.declared.Record.{Record as LentRecord}
 use Rattle.model.specs.declared.Mode.{Mode}
 use Rattle.model.specs.declared.Range.{Range}
 use Rattle.model.specs.declared.Refusal.{Refusal}
@@ -13,15 +18,18 @@ use Rattle.model.specs.declared.WriteAnswer.{WriteAnswer}
 use Rattle.model.specs.declared.WriteAnswer.the-variants as W
 use Rattle.model.specs.Bytes.{Bytes}
 use Rattle.model.specs.Limits.{words-per-entry, max-entries}
-use Rattle.model.specs.Answer.{Answer, accepted, refused, unplaced, _>>=_}
-use Rattle.model.specs.Tags.{defaultTag}
+use Rattle.model.specs.Answer.{Answer, accepted, refused, unplaced, refuse, _>>=_}
+use Rattle.model.specs.TagTable.{loadTags, tagged, tagsOf, areTags}
+use Rattle.tag_table.specs.Loading.{LoadedTags, LoadedAs}
+use Rattle.tag_table.specs.declared.Loading.{Loading}
+use Rattle.tag_table.specs.declared.Loading.the-variants.{Loaded, Refused}
 use Rattle.model.specs.Report.{Report}
 use Rattle.model.specs.Reading.{readText}
 use Rattle.model.specs.Printing.{sections, printSections, printReport}
 use Rattle.model.specs.Ranges.{wellFormedRanges}
 use Rattle.model.specs.Filter.{filterSection, filterText}
 use Rattle.model.specs.Output.{written, outputAfter}
-use Rattle.model.specs.Calls.{WriteCall, writeAnswer}
+use Rattle.model.specs.Calls.{lineValues, LineCall, WriteCall, writeAnswer}
 use Rattle.model.proofs.CallLaws.{write-called}
 use Rattle.model.specs.Bundle.{wellFormed, texts}
 use Rattle.model.specs.Gather.{entryLimit, readAndPrint, gatherTexts, gather}
@@ -35,6 +43,7 @@ use Rattle.lcov.specs.declared.Gathered.{Gathered}
 use Rattle.lcov.specs.declared.Gathered.the-variants as G
 use Rattle.lcov.specs.Layout.{index-at, spare-at, base-at, ScratchRoom}
 use Rattle.lcov.specs.Gathering.{JoinedTable, GatheredAs}
+use Rattle.lcov.specs.Demand.{refusedTags}
 use Rattle.lcov.proofs.TableLaws.{entries-wider, table-wider}
 use Rattle.lcov.proofs.OneLaws.{read-table}
 
@@ -92,20 +101,20 @@ well-formed bundle b is h = sym is ∙ h
 pub not-well-formed : (bundle : Bytes) (b : Bool) → b ≡ wellFormed bundle → b ≡ false → wellFormed bundle ≡ false
 not-well-formed bundle b is h = sym is ∙ h
 
-module _ (bundle : Bytes) (mode : Mode) (words : ℕ) where
+module _ (tag : Kind → Bytes) (bundle : Bytes) (mode : Mode) (words : ℕ) where
   abbrev gathered : Bytes → Answer Bytes
-  gathered out = gather defaultTag mode bundle words (length out)
+  gathered out = gather tag mode bundle words (length out)
 
   pub gather-bad : (out : Bytes) (r : Refusal) → wellFormed bundle ≡ false → r ≡ unplaced MalformedBundle → Told (gathered out) out out (W.Refused r)
   unfolding gather
   gather-bad out r bad e = told-refused (gathered out) r out (rw (bad, e))
 
   module _ (well : wellFormed bundle ≡ true) (limit : ℕ) (is : limit ≡ entryLimit words) (ws : List ℕ) (got : Gathered)
-      (g : GatheredAs (gatherTexts defaultTag mode limit (texts bundle) []) bundle ws limit got) where
+      (g : GatheredAs (gatherTexts tag mode limit (texts bundle) []) bundle ws limit got) where
     pub gather-refused : (out : Bytes) (r : Refusal) → got ≡ G.Refused r → Told (gathered out) out out (W.Refused r)
     unfolding gather
     gather-refused out r e =
-        let all-texts : refused r ≡ gatherTexts defaultTag mode limit (texts bundle) [] = rw e at (g .is) in
+        let all-texts : refused r ≡ gatherTexts tag mode limit (texts bundle) [] = rw e at (g .is) in
         told-refused (gathered out) r out (rw (well, ← is, ← all-texts))
 
     module _ (n : ℕ) (e : got ≡ G.Entries n) (index : ℕ) (at-index : index ≡ index-at limit) where
@@ -130,56 +139,84 @@ module _ (bundle : Bytes) (mode : Mode) (words : ℕ) where
           (subst (λ (us : List ℕ). entriesAt bundle us (index-at limit) n ≡ entriesAt bundle (take (base-at limit) ws) (index-at limit) n) parts
           (entries-wider bundle (take (base-at limit) ws) (drop (base-at limit) ws) (index-at limit) n n (joining .table)))
 
-      printed : (out : Bytes) → written (length out) (printReport defaultTag (entriesAt bundle ws index n)) ≡ gathered out
+      printed : (out : Bytes) → written (length out) (printReport tag (entriesAt bundle ws index n)) ≡ gathered out
       unfolding gather
       printed out =
-          let all-texts : accepted (entriesAt bundle (take (base-at limit) ws) (index-at limit) n) ≡ gatherTexts defaultTag mode limit (texts bundle) [] = rw e at (g .is) in
+          let all-texts : accepted (entriesAt bundle (take (base-at limit) ws) (index-at limit) n) ≡ gatherTexts tag mode limit (texts bundle) [] = rw e at (g .is) in
           rw (well, ← is, ← all-texts, entries-are)
 
-      pub gather-printed : (out out′ : Bytes) (r : WriteAnswer) → Told (written (length out) (printReport defaultTag (entriesAt bundle ws index n))) out out′ r
+      pub gather-printed : (out out′ : Bytes) (r : WriteAnswer) → Told (written (length out) (printReport tag (entriesAt bundle ws index n))) out out′ r
           → Told (gathered out) out out′ r
-      gather-printed out out′ r t = told-as (written (length out) (printReport defaultTag (entriesAt bundle ws index n))) (gathered out) out out′ r (printed out) t
+      gather-printed out out′ r t = told-as (written (length out) (printReport tag (entriesAt bundle ws index n))) (gathered out) out out′ r (printed out) t
 
 -- ---- one text
 
 -- the answer of a call that reads a text and prints what it makes of the report
-abbrev readThen : (Report → Bytes) → Bytes → ℕ → Bytes → Answer Bytes
-readThen print text words out = readText defaultTag (entryLimit words) text >>= λ report. written (length out) (print report)
+abbrev readThen : (tag : Kind → Bytes) → (Report → Bytes) → Bytes → ℕ → Bytes → Answer Bytes
+readThen tag print text words out = readText tag (entryLimit words) text >>= λ report. written (length out) (print report)
 
-pub read-means : (text : Bytes) (words : ℕ) (out : Bytes) → readAndPrint defaultTag text words (length out) ≡ readThen (printReport defaultTag) text words out
+pub read-means : (tag : Kind → Bytes) (text : Bytes) (words : ℕ) (out : Bytes) → readAndPrint tag text words (length out) ≡ readThen tag (printReport tag) text words out
 unfolding readAndPrint
-read-means text words out = refl
+read-means tag text words out = refl
 
-module _ (text : Bytes) (words limit : ℕ) (is : limit ≡ entryLimit words) (ws : List ℕ) (index : ℕ) (got : TextAnswer)
-    (t : TextRead text ws index limit 0 got) where
+module _ (tag : Kind → Bytes) (text : Bytes) (words limit : ℕ) (is : limit ≡ entryLimit words) (ws : List ℕ) (index : ℕ) (got : TextAnswer)
+    (t : TextRead tag text ws index limit 0 got) where
   pub reading-ready : (kept used : ℕ) → got ≡ T.Read kept used → length ws ≡ words → index ≡ index-at limit → (spare : ℕ) → spare ≡ spare-at limit
       → Ready text ws index spare used kept
   reading-ready kept used e long at-index spare at-spare =
       let held = rw e at (t .held) in
-      ready text ws words index spare limit used kept is long at-index at-spare (read-table text ws index limit 0 kept used (rw e at t)) (held .1) (held .2)
+      ready text ws words index spare limit used kept is long at-index at-spare (read-table tag text ws index limit 0 kept used (rw e at t)) (held .1) (held .2)
 
-  module _ (print : Report → Bytes) (out : Bytes) (answer : Answer Bytes) (means : answer ≡ readThen print text words out) where
+  module _ (print : Report → Bytes) (out : Bytes) (answer : Answer Bytes) (means : answer ≡ readThen tag print text words out) where
     pub reading-refused : (r : Refusal) → got ≡ T.Refused r → Told answer out out (W.Refused r)
     reading-refused r e =
-        let read : refused r ≡ readText defaultTag limit text = rw e at (t .is) in
+        let read : refused r ≡ readText tag limit text = rw e at (t .is) in
         told-refused answer r out (sym (means ∙ rw (← is, ← read)))
 
     pub reading-printed : (kept used : ℕ) → got ≡ T.Read kept used → (out′ : Bytes) (r : WriteAnswer)
         → Told (written (length out) (print (entriesAt text ws index kept))) out out′ r → Told answer out out′ r
     reading-printed kept used e out′ r h =
-        let read : accepted (entriesAt text ws index kept) ≡ readText defaultTag limit text = rw e at (t .is) in
+        let read : accepted (entriesAt text ws index kept) ≡ readText tag limit text = rw e at (t .is) in
         told-as (written (length out) (print (entriesAt text ws index kept))) answer out out′ r (sym (means ∙ rw (← is, ← read))) h
 
 -- ---- one text filtered
 
-module _ (text : Bytes) (slice : List Range) (used words : ℕ) (out : Bytes) where
+module _ (tag : Kind → Bytes) (text : Bytes) (slice : List Range) (used words : ℕ) (out : Bytes) where
   pub filter-means : wellFormedRanges slice used ≡ true
-      → filterText defaultTag text slice used words (length out)
-      ≡ readThen (λ report. printSections defaultTag (map (filterSection (take used slice)) (sections report))) text words out
+      → filterText tag text slice used words (length out)
+      ≡ readThen tag (λ report. printSections tag (map (filterSection (take used slice)) (sections report))) text words out
   unfolding filterText
   filter-means well = rw well
 
   pub filter-bad : (r : Refusal) → wellFormedRanges slice used ≡ false → r ≡ unplaced MalformedRanges
-      → Told (filterText defaultTag text slice used words (length out)) out out (W.Refused r)
+      → Told (filterText tag text slice used words (length out)) out out (W.Refused r)
   unfolding filterText
-  filter-bad r bad e = told-refused (filterText defaultTag text slice used words (length out)) r out (rw (bad, e))
+  filter-bad r bad e = told-refused (filterText tag text slice used words (length out)) r out (rw (bad, e))
+
+-- ---- a lent table of tags
+
+module _ (table out : Bytes) (got : Loading) (l : LoadedAs table got) where
+  loaded : got ≡ Loaded → LoadedTags table
+  loaded e = rw e at l
+
+  pub tags-are : got ≡ Loaded → areTags table ≡ true
+  tags-are e = loaded e .are
+
+  pub tags-refused : (call : (Kind → Bytes) → Answer Bytes) (fault : Fault) (r : WriteAnswer) → got ≡ Refused fault → r ≡ refusedTags fault → WriteCall (tagged table call) out out r
+  tags-refused call fault r e q =
+      let no-tags : loadTags table ≡ refuse fault = rw e at l in
+      rw q (called (told-refused (tagged table call) (unplaced fault) out (rw no-tags)))
+
+  pub tags-called : (call : (Kind → Bytes) → Answer Bytes) (out′ : Bytes) (r : WriteAnswer) → got ≡ Loaded → WriteCall (call (tagsOf table)) out out′ r → WriteCall (tagged table call) out out′ r
+  tags-called call out′ r e c = rw (loaded e .tags) c
+
+-- the same for a line that is read
+module _ (table : Bytes) (got : Loading) (l : LoadedAs table got) where
+  pub line-refused : (call : (Kind → Bytes) → Answer LentRecord) (fault : Fault) (r : Refusal) → got ≡ Refused fault → r ≡ unplaced fault → LineCall (tagged table call) (A.Refused r)
+  unfolding lineValues
+  line-refused call fault r e q =
+      let no-tags : loadTags table ≡ refuse fault = rw e at l in
+      rw (no-tags, q)
+
+  pub line-called : (call : (Kind → Bytes) → Answer LentRecord) (r : LineAnswer) → got ≡ Loaded → LineCall (call (tagsOf table)) r → LineCall (tagged table call) r
+  line-called call r e c = let τ : LoadedTags table = rw e at l in rw (τ .tags) c

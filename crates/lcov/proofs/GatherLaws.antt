@@ -8,13 +8,13 @@ use mathlib.Core.List.{List, [], _∷_, map}
 use lib.ListN.{length, take, drop}
 use lib.Seq.{length-take-le}
 use Rattle.table.specs.Places.{tabulate}
+use Rattle.model.specs.declared.Kind.{Kind}
 use Rattle.model.specs.declared.Fault.{Fault}
 use Rattle.model.specs.declared.Mode.{Mode}
 use Rattle.model.specs.declared.Refusal.{Refusal}
 use Rattle.model.specs.Lists.{from}
 use Rattle.model.specs.Bytes.{Bytes}
 use Rattle.model.specs.Answer.{Answer, accepted, refused, _>>=_, refuse, unplaced, inText}
-use Rattle.model.specs.Tags.{defaultTag}
 use Rattle.model.specs.Report.{Report, merge, within}
 use Rattle.model.specs.Reading.{readText}
 use Rattle.model.specs.Limits.{max-texts}
@@ -48,19 +48,19 @@ space-same ws ws′ limit s e = record { most = s .most; words = rw e (s .words)
 
 -- ---- one text, read behind the joined table
 
-module _ (bundle ws ws′ : List ℕ) (mode : Mode) (limit n i : ℕ) (got : TextAnswer) (b : ReadBehind bundle ws ws′ limit i got) where
+module _ (tag : Kind → Bytes) (bundle ws ws′ : List ℕ) (mode : Mode) (limit n i : ℕ) (got : TextAnswer) (b : ReadBehind tag bundle ws ws′ limit i got) where
   abbrev answer : Answer Report
-  answer = gatherText defaultTag mode limit (textAt bundle i .bytes) (joinedAt bundle ws limit n)
+  answer = gatherText tag mode limit (textAt bundle i .bytes) (joinedAt bundle ws limit n)
 
   -- it is not readable
   pub text-refused : (q r : Refusal) → got ≡ T.Refused q → r ≡ inTextOf i q → GatheredAs (inText i answer) bundle ws′ limit (G.Refused r)
   unfolding gatherText
   text-refused q r e h =
-      let read : refused q ≡ readText defaultTag limit (textAt bundle i .bytes) = rw e at (b .read .is) in
+      let read : refused q ≡ readText tag limit (textAt bundle i .bytes) = rw e at (b .read .is) in
       record { is = rw (h, ← read); held = tt }
 
   module _ (kept used : ℕ) (e : got ≡ T.Read kept used) where
-    read-is : accepted (entriesAt bundle (drop (base-at limit) ws′) (index-at limit) kept) ≡ readText defaultTag limit (textAt bundle i .bytes)
+    read-is : accepted (entriesAt bundle (drop (base-at limit) ws′) (index-at limit) kept) ≡ readText tag limit (textAt bundle i .bytes)
     read-is = rw e at (b .read .is)
 
     read-held : Table bundle (drop (base-at limit) ws′) (index-at limit) used kept × (used ≤ capacity limit) × (kept ≤ limit)
@@ -102,13 +102,13 @@ module _ (bundle ws ws′ : List ℕ) (mode : Mode) (limit n i : ℕ) (got : Tex
 
 -- ---- one text, read in front
 
-module _ (bundle ws ys us : List ℕ) (mode : Mode) (limit n i : ℕ) (got : TextAnswer) (o : ReadOne bundle ys limit i got) (none-yet : n ≡ 0) where
+module _ (tag : Kind → Bytes) (bundle ws ys us : List ℕ) (mode : Mode) (limit n i : ℕ) (got : TextAnswer) (o : ReadOne tag bundle ys limit i got) (none-yet : n ≡ 0) where
   abbrev alone : Answer Report
-  alone = gatherText defaultTag mode limit (textAt bundle i .bytes) (joinedAt bundle ws limit n)
+  alone = gatherText tag mode limit (textAt bundle i .bytes) (joinedAt bundle ws limit n)
 
   alone-is : alone ≡ seenText bundle ys (index-at limit) got
   unfolding tabulate
-  alone-is = rw none-yet (read-alone defaultTag limit mode (textAt bundle i .bytes)) ∙ sym (o .is)
+  alone-is = rw none-yet (read-alone tag limit mode (textAt bundle i .bytes)) ∙ sym (o .is)
 
   -- it is not readable
   pub front-refused : (q r : Refusal) → got ≡ T.Refused q → r ≡ inTextOf i q → GatheredAs (inText i alone) bundle us limit (G.Refused r)
@@ -130,32 +130,32 @@ joining-none bundle ws limit space =
     record { table = table-none bundle (take (base-at limit) ws) (index-at limit) (omega arith); most = omega arith }
 
 -- what was read in front doesn't matter
-pub text-again : (bundle ws us ws′ : List ℕ) (mode : Mode) (limit n i : ℕ) (got : Gathered) → n ≡ 0
-    → GatheredAs (inText i (gatherText defaultTag mode limit (textAt bundle i .bytes) (joinedAt bundle us limit 0))) bundle ws′ limit got
-    → GatheredAs (inText i (gatherText defaultTag mode limit (textAt bundle i .bytes) (joinedAt bundle ws limit n))) bundle ws′ limit got
+pub text-again : (tag : Kind → Bytes) (bundle ws us ws′ : List ℕ) (mode : Mode) (limit n i : ℕ) (got : Gathered) → n ≡ 0
+    → GatheredAs (inText i (gatherText tag mode limit (textAt bundle i .bytes) (joinedAt bundle us limit 0))) bundle ws′ limit got
+    → GatheredAs (inText i (gatherText tag mode limit (textAt bundle i .bytes) (joinedAt bundle ws limit n))) bundle ws′ limit got
 unfolding tabulate
-text-again bundle ws us ws′ mode limit n i got z g = rw z g
+text-again tag bundle ws us ws′ mode limit n i got z g = rw z g
 
 -- ---- all texts
 
 -- n entries are joined of the texts before the i-th, and what is left gives the whole bundle's answer
-pub record Left (bundle ws : List ℕ) (mode : Mode) (limit count n i : ℕ) : Type 0 where
+pub record Left (tag : Kind → Bytes) (bundle ws : List ℕ) (mode : Mode) (limit count n i : ℕ) : Type 0 where
   pub joining : JoinedTable bundle ws limit n
-  pub left : gatherTexts defaultTag mode limit (map (textAt bundle) (from i (count - i))) (joinedAt bundle ws limit n)
-      ≡ gatherTexts defaultTag mode limit (texts bundle) []
+  pub left : gatherTexts tag mode limit (map (textAt bundle) (from i (count - i))) (joinedAt bundle ws limit n)
+      ≡ gatherTexts tag mode limit (texts bundle) []
 
-module _ (bundle ws : List ℕ) (mode : Mode) (limit count : ℕ) where
+module _ (tag : Kind → Bytes) (bundle ws : List ℕ) (mode : Mode) (limit count : ℕ) where
   pub left-count : (i : ℕ) → count ≡ textCount bundle → i < count → i < textCount bundle
   left-count i e h = omega arith
 
-  pub left-start : ScratchRoom ws limit → count ≡ textCount bundle → Left bundle ws mode limit count 0 0
+  pub left-start : ScratchRoom ws limit → count ≡ textCount bundle → Left tag bundle ws mode limit count 0 0
   unfolding tabulate texts
   left-start space e =
       let all-of : count - 0 ≡ textCount bundle = omega arith in
       record { joining = joining-none bundle ws limit space; left = rw all-of }
 
-  module _ (n i : ℕ) (l : Left bundle ws mode limit count n i) where
-    pub left-done : count ≤ i → GatheredAs (gatherTexts defaultTag mode limit (texts bundle) []) bundle ws limit (G.Entries n)
+  module _ (n i : ℕ) (l : Left tag bundle ws mode limit count n i) where
+    pub left-done : count ≤ i → GatheredAs (gatherTexts tag mode limit (texts bundle) []) bundle ws limit (G.Entries n)
     unfolding from gatherTexts
     left-done h =
         let none-left : count - i ≡ 0 = omega arith in
@@ -163,16 +163,16 @@ module _ (bundle ws : List ℕ) (mode : Mode) (limit count : ℕ) where
         record { is = is; held = l .joining }
 
     module _ (more : i < count) (ws′ : List ℕ) (got : Gathered)
-        (g : GatheredAs (inText i (gatherText defaultTag mode limit (textAt bundle i .bytes) (joinedAt bundle ws limit n))) bundle ws′ limit got) where
-      one-more : (seenGathered bundle ws′ limit got >>= λ next. gatherTexts defaultTag mode limit (map (textAt bundle) (from (i + 1) (count - (i + 1)))) next)
-          ≡ gatherTexts defaultTag mode limit (texts bundle) []
+        (g : GatheredAs (inText i (gatherText tag mode limit (textAt bundle i .bytes) (joinedAt bundle ws limit n))) bundle ws′ limit got) where
+      one-more : (seenGathered bundle ws′ limit got >>= λ next. gatherTexts tag mode limit (map (textAt bundle) (from (i + 1) (count - (i + 1)))) next)
+          ≡ gatherTexts tag mode limit (texts bundle) []
       unfolding from gatherTexts textAt
       one-more =
           let this : count - i ≡ suc (count - suc i) = omega arith in
           rw (g .is, add-one i) (rw this at (l .left))
 
-      pub left-refused : (r : Refusal) → got ≡ G.Refused r → GatheredAs (gatherTexts defaultTag mode limit (texts bundle) []) bundle ws′ limit (G.Refused r)
+      pub left-refused : (r : Refusal) → got ≡ G.Refused r → GatheredAs (gatherTexts tag mode limit (texts bundle) []) bundle ws′ limit (G.Refused r)
       left-refused r e = record { is = rw e at one-more; held = tt }
 
-      pub left-next : (k : ℕ) → got ≡ G.Entries k → Left bundle ws′ mode limit count k (i + 1)
+      pub left-next : (k : ℕ) → got ≡ G.Entries k → Left tag bundle ws′ mode limit count k (i + 1)
       left-next k e = record { joining = rw e at (g .held); left = rw e at one-more }

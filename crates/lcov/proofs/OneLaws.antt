@@ -5,11 +5,11 @@ use mathlib.Core.Path.{_≡_, refl, sym, ap, subst, _∙_}
 use mathlib.Core.List.{List, [], _++_, append-nil}
 use lib.ListN.{length, take, drop, length-drop, take-append-drop, drop-of-length-le}
 use lib.Seq.{length-take-le, take-add, take-at, drop-at}
+use Rattle.model.specs.declared.Kind.{Kind}
 use Rattle.model.specs.declared.Part.{Part}
 use Rattle.model.specs.declared.Refusal.{Refusal}
 use Rattle.model.specs.Bytes.{Bytes}
 use Rattle.model.specs.Answer.{Answer, accepted}
-use Rattle.model.specs.Tags.{defaultTag}
 use Rattle.model.specs.Report.{Report}
 use Rattle.model.specs.Reading.{readText}
 use Rattle.model.specs.Bundle.{textAt}
@@ -26,10 +26,10 @@ use Rattle.lcov.specs.Gathering.{ReadOne, ReadBehind}
 use Rattle.lcov.proofs.TableLaws.{entries-longer, table-longer}
 
 -- what was read is a table
-pub read-table : (text ws : List ℕ) (index limit from kept used : ℕ) → TextRead text ws index limit from (T.Read kept used) → Table text ws index used kept
-read-table text ws index limit from kept used t =
+pub read-table : (tag : Kind → Bytes) (text ws : List ℕ) (index limit from kept used : ℕ) → TextRead tag text ws index limit from (T.Read kept used) → Table text ws index used kept
+read-table tag text ws index limit from kept used t =
     let s = t .held .0 in
-    record { store = s .store; room = s .room; whole = s .whole; valid = readText-valid defaultTag limit (drop from text) (sym (t .is)) .0 }
+    record { store = s .store; room = s .room; whole = s .whole; valid = readText-valid tag limit (drop from text) (sym (t .is)) .0 }
 
 -- the front of a bundle up to a text's end, from its start on
 text-bytes : (bundle : Bytes) (start len : ℕ) → start + len ≤ length bundle → drop start (take (start + len) bundle) ≡ take len (drop start bundle)
@@ -83,7 +83,7 @@ starts-inside bundle start len h = omega (arith, length-take-le (start + len) bu
 
 -- ---- the reading
 
-module _ (bundle ws : List ℕ) (limit i : ℕ) (p : Part) (place : p ≡ partAt bundle i) (inside : p .start + p .len ≤ length bundle) where
+module _ (tag : Kind → Bytes) (bundle ws : List ℕ) (limit i : ℕ) (p : Part) (place : p ≡ partAt bundle i) (inside : p .start + p .len ≤ length bundle) where
   abbrev end : ℕ
   end = p .start + p .len
 
@@ -94,16 +94,16 @@ module _ (bundle ws : List ℕ) (limit i : ℕ) (p : Part) (place : p ≡ partAt
   whole-is : take end bundle ++ drop end bundle ≡ bundle
   whole-is = take-append-drop end bundle
 
-  one-as : (r : TextAnswer) → TextRead (take end bundle) ws (index-at limit) limit (p .start) r → ReadOne bundle ws limit i r
-  one-as (T.Refused q) t = record { is = t .is ∙ ap (readText defaultTag limit) text-is; held = tt }
+  one-as : (r : TextAnswer) → TextRead tag (take end bundle) ws (index-at limit) limit (p .start) r → ReadOne tag bundle ws limit i r
+  one-as (T.Refused q) t = record { is = t .is ∙ ap (readText tag limit) text-is; held = tt }
   one-as (T.Read kept used) t =
-      let table = read-table (take end bundle) ws (index-at limit) limit (p .start) kept used t in
+      let table = read-table tag (take end bundle) ws (index-at limit) limit (p .start) kept used t in
       record {
         is =
             ap (λ (l : Report). accepted l)
             (subst (λ (b : Bytes). entriesAt b ws (index-at limit) kept ≡ entriesAt (take end bundle) ws (index-at limit) kept) whole-is
             (entries-longer (take end bundle) (drop end bundle) ws (index-at limit) used kept table))
-            ∙ t .is ∙ ap (readText defaultTag limit) text-is;
+            ∙ t .is ∙ ap (readText tag limit) text-is;
         held = (
           subst (λ (b : Bytes). Table b ws (index-at limit) used kept) whole-is
               (table-longer (take end bundle) (drop end bundle) ws (index-at limit) used kept table),
@@ -113,13 +113,13 @@ module _ (bundle ws : List ℕ) (limit i : ℕ) (p : Part) (place : p ≡ partAt
       }
 
   -- as the code has the place in a local
-  pub read-one : (index : ℕ) → index ≡ index-at limit → (r : TextAnswer) → TextRead (take end bundle) ws index limit (p .start) r → ReadOne bundle ws limit i r
+  pub read-one : (index : ℕ) → index ≡ index-at limit → (r : TextAnswer) → TextRead tag (take end bundle) ws index limit (p .start) r → ReadOne tag bundle ws limit i r
   read-one index e r t = one-as r (rw e at t)
 
 -- and behind the joined table
-pub read-behind : (bundle ws ys : List ℕ) (limit i base : ℕ) (r : TextAnswer) → ScratchRoom ws limit → base ≡ base-at limit → ReadOne bundle ys limit i r
-    → ReadBehind bundle ws (lent ws ys base) limit i r
-read-behind bundle ws ys limit i base r space e o =
+pub read-behind : (tag : Kind → Bytes) (bundle ws ys : List ℕ) (limit i base : ℕ) (r : TextAnswer) → ScratchRoom ws limit → base ≡ base-at limit → ReadOne tag bundle ys limit i r
+    → ReadBehind tag bundle ws (lent ws ys base) limit i r
+read-behind tag bundle ws ys limit i base r space e o =
     let inside = base-inside ws limit space base e in
     let here = lent-behind ws ys base inside in
     let there = lent-before ws ys base inside in

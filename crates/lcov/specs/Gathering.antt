@@ -3,11 +3,11 @@ use Prim.Native.Nat.{ℕ, _≤_}
 use mathlib.Core.Path.{_≡_}
 use mathlib.Core.List.{List}
 use lib.ListN.{take, drop}
+use Rattle.model.specs.declared.Kind.{Kind}
 use Rattle.model.specs.declared.Fault.{Fault}
 use Rattle.model.specs.declared.Refusal.{Refusal}
 use Rattle.model.specs.Bytes.{Bytes}
 use Rattle.model.specs.Answer.{Answer, accepted, refused, unplaced}
-use Rattle.model.specs.Tags.{defaultTag}
 use Rattle.model.specs.Report.{Report}
 use Rattle.model.specs.Reading.{readText}
 use Rattle.model.specs.Bundle.{textAt}
@@ -43,13 +43,13 @@ HeldOne text ws limit (T.Read kept used) = Table text ws (index-at limit) used k
 HeldOne text ws limit (T.Refused r) = Unit {0}
 
 -- the answer is the model's for the i-th text
-pub record ReadOne (bundle ws : List ℕ) (limit i : ℕ) (r : TextAnswer) : Type 0 where
-  pub is : seenText bundle ws (index-at limit) r ≡ readText defaultTag limit (textAt bundle i .bytes)
+pub record ReadOne (tag : Kind → Bytes) (bundle ws : List ℕ) (limit i : ℕ) (r : TextAnswer) : Type 0 where
+  pub is : seenText bundle ws (index-at limit) r ≡ readText tag limit (textAt bundle i .bytes)
   pub held : HeldOne bundle ws limit r
 
 -- the same in the words behind the joined table, which stays
-pub record ReadBehind (bundle ws ws′ : List ℕ) (limit i : ℕ) (r : TextAnswer) : Type 0 where
-  pub read : ReadOne bundle (drop (base-at limit) ws′) limit i r
+pub record ReadBehind (tag : Kind → Bytes) (bundle ws ws′ : List ℕ) (limit i : ℕ) (r : TextAnswer) : Type 0 where
+  pub read : ReadOne tag bundle (drop (base-at limit) ws′) limit i r
   pub stays : take (base-at limit) ws′ ≡ take (base-at limit) ws
 
 -- ---- texts gathered

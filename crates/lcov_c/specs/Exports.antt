@@ -3,12 +3,12 @@ use Prim.Native.Nat.{ℕ, Ordering, Ordering·lt, Ordering·eq, Ordering·gt}
 use mathlib.Core.Path.{_≡_}
 use mathlib.Core.Bool.{Bool}
 use mathlib.Core.List.{List, [], _∷_, _++_}
+use Rattle.model.specs.declared.Kind.{Kind}
+use Rattle.model.specs.declared.Record.{Record as LentRecord}
 use Rattle.model.specs.Bytes.{Bytes, newline}
 use Rattle.model.specs.Answer.{Answer, _>>=_}
 use Rattle.model.specs.Number.{Counted}
-use Rattle.model.specs.Tags.{defaultTag}
 use Rattle.model.specs.Line.{readLine, printRecord}
-use Rattle.model.specs.Parts.{lentLine}
 use Rattle.model.specs.Output.{written, outputAfter}
 use Rattle.model.specs.declared.Range.{Range}
 use Rattle.model.specs.Ranges.{sliceAfter}
@@ -16,17 +16,17 @@ use Rattle.model.specs.Calls.{lineAnswer, numberAnswer, writeAnswer, insertAnsw
 use Rattle.lcov_c_words.specs.Words.{eight, lineWords, lineNumber, countedWords, countedNumber, writeWords, writeNumber, insertWords, insertNumber, queryWords, queryNumber, withPrefix}
 
 -- a line read: the number and the words of the model's answer, in which a text is its start and length in the line
-pub record ReadLine (line : Bytes) (slice slice′ : List ℕ) (number : ℕ) : Type 0 where
-  pub numbered : number ≡ lineNumber (lineAnswer (lentLine defaultTag line))
-  pub words : slice′ ≡ withPrefix (lineWords (lineAnswer (lentLine defaultTag line))) slice
+pub record ReadLine (answer : Answer LentRecord) (slice slice′ : List ℕ) (number : ℕ) : Type 0 where
+  pub numbered : number ≡ lineNumber (lineAnswer answer)
+  pub words : slice′ ≡ withPrefix (lineWords (lineAnswer answer)) slice
 
 pub record ReadNumber (answer : Answer Counted) (slice slice′ : List ℕ) (number : ℕ) : Type 0 where
   pub numbered : number ≡ countedNumber (numberAnswer answer)
   pub words : slice′ ≡ withPrefix (countedWords (numberAnswer answer)) slice
 
 -- a line read, and its record printed with byte 10 after it
-unfoldable pub printedLine : Bytes → ℕ → Answer Bytes
-printedLine line room = readLine defaultTag line >>= λ made. written room (printRecord defaultTag made ++ newline ∷ [])
+unfoldable pub printedLine : (tag : Kind → Bytes) → Bytes → ℕ → Answer Bytes
+printedLine tag line room = readLine tag line >>= λ made. written room (printRecord tag made ++ newline ∷ [])
 
 -- what a call that writes hands back for an answer: its number, the words in the lent slice, and the output
 pub record AnswerStored (answer : Answer Bytes) (slice slice′ : List ℕ) (out out′ : Bytes) (number : ℕ) : Type 0 where

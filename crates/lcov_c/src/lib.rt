@@ -3,48 +3,94 @@ ghost use mathlib.Core.Path.{_≡_};
 ghost use lib.ListN.{length};
 ghost use Rattle.model.specs.declared.Mode.the-variants.{Checked, Lossy};
 ghost use Rattle.model.specs.Limits.{program-words};
+ghost use mathlib.Core.Bool.{true};
 ghost use Rattle.model.specs.Tags.{defaultTag};
+ghost use Rattle.model.specs.TagTable.{tagged, tagsOf, areTags};
+ghost use Rattle.model.specs.Parts.{lentLine};
 ghost use Rattle.model.specs.Number.{readField};
 ghost use Rattle.model.specs.Gather.{readAndPrint, gather};
 ghost use Rattle.model.specs.Filter.{filterText};
 ghost use Rattle.model.specs.Path.{components, comparePaths};
-ghost use Rattle.model.specs.Output.{outputAfter};
-ghost use Rattle.model.specs.Calls.{writeAnswer};
-ghost use Rattle.lcov_c_words.specs.Words.{writeWords, writeNumber, withPrefix};
+ghost use Rattle.lcov_c_words.specs.Words.{withPrefix};
 ghost use Rattle.model.specs.Ranges.{halfOpen, insertCall, queryCall};
 ghost use Rattle.line_num_pairs.specs.Pairs.{pair, rangesIn};
 ghost use Rattle.lcov_c.specs.Exports.{ReadLine, ReadNumber, printedLine, AnswerStored, RangeInserted, Queried, rangeWords, orderNumber};
 use compare::Order;
 use model::LineAnswer;
+use model::WriteAnswer;
+use tag_table::Loading;
 
 const SCRATCH_WORDS: usize = lcov::PROGRAM_WORDS;
 
 // Reads a line. Answers 0 and the record's words, or a refusal's number and its values.
 #[no_mangle]
 pub extern "C" fn lcov_read_line(line: &[u8], answer: &mut [u64]) -> u32
-    ensures { λ r. ⌜ ReadLine (now (line .entry)) (now (answer .entry)) (now (answer .exit)) r ⌝ }
+    ensures { λ r. ⌜ ReadLine (lentLine defaultTag (now (line .entry))) (now (answer .entry)) (now (answer .exit)) r ⌝ }
 {
-    let got = record_parse::read_line(line);
+    let got = lcov::read_line(line);
     lcov_c_words::put_words(lcov_c_words::line_words(got), answer);
     lcov_c_words::line_number(got)
+}
+
+// The same under the tags of a lent table.
+#[no_mangle]
+pub extern "C" fn lcov_read_line_tagged(tags: &[u8], line: &[u8], answer: &mut [u64]) -> u32
+    ensures { λ r. ⌜ ReadLine (tagged (now (tags .entry)) (λ tag. lentLine tag (now (line .entry)))) (now (answer .entry)) (now (answer .exit)) r ⌝ }
+{
+    let got = lcov::read_line_tagged(tags, line);
+    lcov_c_words::put_words(lcov_c_words::line_words(got), answer);
+    lcov_c_words::line_number(got)
+}
+
+// Reads a line and prints its record, with byte 10 after it. `lcov_print_line` has the same body with no table: as a call of this function it
+// would take a fifth longer.
+fn print_read(tags: &[u8], line: &[u8], out: &mut [u8], answer: &mut [u64]) -> u32
+    requires { ⌜ areTags (now tags) ≡ true ⌝ }
+    ensures { λ r. ⌜ AnswerStored (printedLine (tagsOf (now (tags .entry))) (now (line .entry)) (length (now (out .entry)))) (now (answer .entry)) (now (answer .exit)) (now (out .entry)) (now (out .exit)) r ⌝ }
+{
+    let got = record_parse::read_line(tags, line);
+    let LineAnswer::Read(made) = got else {
+        lcov_c_words::put_words(lcov_c_words::line_words(got), answer);
+        return lcov_c_words::line_number(got);
+    };
+    let printed = record_display::print_line(tags, line, made, out);
+    lcov_c_words::put_words(lcov_c_words::write_words(printed), answer);
+    lcov_c_words::write_number(printed)
 }
 
 // Reads a line and prints its record, with byte 10 after it, to out. Answers 0 and the written length, or a refusal's number and its
 // values; out stays then.
 #[no_mangle]
 pub extern "C" fn lcov_print_line(line: &[u8], out: &mut [u8], answer: &mut [u64]) -> u32
-    ensures number { λ r. ⌜ r ≡ writeNumber (writeAnswer (printedLine (now (line .entry)) (length (now (out .entry))))) ⌝ }
-    ensures words { λ _. ⌜ now (answer .exit) ≡ withPrefix (writeWords (writeAnswer (printedLine (now (line .entry)) (length (now (out .entry)))))) (now (answer .entry)) ⌝ }
-    ensures output { λ _. ⌜ now (out .exit) ≡ outputAfter (printedLine (now (line .entry)) (length (now (out .entry)))) (now (out .entry)) ⌝ }
+    ensures { λ r. ⌜ AnswerStored (printedLine defaultTag (now (line .entry)) (length (now (out .entry)))) (now (answer .entry)) (now (answer .exit)) (now (out .entry)) (now (out .exit)) r ⌝ }
 {
-    let got = record_parse::read_line(line);
+    let got = record_parse::read_line(b"", line);
     let LineAnswer::Read(made) = got else {
         lcov_c_words::put_words(lcov_c_words::line_words(got), answer);
         return lcov_c_words::line_number(got);
     };
-    let printed = record_display::print_line(line, made, out);
+    let printed = record_display::print_line(b"", line, made, out);
     lcov_c_words::put_words(lcov_c_words::write_words(printed), answer);
     lcov_c_words::write_number(printed)
+}
+
+// The same under the tags of a lent table.
+#[no_mangle]
+pub extern "C" fn lcov_print_line_tagged(
+    tags: &[u8],
+    line: &[u8],
+    out: &mut [u8],
+    answer: &mut [u64],
+) -> u32
+    ensures { λ r. ⌜ AnswerStored (tagged (now (tags .entry)) (λ tag. printedLine tag (now (line .entry)) (length (now (out .entry))))) (now (answer .entry)) (now (answer .exit)) (now (out .entry)) (now (out .exit)) r ⌝ }
+{
+    match tag_table::load(tags) {
+        Loading::Refused(fault) => {
+            let refusal = refusal::unplaced(fault);
+            lcov_c_words::store_answer(WriteAnswer::Refused(refusal), answer)
+        }
+        Loading::Loaded => print_read(tags, line, out, answer),
+    }
 }
 
 // Reads one number field, a number up to max. Answers 0, its value and how many digits were read, or a refusal's number.
@@ -71,6 +117,21 @@ pub extern "C" fn lcov_gather_with(
     lcov_c_words::store_answer(got, answer)
 }
 
+// The same under the tags of a lent table.
+#[no_mangle]
+pub extern "C" fn lcov_gather_tagged(
+    tags: &[u8],
+    bundle: &[u8],
+    scratch: &mut [u64],
+    out: &mut [u8],
+    answer: &mut [u64],
+) -> u32
+    ensures { λ r. ⌜ AnswerStored (tagged (now (tags .entry)) (λ tag. gather tag Checked (now (bundle .entry)) (length (now (scratch .entry))) (length (now (out .entry))))) (now (answer .entry)) (now (answer .exit)) (now (out .entry)) (now (out .exit)) r ⌝ }
+{
+    let got = lcov::gather_checked_tagged(tags, bundle, scratch, out);
+    lcov_c_words::store_answer(got, answer)
+}
+
 // The lossy gather.
 #[no_mangle]
 pub extern "C" fn lcov_gather_lossy(
@@ -85,6 +146,21 @@ pub extern "C" fn lcov_gather_lossy(
     lcov_c_words::store_answer(got, answer)
 }
 
+// The same under the tags of a lent table.
+#[no_mangle]
+pub extern "C" fn lcov_gather_lossy_tagged(
+    tags: &[u8],
+    bundle: &[u8],
+    scratch: &mut [u64],
+    out: &mut [u8],
+    answer: &mut [u64],
+) -> u32
+    ensures { λ r. ⌜ AnswerStored (tagged (now (tags .entry)) (λ tag. gather tag Lossy (now (bundle .entry)) (length (now (scratch .entry))) (length (now (out .entry))))) (now (answer .entry)) (now (answer .exit)) (now (out .entry)) (now (out .exit)) r ⌝ }
+{
+    let got = lcov::gather_lossy_tagged(tags, bundle, scratch, out);
+    lcov_c_words::store_answer(got, answer)
+}
+
 // Reads one text and prints its report.
 #[no_mangle]
 pub extern "C" fn lcov_read_text(
@@ -96,6 +172,21 @@ pub extern "C" fn lcov_read_text(
     ensures { λ r. ⌜ AnswerStored (readAndPrint defaultTag (now (text .entry)) (length (now (scratch .entry))) (length (now (out .entry)))) (now (answer .entry)) (now (answer .exit)) (now (out .entry)) (now (out .exit)) r ⌝ }
 {
     let got = lcov::read_text(text, scratch, out);
+    lcov_c_words::store_answer(got, answer)
+}
+
+// The same under the tags of a lent table.
+#[no_mangle]
+pub extern "C" fn lcov_read_text_tagged(
+    tags: &[u8],
+    text: &[u8],
+    scratch: &mut [u64],
+    out: &mut [u8],
+    answer: &mut [u64],
+) -> u32
+    ensures { λ r. ⌜ AnswerStored (tagged (now (tags .entry)) (λ tag. readAndPrint tag (now (text .entry)) (length (now (scratch .entry))) (length (now (out .entry))))) (now (answer .entry)) (now (answer .exit)) (now (out .entry)) (now (out .exit)) r ⌝ }
+{
+    let got = lcov::read_text_tagged(tags, text, scratch, out);
     lcov_c_words::store_answer(got, answer)
 }
 
@@ -167,6 +258,23 @@ pub extern "C" fn lcov_filter(
     ensures { λ r. ⌜ AnswerStored (filterText defaultTag (now (text .entry)) (rangesIn (now (pairs .entry))) used (length (now (scratch .entry))) (length (now (out .entry)))) (now (answer .entry)) (now (answer .exit)) (now (out .entry)) (now (out .exit)) r ⌝ }
 {
     let got = lcov::filter_text(text, pairs, used, scratch, out);
+    lcov_c_words::store_answer(got, answer)
+}
+
+// The same under the tags of a lent table.
+#[no_mangle]
+pub extern "C" fn lcov_filter_tagged(
+    tags: &[u8],
+    text: &[u8],
+    pairs: &[[u32; 2]],
+    used: usize,
+    scratch: &mut [u64],
+    out: &mut [u8],
+    answer: &mut [u64],
+) -> u32
+    ensures { λ r. ⌜ AnswerStored (tagged (now (tags .entry)) (λ tag. filterText tag (now (text .entry)) (rangesIn (now (pairs .entry))) used (length (now (scratch .entry))) (length (now (out .entry))))) (now (answer .entry)) (now (answer .exit)) (now (out .entry)) (now (out .exit)) r ⌝ }
+{
+    let got = lcov::filter_text_tagged(tags, text, pairs, used, scratch, out);
     lcov_c_words::store_answer(got, answer)
 }
 

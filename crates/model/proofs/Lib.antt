@@ -3,6 +3,7 @@ pub mod ByteLaws
 pub mod NumberLaws
 pub mod KeyOrder
 pub mod TagLaws
+pub mod TagTableLaws
 pub mod FieldTexts
 pub mod Clean
 pub mod LentLaws

@@ -25,6 +25,8 @@ use Rattle.model.specs.declared.Fault.the-variants.{
   PartOutside,
   MalformedRanges,
   SignedNumber,
+  MalformedTags,
+  EqualTags,
   EndBeforeStart,
   SecondSourceFile,
 }
@@ -70,6 +72,9 @@ numberOf PartOutside = 17
 numberOf MalformedRanges = 18
 -- number with a plus sign
 numberOf SignedNumber = 19
+-- table of tags not well formed; two equal tags in it
+numberOf MalformedTags = 21
+numberOf EqualTags = 22
 -- end line below the start line
 numberOf EndBeforeStart = 23
 -- second SF in a section

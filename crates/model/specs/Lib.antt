@@ -7,6 +7,7 @@ pub mod Answer
 pub mod Number
 pub mod Record
 pub mod Tags
+pub mod TagTable
 pub mod Line
 pub mod Output
 pub mod Parts

@@ -23,6 +23,8 @@ pub enum Fault {
     PartOutside,
     MalformedRanges,
     SignedNumber,
+    MalformedTags,
+    EqualTags,
     EndBeforeStart,
     SecondSourceFile,
 }

@@ -6,7 +6,9 @@ use mathlib.Core.Path.{_≡_, refl}
 use mathlib.Core.Bool.{true, false}
 use mathlib.Core.List.{List, [], _∷_, _++_}
 use mathlib.Core.Option.{none, some}
-use lib.ListN.{length, replicate}
+use lib.Dec.{eqb}
+use lib.ListN.{length, replicate, drop}
+use Rattle.model.specs.declared.Kind.{Kind}
 use Rattle.model.specs.declared.Mode.{Mode}
 use Rattle.model.specs.declared.Mode.the-variants.{Checked, Lossy}
 use Rattle.model.specs.declared.EndLine.the-variants as El
@@ -18,8 +20,10 @@ use Rattle.model.specs.Bytes.{Bytes, ascii}
 use Rattle.model.specs.Path.{root, current, name, components}
 use Rattle.model.specs.Answer.{accepted, refused, withValues}
 use Rattle.model.specs.Number.{Counted, readField}
-use Rattle.model.specs.Record.{Record, testName, functionName, branchData, lineData, endOfRecord}
+use Rattle.model.specs.Record.{Record, testName, sourceFile, functionName, branchData, lineData, endOfRecord}
+use Rattle.model.specs.Order.{if_then_else_}
 use Rattle.model.specs.Tags.{defaultTag}
+use Rattle.model.specs.TagTable.{placeOf, tagged, tableOf}
 use Rattle.model.specs.Line.{readLine}
 use Rattle.model.specs.Parts.{printLine}
 use Rattle.model.specs.Output.{outputAfter}
@@ -238,6 +242,42 @@ pub record Gathers : Type 0 where
   -- the program: a refusal as numbers, with 0 for what does not apply
   pub program : gatherProgram (ascii "12345678") ≡ ascii "refused 16 0 0 0\n"
 
+-- ---- a lent table of tags
+
+-- the default tags but for those of TN and SF
+abbrev pub house : Bytes → Bytes → Kind → Bytes
+house a b kind = if eqb (placeOf kind) 0 then a else (if eqb (placeOf kind) 1 then b else defaultTag kind)
+
+abbrev pub under : Bytes → Bytes → Told Record
+under table bytes = withValues (tagged table (λ tag. readLine tag bytes))
+
+pub record Tables : Type 0 where
+  -- the default table, lent, is the default
+  pub default : (under (tableOf defaultTag) (ascii "TN:x") ≡ line (ascii "TN:x")) × (under (tableOf defaultTag) (ascii "x") ≡ line (ascii "x"))
+  -- a tag is its bytes up to its length, and byte 0 is allowed
+  pub equal-slots : (under (tableOf (house (ascii "A") (65 ∷ 0 ∷ []))) (ascii "A:x") ≡ gives (testName (ascii "x")))
+      × (under (tableOf (house (ascii "A") (65 ∷ 0 ∷ []))) (65 ∷ 0 ∷ ascii ":x") ≡ gives (sourceFile (ascii "x")))
+  -- only three bytes are forbidden
+  pub any-byte : (under (tableOf (house (ascii "FN,") (43 ∷ 49 ∷ 32 ∷ 255 ∷ []))) (ascii "FN,:x") ≡ gives (testName (ascii "x")))
+      × (under (tableOf (house (ascii "T:") (ascii "SF"))) (ascii "T:x") ≡ refuses 21 0 0)
+      × (under (tableOf (house (ascii "T\n") (ascii "SF"))) (ascii "T") ≡ refuses 21 0 0)
+      × (under (tableOf (house (ascii "T\r") (ascii "SF"))) (ascii "T") ≡ refuses 21 0 0)
+  -- all single-tag rules for all thirteen tags, then 22
+  pub all-first : (under (tableOf (house (ascii "A") (ascii "A"))) (ascii "A:x") ≡ refuses 22 0 0)
+      × (under (tableOf (λ kind. if eqb (placeOf kind) 12 then [] else house (ascii "A") (ascii "A") kind)) (ascii "A:x") ≡ refuses 21 0 0)
+  -- a length that is too short leaves bytes past it that are not 0; a slice has 221 bytes
+  pub past-length : (under (1 ∷ drop 1 (tableOf defaultTag)) (ascii "T:x") ≡ refuses 21 0 0) × (under [] (ascii "TN:x") ≡ refuses 21 0 0)
+      × (under (tableOf defaultTag ++ 0 ∷ []) (ascii "TN:x") ≡ refuses 21 0 0)
+  -- the table replaces the default, and a tag that is a prefix is another
+  pub replaced : (under (tableOf (house (ascii "F") (ascii "SF"))) (ascii "TN:x") ≡ refuses 1 1 0)
+      × (under (tableOf (house (ascii "F") (ascii "FND"))) (ascii "FND:x") ≡ gives (sourceFile (ascii "x")))
+      × (under (tableOf (house (ascii "F") (ascii "FND"))) (ascii "FNDA:1,f") ≡ line (ascii "FNDA:1,f"))
+  -- before anything else is looked at
+  pub first : (withValues (tagged [] (λ tag. gather tag Checked (0 ∷ 0 ∷ 0 ∷ []) 8_192 65_536)) ≡ refuses 21 0 0)
+      × (withValues (tagged (tableOf (house (ascii "A") (ascii "A"))) (λ tag. filterText tag [] [] 1 8_192 65_536)) ≡ refuses 22 0 0)
+  -- the needed length has the table's tags
+  pub needed : withValues (tagged (tableOf (house (ascii "sixteen bytes ..") (ascii "SF"))) (λ tag. printLine tag [] (Lent.TestName (part 0 0)) 17)) ≡ needs 18
+
 -- ---- ranges and the filter
 
 pub record Ranges : Type 0 where
@@ -338,4 +378,18 @@ ranges =
       filter-order = (refl, refl, refl);
       startless = refl;
       own-end = (refl, refl);
+    }
+
+pub tables : Tables
+unfolding open-asked
+tables =
+    record {
+      default = (refl, refl);
+      equal-slots = (refl, refl);
+      any-byte = (refl, refl, refl, refl);
+      all-first = (refl, refl);
+      past-length = (refl, refl, refl);
+      replaced = (refl, refl, refl);
+      first = (refl, refl);
+      needed = refl;
     }

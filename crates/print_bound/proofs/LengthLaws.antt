@@ -8,6 +8,8 @@ use mathlib.Core.List.{[], _∷_}
 use lib.Dec.{ltb, lit≤}
 use lib.ListN.{length, length-append}
 use borrow.Author.Tests.{ltb-true, ltb-false}
+use Rattle.model.specs.declared.Kind.{Kind}
+use Rattle.model.specs.declared.Kind.the-variants as Kd
 use Rattle.model.specs.Bytes.{Bytes, joined}
 use Rattle.model.specs.Limits.{max-entries}
 use Rattle.model.specs.Line.{printFields, printRecord}
@@ -15,7 +17,6 @@ use Rattle.model.specs.Lists.{concatMap}
 use Rattle.model.specs.Number.{decimal, decimalDigits}
 use Rattle.model.specs.Record.{Record, testName, sourceFile, functionsFound, functionsHit, branchesFound, branchesHit, linesFound, linesHit, endOfRecord}
 use Rattle.model.specs.Report.{Item}
-use Rattle.model.specs.Tags.{defaultTag}
 use Rattle.model.specs.Printing.{startRecord, dataRecord, printRecords}
 use Rattle.model.proofs.NumberLaws.{decimalDigits-small, decimalDigits-large}
 use Rattle.print_rows.proofs.PassLaws.{lines}
@@ -43,12 +44,12 @@ five-digits v h = digits-below 4 20 v h
 -- ---- records
 
 -- a line that says how many has at most m bytes
-abbrev pub Short : (ℕ → Record) → ℕ → Type 0
-Short made m = (k : ℕ) → k ≤ max-entries → length (lines (made k ∷ [])) ≤ m
+abbrev pub Short : (tag : Kind → Bytes) → (ℕ → Record) → ℕ → Type 0
+Short tag made m = (k : ℕ) → k ≤ max-entries → length (lines tag (made k ∷ [])) ≤ m
 
-pub shorts : Short functionsFound 10 × Short functionsHit 10 × Short branchesFound 10 × Short branchesHit 10 × Short linesFound 9 × Short linesHit 9
-unfolding printRecords concatMap printRecord printFields joined defaultTag
-shorts = (
+pub shorts : (tag : Kind → Bytes) → Short tag functionsFound (7 + length (tag Kd.FunctionsFound)) × Short tag functionsHit (7 + length (tag Kd.FunctionsHit)) × Short tag branchesFound (7 + length (tag Kd.BranchesFound)) × Short tag branchesHit (7 + length (tag Kd.BranchesHit)) × Short tag linesFound (7 + length (tag Kd.LinesFound)) × Short tag linesHit (7 + length (tag Kd.LinesHit))
+unfolding printRecords concatMap printRecord printFields joined
+shorts tag = (
   (λ k h. simp length-append (omega (arith, five-digits k (omega arith)))),
   (λ k h. simp length-append (omega (arith, five-digits k (omega arith)))),
   (λ k h. simp length-append (omega (arith, five-digits k (omega arith)))),
@@ -57,16 +58,16 @@ shorts = (
   (λ k h. simp length-append (omega (arith, five-digits k (omega arith)))),
 )
 
-pub head-length : (test path : Bytes) → length (lines (testName test ∷ sourceFile path ∷ [])) ≡ 8 + length test + length path
-unfolding printRecords concatMap printRecord printFields joined defaultTag
-head-length test path = simp length-append (omega arith)
+pub head-length : (tag : Kind → Bytes) (test path : Bytes) → length (lines tag (testName test ∷ sourceFile path ∷ [])) ≡ 4 + length (tag Kd.TestName) + length (tag Kd.SourceFile) + length test + length path
+unfolding printRecords concatMap printRecord printFields joined
+head-length tag test path = simp length-append (omega arith)
 
-pub end-length : length (lines (endOfRecord ∷ [])) ≡ 14
-unfolding printRecords concatMap printRecord defaultTag
-end-length = refl
+pub end-length : (tag : Kind → Bytes) → length (lines tag (endOfRecord ∷ [])) ≡ 1 + length (tag Kd.EndOfRecord)
+unfolding printRecords concatMap printRecord
+end-length tag = simp length-append (omega arith)
 
 -- ---- items
 
-pub item-length : (i : Item) → length (itemLines i) ≡ startLen i + dataLen i
+pub item-length : (tag : Kind → Bytes) (i : Item) → length (itemLines tag i) ≡ startLen tag i + dataLen tag i
 unfolding itemLines
-item-length i = omega (arith, length-append (lines (startRecord i)) (lines (dataRecord i)), start-length i, data-length i)
+item-length tag i = omega (arith, length-append (lines tag (startRecord i)) (lines tag (dataRecord i)), start-length tag i, data-length tag i)

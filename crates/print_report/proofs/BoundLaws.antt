@@ -6,10 +6,10 @@ use mathlib.Core.Bool.{Bool, true}
 use mathlib.Core.List.{List}
 use lib.ListN.{length}
 use Rattle.table.proofs.TabulateLaws.{length-tabulate}
+use Rattle.model.specs.declared.Kind.{Kind}
 use Rattle.model.specs.Bytes.{Bytes}
 use Rattle.model.specs.Limits.{max-entries}
 use Rattle.model.specs.Report.{Report}
-use Rattle.model.specs.Tags.{defaultTag}
 use Rattle.model.specs.Printing.{printReport}
 use Rattle.table_section.specs.Sections.{entryAt, entriesAt}
 use Rattle.print_bound.specs.Bound.{reportMost, FitsBound}
@@ -21,17 +21,18 @@ module _ {text ws : List ℕ} {index used n spare : ℕ} (π : PrintableTable te
   pub entries-few : length (entriesAt text ws index n) ≤ max-entries
   entries-few = omega (arith, length-tabulate (entryAt text ws index) n, π .few)
 
-  pub printed-most : length (printedFrom text index n ws 0) ≤ reportMost (entriesAt text ws index n)
+module _ (tag : Kind → Bytes) {text ws : List ℕ} {index used n spare : ℕ} (π : PrintableTable text ws index used n spare) where
+  pub printed-most : length (printedFrom tag text index n ws 0) ≤ reportMost tag (entriesAt text ws index n)
   printed-most =
       omega (
         arith,
-        report-max (entriesAt text ws index n) entries-few,
-        ap (λ (r : Report). length (printReport defaultTag r)) (entries-all text ws index n),
+        report-max tag (entriesAt text ws index n) (entries-few π),
+        ap (λ (r : Report). length (printReport tag r)) (entries-all text ws index n),
       )
 
 -- where they surely fit, nothing is measured
-pub fits-required : (text ws out bytes : List ℕ) (index n : ℕ) (roomy : Bool) → roomy ≡ true → FitsBound ws index n (length out) roomy
-    → length bytes ≤ reportMost (entriesAt text ws index n) → RequiredLength out out bytes 0
-fits-required text ws out bytes index n roomy e ρ h =
-    let fits : FitsBound ws index n (length out) true = rw e at ρ in
+pub fits-required : (tag : Kind → Bytes) (text ws out bytes : List ℕ) (index n : ℕ) (roomy : Bool) → roomy ≡ true → FitsBound tag ws index n (length out) roomy
+    → length bytes ≤ reportMost tag (entriesAt text ws index n) → RequiredLength out out bytes 0
+fits-required tag text ws out bytes index n roomy e ρ h =
+    let fits : FitsBound tag ws index n (length out) true = rw e at ρ in
     required-none (omega (arith, fits text))

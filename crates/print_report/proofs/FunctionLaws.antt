@@ -4,6 +4,7 @@ use mathlib.Core.Path.{_≡_, sym, ap, _∙_}
 use mathlib.Core.Bool.{Bool, false}
 use mathlib.Core.List.{List}
 use lib.ListN.{length}
+use Rattle.model.specs.declared.Kind.{Kind}
 use Rattle.model.specs.Bytes.{Bytes}
 use Rattle.model.specs.Lists.{sort}
 use Rattle.model.specs.Report.{Item}
@@ -22,24 +23,24 @@ no-room write out at bytes e = rw e tt
 measured-in : {write : Bool} {out out′ : Bytes} {at r : ℕ} (a b : Bytes) → write ≡ false → length a ≡ length b → Emitted write out out′ at a r → Emitted write out out′ at b r
 measured-in {write} {out} {out′} {at} {r} a b e l ε = rw e (measured-as {a = a} {b = b} l (rw e at ε))
 
-module _ (text ws : List ℕ) (index from m : ℕ) where
+module _ (tag : Kind → Bytes) (text ws : List ℕ) (index from m : ℕ) where
   abbrev lines : Bytes
-  lines = functionLines (sort comparePrinted (itemsAt text ws index from m))
+  lines = functionLines tag (sort comparePrinted (itemsAt text ws index from m))
 
   -- written in printing order
   module _ {ws′ : List ℕ} {spare : ℕ} (ρ : InPrintOrder text ws ws′ index from m spare) where
-    pub sorted-room : (write : Bool) (out : Bytes) (at : ℕ) → RoomFor write out at lines → RoomFor write out at (functionLines (itemsBy text ws′ spare m))
-    sorted-room write out at h = room-as write out at _ _ (ap functionLines (ρ .sorted)) h
+    pub sorted-room : (write : Bool) (out : Bytes) (at : ℕ) → RoomFor write out at lines → RoomFor write out at (functionLines tag (itemsBy text ws′ spare m))
+    sorted-room write out at h = room-as write out at _ _ (ap (functionLines tag) (ρ .sorted)) h
 
-    pub sorted-done : {write : Bool} {out out′ : Bytes} {at r : ℕ} → Emitted write out out′ at (functionLines (itemsBy text ws′ spare m)) r → Emitted write out out′ at lines r
-    sorted-done {write} ε = emitted-as write _ _ (ap functionLines (ρ .sorted)) ε
+    pub sorted-done : {write : Bool} {out out′ : Bytes} {at r : ℕ} → Emitted write out out′ at (functionLines tag (itemsBy text ws′ spare m)) r → Emitted write out out′ at lines r
+    sorted-done {write} ε = emitted-as write _ _ (ap (functionLines tag) (ρ .sorted)) ε
 
   -- measured in the index's order
-  pub index-room : (write : Bool) (out : Bytes) (at : ℕ) → write ≡ false → RoomFor write out at (functionLines (itemsBy text ws (index + from) m))
+  pub index-room : (write : Bool) (out : Bytes) (at : ℕ) → write ≡ false → RoomFor write out at (functionLines tag (itemsBy text ws (index + from) m))
   index-room write out at e = no-room write out at _ e
 
-  pub index-done : {write : Bool} {out out′ : Bytes} {at r : ℕ} → write ≡ false → Emitted write out out′ at (functionLines (itemsBy text ws (index + from) m)) r
+  pub index-done : {write : Bool} {out out′ : Bytes} {at r : ℕ} → write ≡ false → Emitted write out out′ at (functionLines tag (itemsBy text ws (index + from) m)) r
       → Emitted write out out′ at lines r
   index-done e ε =
-      measured-in (functionLines (itemsBy text ws (index + from) m)) lines e
-      (ap (λ (items : List Item). length (functionLines items)) (index-items text ws index from m) ∙ sym (functions-sorted comparePrinted (itemsAt text ws index from m))) ε
+      measured-in (functionLines tag (itemsBy text ws (index + from) m)) lines e
+      (ap (λ (items : List Item). length (functionLines tag items)) (index-items text ws index from m) ∙ sym (functions-sorted tag comparePrinted (itemsAt text ws index from m))) ε

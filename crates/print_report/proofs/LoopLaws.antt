@@ -11,6 +11,7 @@ use borrow.Author.Tests.{le-leb, lt-leb}
 use Rattle.table.specs.Places.{tabulate}
 use Rattle.table.specs.Store.{row}
 use Rattle.table.proofs.TabulateLaws.{tabulate-cong}
+use Rattle.model.specs.declared.Kind.{Kind}
 use Rattle.model.specs.declared.WriteAnswer.{WriteAnswer}
 use Rattle.model.specs.declared.WriteAnswer.the-variants.{Written, Refused}
 use Rattle.model.specs.declared.Fault.the-variants.{OutputTooShort}
@@ -20,7 +21,6 @@ use Rattle.model.specs.Calls.{writeAnswer}
 use Rattle.model.specs.Limits.{u64-max}
 use Rattle.model.specs.Lists.{concatMap}
 use Rattle.model.specs.Output.{written, outputAfter}
-use Rattle.model.specs.Tags.{defaultTag}
 use Rattle.model.specs.Printing.{sections, printRecords, printSections, printReport}
 use Rattle.table_item.specs.Items.{kindOf}
 use Rattle.table_section.specs.Sections.{entryAt, entriesAt}
@@ -45,11 +45,12 @@ module _ {text ws : List ℕ} {index used n spare : ℕ} (π : PrintableTable te
   unfolding tabulate
   entries-none lo h = ap (tabulate (λ k. entryAt text ws index (lo + k))) (let e : n - lo ≡ 0 = omega arith in e)
 
-  pub report-prints : Prints (printedFrom text index n) ws n spare
+module _ (tag : Kind → Bytes) {text ws : List ℕ} {index used n spare : ℕ} (π : PrintableTable text ws index used n spare) where
+  pub report-prints : Prints (printedFrom tag text index n) ws n spare
   unfolding printReport printSections printRecords sections concatMap
   report-prints = record {
-    same = λ ws′ σ lo. ap (printReport defaultTag) (entries-kept π σ lo);
-    none = λ lo h. ap (printReport defaultTag) (entries-none lo h);
+    same = λ ws′ σ lo. ap (printReport tag) (entries-kept π σ lo);
+    none = λ lo h. ap (printReport tag) (entries-none π lo h);
   }
 
 -- from the first place on, all entries

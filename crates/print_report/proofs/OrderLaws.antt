@@ -6,13 +6,13 @@ use mathlib.Core.Bool.{Bool, true, false}
 use mathlib.Core.List.{List, [], _∷_, _++_}
 use lib.Dec.{ltb}
 use lib.ListN.{length, length-append}
+use Rattle.model.specs.declared.Kind.{Kind}
 use Rattle.model.specs.Order.{if_then_else_}
 use Rattle.model.specs.Bytes.{Bytes, newline}
 use Rattle.model.specs.Lists.{filter, sort, concatMap}
 use Rattle.model.specs.Line.{printRecord}
 use Rattle.model.specs.Record.{Record, functionsFound, functionsHit}
 use Rattle.model.specs.Report.{Item, countOf}
-use Rattle.model.specs.Tags.{defaultTag}
 use Rattle.model.specs.Printing.{startRecord, dataRecord, hits, group, printRecords}
 use Rattle.model.proofs.ListLaws.{each-append, sort-length}
 use Rattle.print_rows.proofs.PassLaws.{lines-append}
@@ -38,13 +38,13 @@ select-each {A} test (x ∷ xs) = go (test x) (select-each test xs)
 
 -- ---- lines
 
-module _ (c : Item → Item → Ordering) (items : List Item) where
-  print-sorted : (f : Item → List Record) → length (printRecords defaultTag (concatMap f (sort c items))) ≡ length (printRecords defaultTag (concatMap f items))
+module _ (tag : Kind → Bytes) (c : Item → Item → Ordering) (items : List Item) where
+  print-sorted : (f : Item → List Record) → length (printRecords tag (concatMap f (sort c items))) ≡ length (printRecords tag (concatMap f items))
   unfolding printRecords
   print-sorted f =
-      ap length (each-each (λ r. printRecord defaultTag r ++ newline ∷ []) f (sort c items))
-      ∙ sort-each (λ x. concatMap (λ r. printRecord defaultTag r ++ newline ∷ []) (f x)) c items
-      ∙ ap length (sym (each-each (λ r. printRecord defaultTag r ++ newline ∷ []) f items))
+      ap length (each-each (λ r. printRecord tag r ++ newline ∷ []) f (sort c items))
+      ∙ sort-each (λ x. concatMap (λ r. printRecord tag r ++ newline ∷ []) (f x)) c items
+      ∙ ap length (sym (each-each (λ r. printRecord tag r ++ newline ∷ []) f items))
 
   hits-sorted : hits (sort c items) ≡ hits items
   unfolding hits
@@ -54,33 +54,33 @@ module _ (c : Item → Item → Ordering) (items : List Item) where
       ∙ ap length (sym (select-each (λ i. ltb 0 (countOf i)) items))
 
 -- a group with an item: its data, and how many were found and hit
-module _ (found hit : ℕ → Record) where
+module _ (tag : Kind → Bytes) (found hit : ℕ → Record) where
   group-lines : List Item → ℕ → ℕ → Bytes
-  group-lines items n h = printRecords defaultTag (concatMap dataRecord items) ++ printRecords defaultTag (found n ∷ hit h ∷ [])
+  group-lines items n h = printRecords tag (concatMap dataRecord items) ++ printRecords tag (found n ∷ hit h ∷ [])
 
   group-is : (items : List Item) (n : ℕ) → length items ≡ suc n
-      → printRecords defaultTag (group found hit items) ≡ group-lines items (length items) (hits items)
+      → printRecords tag (group found hit items) ≡ group-lines items (length items) (hits items)
   unfolding group group-lines
   group-is [] n e = absurd (omega arith)
-  group-is (i ∷ is) n e = lines-append (concatMap dataRecord (i ∷ is)) (found (length (i ∷ is)) ∷ hit (hits (i ∷ is)) ∷ [])
+  group-is (i ∷ is) n e = lines-append tag (concatMap dataRecord (i ∷ is)) (found (length (i ∷ is)) ∷ hit (hits (i ∷ is)) ∷ [])
 
   group-sorted : (c : Item → Item → Ordering) (items : List Item)
-      → length (printRecords defaultTag (group found hit (sort c items))) ≡ length (printRecords defaultTag (group found hit items))
+      → length (printRecords tag (group found hit (sort c items))) ≡ length (printRecords tag (group found hit items))
   unfolding group sort group-lines
   group-sorted c [] = refl
   group-sorted c (i ∷ is) =
       ap length (group-is (sort c (i ∷ is)) (length is) (sort-length c (i ∷ is)))
-      ∙ ap₂ (λ (n h : ℕ). length (group-lines (sort c (i ∷ is)) n h)) (sort-length c (i ∷ is)) (hits-sorted c (i ∷ is))
-      ∙ length-append (printRecords defaultTag (concatMap dataRecord (sort c (i ∷ is)))) last
-      ∙ ap (λ (n : ℕ). n + length last) (print-sorted c (i ∷ is) dataRecord)
-      ∙ sym (length-append (printRecords defaultTag (concatMap dataRecord (i ∷ is))) last)
+      ∙ ap₂ (λ (n h : ℕ). length (group-lines (sort c (i ∷ is)) n h)) (sort-length c (i ∷ is)) (hits-sorted tag c (i ∷ is))
+      ∙ length-append (printRecords tag (concatMap dataRecord (sort c (i ∷ is)))) last
+      ∙ ap (λ (n : ℕ). n + length last) (print-sorted tag c (i ∷ is) dataRecord)
+      ∙ sym (length-append (printRecords tag (concatMap dataRecord (i ∷ is))) last)
       ∙ ap length (sym (group-is (i ∷ is) (length is) refl))
     where
       last : Bytes
-      last = printRecords defaultTag (found (length (i ∷ is)) ∷ hit (hits (i ∷ is)) ∷ [])
+      last = printRecords tag (found (length (i ∷ is)) ∷ hit (hits (i ∷ is)) ∷ [])
 
-pub functions-sorted : (c : Item → Item → Ordering) (items : List Item) → length (functionLines (sort c items)) ≡ length (functionLines items)
-functions-sorted c items =
-    length-append (printRecords defaultTag (concatMap startRecord (sort c items))) (printRecords defaultTag (group functionsFound functionsHit (sort c items)))
-    ∙ ap₂ _+_ (print-sorted c items startRecord) (group-sorted functionsFound functionsHit c items)
-    ∙ sym (length-append (printRecords defaultTag (concatMap startRecord items)) (printRecords defaultTag (group functionsFound functionsHit items)))
+pub functions-sorted : (tag : Kind → Bytes) (c : Item → Item → Ordering) (items : List Item) → length (functionLines tag (sort c items)) ≡ length (functionLines tag items)
+functions-sorted tag c items =
+    length-append (printRecords tag (concatMap startRecord (sort c items))) (printRecords tag (group functionsFound functionsHit (sort c items)))
+    ∙ ap₂ _+_ (print-sorted tag c items startRecord) (group-sorted tag functionsFound functionsHit c items)
+    ∙ sym (length-append (printRecords tag (concatMap startRecord items)) (printRecords tag (group functionsFound functionsHit items)))

@@ -13,11 +13,11 @@ use Rattle.table.specs.Places.{tabulate}
 use Rattle.table.specs.Store.{row}
 use Rattle.table.proofs.PlaceLaws.{by-lt}
 use Rattle.table.proofs.TabulateLaws.{tabulate-cong, tabulate-split}
+use Rattle.model.specs.declared.Kind.{Kind}
 use Rattle.model.specs.Bytes.{Bytes}
 use Rattle.model.specs.Lists.{filter, sort, concatMap}
 use Rattle.model.specs.Record.{Record, testName, sourceFile, functionsFound, functionsHit, branchesFound, branchesHit, linesFound, linesHit, endOfRecord}
 use Rattle.model.specs.Report.{Item, sectionItem, functionItem, branchItem, lineItem, Entry, Report, SectionKey, sectionKey, inSection}
-use Rattle.model.specs.Tags.{defaultTag}
 use Rattle.model.specs.Printing.{
   Section,
   isSection,
@@ -156,27 +156,27 @@ module _ (f g h : ℕ → Item) (a b c : ℕ) (F : Kinds f a 1) (G : Kinds g b 2
 -- ---- a section's lines
 
 -- the lines of a section, by its parts, and what follows
-abbrev pub sectionLines : Bytes → Bytes → List Item → List Item → List Item → Bytes → Bytes
-sectionLines test spelling fs bs ls rest =
-    printRecords defaultTag (testName test ∷ sourceFile spelling ∷ [])
-    ++ (functionLines (sort comparePrinted fs)
-    ++ (printRecords defaultTag (group branchesFound branchesHit bs)
-    ++ (printRecords defaultTag (group linesFound linesHit ls) ++ (printRecords defaultTag (endOfRecord ∷ []) ++ rest))))
+abbrev pub sectionLines : (tag : Kind → Bytes) → Bytes → Bytes → List Item → List Item → List Item → Bytes → Bytes
+sectionLines tag test spelling fs bs ls rest =
+    printRecords tag (testName test ∷ sourceFile spelling ∷ [])
+    ++ (functionLines tag (sort comparePrinted fs)
+    ++ (printRecords tag (group branchesFound branchesHit bs)
+    ++ (printRecords tag (group linesFound linesHit ls) ++ (printRecords tag (endOfRecord ∷ []) ++ rest))))
 
-print-six : (a b c d e f g : List Record)
-    → printRecords defaultTag (a ++ b ++ c ++ d ++ e ++ f ++ g)
-    ≡ printRecords defaultTag a
-    ++ (printRecords defaultTag b ++ printRecords defaultTag c
-    ++ (printRecords defaultTag d ++ (printRecords defaultTag e ++ (printRecords defaultTag f ++ printRecords defaultTag g))))
-print-six a b c d e f g = simp (lines-append, append-assoc)
+print-six : (tag : Kind → Bytes) (a b c d e f g : List Record)
+    → printRecords tag (a ++ b ++ c ++ d ++ e ++ f ++ g)
+    ≡ printRecords tag a
+    ++ (printRecords tag b ++ printRecords tag c
+    ++ (printRecords tag d ++ (printRecords tag e ++ (printRecords tag f ++ printRecords tag g))))
+print-six tag a b c d e f g = simp (lines-append, append-assoc)
 
-pub lines-of : (s : Section) (fs bs ls : List Item) (rest : List Section) → filter isFunction (s .items) ≡ fs → filter isBranch (s .items) ≡ bs
+pub lines-of : (tag : Kind → Bytes) (s : Section) (fs bs ls : List Item) (rest : List Section) → filter isFunction (s .items) ≡ fs → filter isBranch (s .items) ≡ bs
     → filter isLine (s .items) ≡ ls
-    → printSections defaultTag (s ∷ rest) ≡ sectionLines (s .test) (s .spelling) fs bs ls (printSections defaultTag rest)
+    → printSections tag (s ∷ rest) ≡ sectionLines tag (s .test) (s .spelling) fs bs ls (printSections tag rest)
 unfolding printSections sectionRecords functionsOf concatMap
-lines-of s fs bs ls rest F B L =
+lines-of tag s fs bs ls rest F B L =
     rw (F, B, L)
-    (print-six (testName (s .test) ∷ sourceFile (s .spelling) ∷ []) (concatMap startRecord (sort comparePrinted fs))
+    (print-six tag (testName (s .test) ∷ sourceFile (s .spelling) ∷ []) (concatMap startRecord (sort comparePrinted fs))
     (group functionsFound functionsHit (sort comparePrinted fs)) (group branchesFound branchesHit bs) (group linesFound linesHit ls)
     (endOfRecord ∷ []) (concatMap sectionRecords rest))
 
@@ -247,13 +247,15 @@ module _ {text ws : List ℕ} {index used n lo f b l : ℕ} (τ : Table text ws 
       ∙ sections-cons (entryAt text ws index lo) (λ k. entryAt text ws index (lo + 1 + k)) (l - (lo + 1)) (entriesFrom text ws index n l)
       (pathOf text (row ws index lo)) (header-item text (row ws index lo) header) not-section ends
 
+module _ (tag : Kind → Bytes) {text ws : List ℕ} {index used n lo f b l : ℕ} (τ : Table text ws index used n) (header : kindOf (row ws index lo) ≡ 0) (here : lo < n)
+    (φ : IsKindRange ws index n (lo + 1) function-kind f) (β : IsKindRange ws index n f branch-kind b) (λs : IsKindRange ws index n b line-kind l) where
   -- THE SECTION AT A PLACE: its lines, and then what the rows behind it print
-  pub section-printed : printedFrom text index n ws lo
-      ≡ sectionLines (testOf text (row ws index lo)) (pathOf text (row ws index lo)) (itemsAt text ws index (lo + 1) (f - (lo + 1)))
-      (itemsAt text ws index f (b - f)) (itemsAt text ws index b (l - b)) (printedFrom text index n ws l)
+  pub section-printed : printedFrom tag text index n ws lo
+      ≡ sectionLines tag (testOf text (row ws index lo)) (pathOf text (row ws index lo)) (itemsAt text ws index (lo + 1) (f - (lo + 1)))
+      (itemsAt text ws index f (b - f)) (itemsAt text ws index b (l - b)) (printedFrom tag text index n ws l)
   unfolding printReport
   section-printed =
-      ap (printSections defaultTag) sections-at
-      ∙ lines-of sectionAt
+      ap (printSections tag) (sections-at τ header here φ β λs)
+      ∙ lines-of tag (sectionAt τ header here φ β λs)
       (itemsAt text ws index (lo + 1) (f - (lo + 1))) (itemsAt text ws index f (b - f)) (itemsAt text ws index b (l - b))
-      (sections (entriesFrom text ws index n l)) items-functions items-branches items-lines
+      (sections (entriesFrom text ws index n l)) (items-functions τ header here φ β λs) (items-branches τ header here φ β λs) (items-lines τ header here φ β λs)

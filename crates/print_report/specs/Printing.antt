@@ -10,11 +10,11 @@ use Rattle.table.specs.declared.Row.{Row}
 use Rattle.table.specs.Places.{tabulate}
 use Rattle.table.specs.Rows.{word}
 use Rattle.table.specs.Store.{row}
+use Rattle.model.specs.declared.Kind.{Kind}
 use Rattle.model.specs.Bytes.{Bytes}
 use Rattle.model.specs.Limits.{u64-max, max-entries}
 use Rattle.model.specs.Lists.{concatMap}
 use Rattle.model.specs.Record.{testName, sourceFile, functionsFound, functionsHit}
-use Rattle.model.specs.Tags.{defaultTag}
 use Rattle.model.specs.Report.{Item, Report}
 use Rattle.model.specs.Printing.{startRecord, group, printRecords, printReport}
 use Rattle.table_item.specs.Items.{kindOf, function-kind, branch-kind, line-kind}
@@ -32,8 +32,8 @@ abbrev pub entriesFrom : Bytes → List ℕ → ℕ → ℕ → ℕ → Report
 entriesFrom text ws index n lo = tabulate (λ k. entryAt text ws index (lo + k)) (n - lo)
 
 -- what they print
-abbrev pub printedFrom : Bytes → ℕ → ℕ → List ℕ → ℕ → Bytes
-printedFrom text index n ws lo = printReport defaultTag (entriesFrom text ws index n lo)
+abbrev pub printedFrom : (tag : Kind → Bytes) → Bytes → ℕ → ℕ → List ℕ → ℕ → Bytes
+printedFrom tag text index n ws lo = printReport tag (entriesFrom text ws index n lo)
 
 -- a table of few entries, with twice as many spare words behind it
 pub record PrintableTable (text ws : List ℕ) (index used n spare : ℕ) : Type 0 where
@@ -65,14 +65,14 @@ pub record AreKindRanges (ws : List ℕ) (index n from : ℕ) (r : KindRanges) :
 -- ---- a section's head
 
 -- TN and SF
-abbrev pub headLines : Bytes → Row → Bytes
-headLines text header = printRecords defaultTag (testName (testOf text header) ∷ sourceFile (pathOf text header) ∷ [])
+abbrev pub headLines : (tag : Kind → Bytes) → Bytes → Row → Bytes
+headLines tag text header = printRecords tag (testName (testOf text header) ∷ sourceFile (pathOf text header) ∷ [])
 
 -- ---- functions
 
 -- FN, then FNDA with FNF and FNH
-abbrev pub functionLines : List Item → Bytes
-functionLines items = printRecords defaultTag (concatMap startRecord items) ++ printRecords defaultTag (group functionsFound functionsHit items)
+abbrev pub functionLines : (tag : Kind → Bytes) → List Item → Bytes
+functionLines tag items = printRecords tag (concatMap startRecord items) ++ printRecords tag (group functionsFound functionsHit items)
 
 -- the n rows from place `from` on are functions that can be printed, and there are 2n spare words to sort them in
 pub record FunctionRows (text ws : List ℕ) (index used from n spare : ℕ) : Type 0 where
@@ -85,14 +85,14 @@ pub record FunctionRows (text ws : List ℕ) (index used from n spare : ℕ) : T
 -- ---- branches and lines
 
 -- BRDA or DA, with how many were found and hit
-abbrev pub groupLines : ℕ → List Item → Bytes
-groupLines kind items = printRecords defaultTag (group (foundOf kind) (hitOf kind) items)
+abbrev pub groupLines : (tag : Kind → Bytes) → ℕ → List Item → Bytes
+groupLines tag kind items = printRecords tag (group (foundOf kind) (hitOf kind) items)
 
-abbrev pub branchLines : Bytes → List ℕ → ℕ → KindRanges → Bytes
-branchLines text ws index r = groupLines branch-kind (itemsBy text ws (index + r .functions) (r .branches - r .functions))
+abbrev pub branchLines : (tag : Kind → Bytes) → Bytes → List ℕ → ℕ → KindRanges → Bytes
+branchLines tag text ws index r = groupLines tag branch-kind (itemsBy text ws (index + r .functions) (r .branches - r .functions))
 
-abbrev pub lineLines : Bytes → List ℕ → ℕ → KindRanges → Bytes
-lineLines text ws index r = groupLines line-kind (itemsBy text ws (index + r .branches) (r .lines - r .branches))
+abbrev pub lineLines : (tag : Kind → Bytes) → Bytes → List ℕ → ℕ → KindRanges → Bytes
+lineLines tag text ws index r = groupLines tag line-kind (itemsBy text ws (index + r .branches) (r .lines - r .branches))
 
 -- the rows of both ranges can be printed
 pub record GroupRows (text ws : List ℕ) (index : ℕ) (r : KindRanges) : Type 0 where

@@ -4,6 +4,7 @@ use model::Fault;
 use model::Refusal;
 use model::WriteAnswer;
 ghost use mathlib.Core.Path.{_≡_};
+ghost use mathlib.Core.Bool.{true};
 ghost use mathlib.Core.List.{_++_};
 ghost use Prim.Native.Nat.{_+_, _≤_, _<_};
 ghost use lib.ListN.{length};
@@ -14,7 +15,7 @@ ghost use Rattle.model.specs.Limits.{max-entries};
 ghost use Rattle.model.specs.Lists.{sort};
 ghost use Rattle.model.specs.Output.{written, outputAfter};
 ghost use Rattle.model.specs.Printing.{comparePrinted, printReport};
-ghost use Rattle.model.specs.Tags.{defaultTag};
+ghost use Rattle.model.specs.TagTable.{tagsOf, areTags};
 ghost use Rattle.table_item.specs.Items.{kindOf};
 ghost use Rattle.table_item.specs.SortedItems.{itemsAt};
 ghost use Rattle.table_section.specs.Sections.{entriesAt};
@@ -69,6 +70,7 @@ pub fn find_kind_ranges(
 
 // FN, FNDA, FNF and FNH of the n functions whose row numbers are at word `numbers` on.
 pub fn print_numbered(
+    tags: &[u8],
     text: &[u8],
     words: &[u64],
     numbers: usize,
@@ -77,12 +79,14 @@ pub fn print_numbered(
     at: usize,
     write: bool,
 ) -> usize
+    requires { ⌜ areTags (now tags) ≡ true ⌝ }
     requires { ⌜ Printable (now text) (now words) numbers n × (n ≤ max-entries) ⌝ }
-    requires { ⌜ RoomFor write (now out) at (functionLines (itemsBy (now text) (now words) numbers n)) ⌝ }
-    ensures { λ r. ⌜ Emitted write (now (out .entry)) (now (out .exit)) at (functionLines (itemsBy (now (text .entry)) (now (words .entry)) numbers n)) r ⌝ }
+    requires { ⌜ RoomFor write (now out) at (functionLines (tagsOf (now tags)) (itemsBy (now text) (now words) numbers n)) ⌝ }
+    ensures { λ r. ⌜ Emitted write (now (out .entry)) (now (out .exit)) at (functionLines (tagsOf (now (tags .entry))) (itemsBy (now (text .entry)) (now (words .entry)) numbers n)) r ⌝ }
 {
-    let end = print_rows::emit_rows(text, words, numbers, n, true, out, at, write);
+    let end = print_rows::emit_rows(tags, text, words, numbers, n, true, out, at, write);
     print_rows::emit_group(
+        tags,
         text,
         words,
         table_item::FUNCTION,
@@ -97,6 +101,7 @@ pub fn print_numbered(
 // The n functions from place `from` on, "ordered by start line (none first), then name". In any order their lines are as long, so they
 // are sorted only to be written.
 fn print_functions(
+    tags: &[u8],
     text: &[u8],
     words: &mut [u64],
     index: usize,
@@ -108,20 +113,22 @@ fn print_functions(
     at: usize,
     write: bool,
 ) -> usize
+    requires { ⌜ areTags (now tags) ≡ true ⌝ }
     requires { ⌜ FunctionRows (now text) (now words) index used from n spare ⌝ }
-    requires { ⌜ RoomFor write (now out) at (functionLines (sort comparePrinted (itemsAt (now text) (now words) index from n))) ⌝ }
-    ensures { λ r. ⌜ Emitted write (now (out .entry)) (now (out .exit)) at (functionLines (sort comparePrinted (itemsAt (now (text .entry)) (now (words .entry)) index from n))) r ⌝ }
+    requires { ⌜ RoomFor write (now out) at (functionLines (tagsOf (now tags)) (sort comparePrinted (itemsAt (now text) (now words) index from n))) ⌝ }
+    ensures { λ r. ⌜ Emitted write (now (out .entry)) (now (out .exit)) at (functionLines (tagsOf (now (tags .entry))) (sort comparePrinted (itemsAt (now (text .entry)) (now (words .entry)) index from n))) r ⌝ }
     ensures { λ _. ⌜ UnchangedBefore (now (words .entry)) (now (words .exit)) spare ⌝ }
 {
     if write {
         print_sort::sort_functions(text, words, index, used, from, n, spare);
-        return print_numbered(text, words, spare, n, out, at, write);
+        return print_numbered(tags, text, words, spare, n, out, at, write);
     }
-    print_numbered(text, words, index + from, n, out, at, write)
+    print_numbered(tags, text, words, index + from, n, out, at, write)
 }
 
 // "Then BRDA by key, BRF, BRH; DA by line, LF, LH."
 fn print_groups(
+    tags: &[u8],
     text: &[u8],
     words: &[u64],
     index: usize,
@@ -130,14 +137,16 @@ fn print_groups(
     at: usize,
     write: bool,
 ) -> usize
+    requires { ⌜ areTags (now tags) ≡ true ⌝ }
     requires { ⌜ GroupRows (now text) (now words) index runs ⌝ }
-    requires { ⌜ RoomFor write (now out) at (branchLines (now text) (now words) index runs ++ lineLines (now text) (now words) index runs) ⌝ }
-    ensures { λ r. ⌜ Emitted write (now (out .entry)) (now (out .exit)) at (branchLines (now (text .entry)) (now (words .entry)) index runs ++ lineLines (now (text .entry)) (now (words .entry)) index runs) r ⌝ }
+    requires { ⌜ RoomFor write (now out) at (branchLines (tagsOf (now tags)) (now text) (now words) index runs ++ lineLines (tagsOf (now tags)) (now text) (now words) index runs) ⌝ }
+    ensures { λ r. ⌜ Emitted write (now (out .entry)) (now (out .exit)) at (branchLines (tagsOf (now (tags .entry))) (now (text .entry)) (now (words .entry)) index runs ++ lineLines (tagsOf (now (tags .entry))) (now (text .entry)) (now (words .entry)) index runs) r ⌝ }
 {
     let first = runs.functions;
     let then = runs.branches;
     let n = then - first;
     let end = print_rows::emit_group(
+        tags,
         text,
         words,
         table_item::BRANCH,
@@ -149,6 +158,7 @@ fn print_groups(
     );
     let m = runs.lines - then;
     print_rows::emit_group(
+        tags,
         text,
         words,
         table_item::LINE,
@@ -168,6 +178,7 @@ pub struct Printed {
 
 // Prints the section whose header row is at position lo.
 fn print_section(
+    tags: &[u8],
     text: &[u8],
     words: &mut [u64],
     index: usize,
@@ -179,23 +190,37 @@ fn print_section(
     at: usize,
     write: bool,
 ) -> Printed
+    requires { ⌜ areTags (now tags) ≡ true ⌝ }
     requires { ⌜ PrintableTable (now text) (now words) index used n spare × (lo < n) × (kindOf (row (now words) index lo) ≡ 0) ⌝ }
-    requires { ⌜ RoomFor write (now out) at (printedFrom (now text) index n (now words) lo) ⌝ }
-    ensures { λ r. ⌜ SectionPrinted (printedFrom (now (text .entry)) index n) write (now (words .entry)) (now (words .exit)) (now (out .entry)) (now (out .exit)) index n lo spare at r ⌝ }
+    requires { ⌜ RoomFor write (now out) at (printedFrom (tagsOf (now tags)) (now text) index n (now words) lo) ⌝ }
+    ensures { λ r. ⌜ SectionPrinted (printedFrom (tagsOf (now (tags .entry))) (now (text .entry)) index n) write (now (words .entry)) (now (words .exit)) (now (out .entry)) (now (out .exit)) index n lo spare at r ⌝ }
 {
     let header = table::get(words, index, used, lo);
     let runs = find_kind_ranges(words, index, used, n, lo + 1);
     let next = runs.lines;
     let m = runs.functions - (lo + 1);
-    let a = print_rows::emit_head(text, header, out, at, write);
-    let b = print_functions(text, words, index, used, lo + 1, m, spare, out, a, write);
-    let c = print_groups(text, words, index, runs, out, b, write);
-    let end = print_rows::emit_end(text, out, c, write);
+    let a = print_rows::emit_head(tags, text, header, out, at, write);
+    let b = print_functions(
+        tags,
+        text,
+        words,
+        index,
+        used,
+        lo + 1,
+        m,
+        spare,
+        out,
+        a,
+        write,
+    );
+    let c = print_groups(tags, text, words, index, runs, out, b, write);
+    let end = print_rows::emit_end(tags, text, out, c, write);
     Printed { next, at: end }
 }
 
 // All sections, from the output's start on.
 fn print_sections(
+    tags: &[u8],
     text: &[u8],
     words: &mut [u64],
     index: usize,
@@ -205,15 +230,16 @@ fn print_sections(
     out: &mut [u8],
     write: bool,
 ) -> usize
+    requires { ⌜ areTags (now tags) ≡ true ⌝ }
     requires { ⌜ PrintableTable (now text) (now words) index used n spare ⌝ }
-    requires { ⌜ RoomFor write (now out) 0 (printedFrom (now text) index n (now words) 0) ⌝ }
-    ensures { λ r. ⌜ Emitted write (now (out .entry)) (now (out .exit)) 0 (printedFrom (now (text .entry)) index n (now (words .entry)) 0) r ⌝ }
+    requires { ⌜ RoomFor write (now out) 0 (printedFrom (tagsOf (now tags)) (now text) index n (now words) 0) ⌝ }
+    ensures { λ r. ⌜ Emitted write (now (out .entry)) (now (out .exit)) 0 (printedFrom (tagsOf (now (tags .entry))) (now (text .entry)) index n (now (words .entry)) 0) r ⌝ }
     ensures { λ _. ⌜ UnchangedBefore (now (words .entry)) (now (words .exit)) spare ⌝ }
 {
     let mut lo = 0;
     let mut at = 0;
     while lo < n {
-        let printed = print_section(text, words, index, used, n, lo, spare, out, at, write);
+        let printed = print_section(tags, text, words, index, used, n, lo, spare, out, at, write);
         lo = printed.next;
         at = printed.at;
     }
@@ -235,6 +261,7 @@ pub fn too_short(needed: usize) -> WriteAnswer
 
 // A length that is enough for the report: what it needs where the output is shorter, and 0 where the output is surely long enough.
 fn required_len(
+    tags: &[u8],
     text: &[u8],
     words: &mut [u64],
     index: usize,
@@ -243,19 +270,21 @@ fn required_len(
     spare: usize,
     out: &mut [u8],
 ) -> usize
+    requires { ⌜ areTags (now tags) ≡ true ⌝ }
     requires { ⌜ PrintableTable (now text) (now words) index used n spare ⌝ }
-    ensures { λ r. ⌜ RequiredLength (now (out .entry)) (now (out .exit)) (printedFrom (now (text .entry)) index n (now (words .entry)) 0) r ⌝ }
+    ensures { λ r. ⌜ RequiredLength (now (out .entry)) (now (out .exit)) (printedFrom (tagsOf (now (tags .entry))) (now (text .entry)) index n (now (words .entry)) 0) r ⌝ }
     ensures { λ _. ⌜ UnchangedBefore (now (words .entry)) (now (words .exit)) spare ⌝ }
 {
-    if print_bound::surely_fits(words, index, used, n, out.len()) {
+    if print_bound::surely_fits(tags, words, index, used, n, out.len()) {
         return 0;
     }
-    print_sections(text, words, index, used, n, spare, out, false)
+    print_sections(tags, text, words, index, used, n, spare, out, false)
 }
 
 // Prints the report of the first n rows. An output "shorter than the bytes to be written, whose number is the needed length" stays. `spare`
 // is where the 2n free words start that functions are sorted in.
 pub fn print_report(
+    tags: &[u8],
     text: &[u8],
     words: &mut [u64],
     index: usize,
@@ -264,15 +293,16 @@ pub fn print_report(
     spare: usize,
     out: &mut [u8],
 ) -> WriteAnswer
+    requires { ⌜ areTags (now tags) ≡ true ⌝ }
     requires { ⌜ Table (now text) (now words) index used n × (n ≤ max-entries) ⌝ }
     requires { ⌜ (index + used ≤ spare) × (spare + n + n ≤ length (now words)) ⌝ }
-    ensures { λ r. ⌜ r ≡ writeAnswer (written (length (now (out .entry))) (printReport defaultTag (entriesAt (now (text .entry)) (now (words .entry)) index n))) ⌝ }
-    ensures { λ _. ⌜ now (out .exit) ≡ outputAfter (written (length (now (out .entry))) (printReport defaultTag (entriesAt (now (text .entry)) (now (words .entry)) index n))) (now (out .entry)) ⌝ }
+    ensures { λ r. ⌜ r ≡ writeAnswer (written (length (now (out .entry))) (printReport (tagsOf (now (tags .entry))) (entriesAt (now (text .entry)) (now (words .entry)) index n))) ⌝ }
+    ensures { λ _. ⌜ now (out .exit) ≡ outputAfter (written (length (now (out .entry))) (printReport (tagsOf (now (tags .entry))) (entriesAt (now (text .entry)) (now (words .entry)) index n))) (now (out .entry)) ⌝ }
 {
-    let needed = required_len(text, words, index, used, n, spare, out);
+    let needed = required_len(tags, text, words, index, used, n, spare, out);
     if out.len() < needed {
         return too_short(needed);
     }
-    let len = print_sections(text, words, index, used, n, spare, out, true);
+    let len = print_sections(tags, text, words, index, used, n, spare, out, true);
     WriteAnswer::Written(len)
 }

@@ -8,6 +8,7 @@ use lib.ListN.{length, take, drop, length-append, length-take, length-drop, take
 use lib.Seq.{take-at, drop-at, drop-drop, length-take-le}
 use mir.Val.{Fits}
 use mir.Syntax.{w64}
+use Rattle.model.specs.declared.Kind.{Kind}
 use Rattle.model.specs.declared.Record.{Record}
 use Rattle.model.specs.declared.Refusal.{Refusal}
 use Rattle.model.specs.declared.WriteAnswer.{WriteAnswer}
@@ -18,7 +19,6 @@ use Rattle.model.proofs.CallLaws.{write-exact}
 use Rattle.model.specs.Limits.{u64-max}
 use Rattle.model.specs.Output.{outputAfter}
 use Rattle.model.specs.Parts.{printLine}
-use Rattle.model.specs.Tags.{defaultTag}
 use Rattle.format.specs.Put.{over}
 use Rattle.scan.proofs.ByteLaws.{drop-end}
 use Rattle.record_display.specs.Lines.{lineIn}
@@ -117,41 +117,41 @@ emitted-measured write out bytes at n r e q h = emitted-past write out bytes at 
 
 -- ---- one line, written into the rest of the output
 
-module _ (write : Bool) (writes : write ≡ true) (out : Bytes) (at : ℕ) (t : Bytes) (a : Record) (room : RoomFor write out at (lineIn t a)) where
-  line-room : at + length (lineIn t a) ≤ length out
+module _ (tag : Kind → Bytes) (write : Bool) (writes : write ≡ true) (out : Bytes) (at : ℕ) (t : Bytes) (a : Record) (room : RoomFor write out at (lineIn tag t a)) where
+  line-room : at + length (lineIn tag t a) ≤ length out
   line-room = rw writes at room
 
   pub line-at : at ≤ length out
   line-at = omega (arith, line-room)
 
-  rest-room : length (lineIn t a) ≤ length (take (length out - at) (drop at out))
+  rest-room : length (lineIn tag t a) ≤ length (take (length out - at) (drop at out))
   rest-room = simp (length-take, length-drop) (omega (arith, line-room))
 
   module _ (few : length out * 1 < 2 ^ 63) (ys : Bytes) (wrote : WriteAnswer)
-      (call : WriteCall (printLine defaultTag t a (length (take (length out - at) (drop at out)))) (take (length out - at) (drop at out)) ys wrote) where
-    answers : wrote ≡ writeAnswer (printLine defaultTag t a (length (take (length out - at) (drop at out))))
-    answers = write-exact (printLine defaultTag t a (length (take (length out - at) (drop at out)))) wrote (call .returns)
+      (call : WriteCall (printLine tag t a (length (take (length out - at) (drop at out)))) (take (length out - at) (drop at out)) ys wrote) where
+    answers : wrote ≡ writeAnswer (printLine tag t a (length (take (length out - at) (drop at out))))
+    answers = write-exact (printLine tag t a (length (take (length out - at) (drop at out)))) wrote (call .returns)
 
-    rest-put : take at out ++ (ys ++ drop (length out - at) (drop at out)) ≡ putAt out at (lineIn t a)
+    rest-put : take at out ++ (ys ++ drop (length out - at) (drop at out)) ≡ putAt out at (lineIn tag t a)
     unfolding outputAfter
     rest-put =
-        let y : ys ≡ over (lineIn t a) (take (length out - at) (drop at out)) = call .leaves ∙ lent-out (take (length out - at) (drop at out)) t a rest-room in
+        let y : ys ≡ over (lineIn tag t a) (take (length out - at) (drop at out)) = call .leaves ∙ lent-out tag (take (length out - at) (drop at out)) t a rest-room in
         let nothing : drop (length out - at) (drop at out) ≡ [] = drop-end (drop at out) (length out - at) (simp length-drop (omega arith)) in
         rw (y, nothing, to-end out at, append-nil, drop-drop)
 
-    emitted-put : (r : ℕ) → r ≡ at + length (lineIn t a) → Emitted write out (take at out ++ (ys ++ drop (length out - at) (drop at out))) at (lineIn t a) r
+    emitted-put : (r : ℕ) → r ≡ at + length (lineIn tag t a) → Emitted write out (take at out ++ (ys ++ drop (length out - at) (drop at out))) at (lineIn tag t a) r
     emitted-put r e = record { next = omega (arith, line-room); after = rest-put ∙ rw writes }
 
-    wrote-len : (n : ℕ) → wrote ≡ Written n → n ≡ length (lineIn t a)
-    wrote-len n e = lent-written (take (length out - at) (drop at out)) t a rest-room n (sym e ∙ answers)
+    wrote-len : (n : ℕ) → wrote ≡ Written n → n ≡ length (lineIn tag t a)
+    wrote-len n e = lent-written tag (take (length out - at) (drop at out)) t a rest-room n (sym e ∙ answers)
 
     pub wrote-fits : (n : ℕ) → wrote ≡ Written n → Fits w64 (at + n)
     wrote-fits n e = record { fits = omega (arith, line-room, wrote-len n e) }
 
-    pub wrote-line : (n : ℕ) → wrote ≡ Written n → Emitted write out (take at out ++ (ys ++ drop (length out - at) (drop at out))) at (lineIn t a) (at + n)
+    pub wrote-line : (n : ℕ) → wrote ≡ Written n → Emitted write out (take at out ++ (ys ++ drop (length out - at) (drop at out))) at (lineIn tag t a) (at + n)
     wrote-line n e = emitted-put (at + n) (omega (arith, wrote-len n e))
 
-    pub wrote-none : (q : Refusal) → wrote ≡ Refused q → Emitted write out (take at out ++ (ys ++ drop (length out - at) (drop at out))) at (lineIn t a) at
+    pub wrote-none : (q : Refusal) → wrote ≡ Refused q → Emitted write out (take at out ++ (ys ++ drop (length out - at) (drop at out))) at (lineIn tag t a) at
     wrote-none q e =
-        let z = ap length (lent-refused (take (length out - at) (drop at out)) t a rest-room q (sym e ∙ answers)) in
+        let z = ap length (lent-refused tag (take (length out - at) (drop at out)) t a rest-room q (sym e ∙ answers)) in
         emitted-put at (omega (arith, z))

@@ -10,6 +10,7 @@ use mir.Val as Val
 use mir.Syntax.{w32}
 use borrow.Author.Tests.{le-leb, lt-ltb}
 use Rattle.table.specs.declared.Row.{Row}
+use Rattle.model.specs.declared.Kind.{Kind}
 use Rattle.model.specs.declared.Part.{Part}
 use Rattle.model.specs.declared.EndLine.{EndLine}
 use Rattle.model.specs.declared.EndLine.the-variants as El
@@ -27,7 +28,6 @@ use Rattle.model.specs.Record.{Record, testName, sourceFile, functionName, func
 use Rattle.model.specs.Report.{extentAt, Extent, updated, Item, extentOf, endOf, sectionItem, functionItem, branchItem, lineItem, countOf}
 use Rattle.model.specs.Parts.{partOf, endIn, takenIn, checksumIn, recordIn}
 use Rattle.model.specs.Line.{printRecord}
-use Rattle.model.specs.Tags.{defaultTag}
 use Rattle.model.specs.Printing.{startRecord, dataRecord, printRecords}
 use Rattle.model.specs.Valid.{ItemFits}
 use Rattle.table_item.specs.Items.{part, byKind, ifGiven, extentIn, startKey, functionIn, itemOf, ItemInBounds}
@@ -38,26 +38,26 @@ use Rattle.print_rows.specs.Emit.{endLen, foundOf, hitOf, hitOne, lentPa
 
 -- ---- one record
 
-module _ (text : Bytes) where
-  pub one-line : (a : LentRecord) (made : Record) → recordIn text a ≡ accepted made → lineIn text a ≡ printRecords defaultTag (made ∷ [])
-  unfolding printRecords concatMap
-  one-line a made e = line-made text a made e ∙ sym (append-nil (printRecord defaultTag made ++ (newline ∷ [])))
+part-in : (text : Bytes) (p : Part) (start len : ℕ) → p ≡ lentPart start len → start + len ≤ length text → partOf text p ≡ accepted (part text start len)
+part-in text p start len is inside = rw is (part-there text (lentPart start len) (le-leb (start + len) (length text) inside))
 
-  pub end-line : lineIn text Lent.EndOfRecord ≡ printRecords defaultTag (endOfRecord ∷ [])
+module _ (tag : Kind → Bytes) (text : Bytes) where
+  pub one-line : (a : LentRecord) (made : Record) → recordIn text a ≡ accepted made → lineIn tag text a ≡ printRecords tag (made ∷ [])
+  unfolding printRecords concatMap
+  one-line a made e = line-made tag text a made e ∙ sym (append-nil (printRecord tag made ++ (newline ∷ [])))
+
+  pub end-line : lineIn tag text Lent.EndOfRecord ≡ printRecords tag (endOfRecord ∷ [])
   unfolding recordIn
   end-line = one-line Lent.EndOfRecord endOfRecord refl
 
   module _ (p : Part) (start len : ℕ) (is : p ≡ lentPart start len) (inside : start + len ≤ length text) where
-    part-in : partOf text p ≡ accepted (part text start len)
-    part-in = rw is (part-there text (lentPart start len) (le-leb (start + len) (length text) inside))
-
-    pub test-line : lineIn text (Lent.TestName p) ≡ printRecords defaultTag (testName (part text start len) ∷ [])
+    pub test-line : lineIn tag text (Lent.TestName p) ≡ printRecords tag (testName (part text start len) ∷ [])
     unfolding recordIn
-    test-line = one-line (Lent.TestName p) (testName (part text start len)) (rw part-in)
+    test-line = one-line (Lent.TestName p) (testName (part text start len)) (rw (part-in text p start len is inside))
 
-    pub path-line : lineIn text (Lent.SourceFile p) ≡ printRecords defaultTag (sourceFile (part text start len) ∷ [])
+    pub path-line : lineIn tag text (Lent.SourceFile p) ≡ printRecords tag (sourceFile (part text start len) ∷ [])
     unfolding recordIn
-    path-line = one-line (Lent.SourceFile p) (sourceFile (part text start len)) (rw part-in)
+    path-line = one-line (Lent.SourceFile p) (sourceFile (part text start len)) (rw (part-in text p start len is inside))
 
 -- ---- what is given of a row
 
@@ -99,7 +99,7 @@ pub end-absent : (end : EndLine) → end ≡ El.Absent → 0 ≡ endLen (endIn e
 unfolding endIn
 end-absent end e = rw e
 
--- ---- a row's records
+-- ---- a row's items
 
 module _ (text : Bytes) (row : Row) where
   -- by kind k and what is given, m
@@ -115,58 +115,10 @@ module _ (text : Bytes) (row : Row) where
   unfolding itemOf
   item-is k e = rw e
 
-  -- FN of a row that has a start line
-  module _ (start : ℕ) (is : startKey (extentOf (itemOf text row)) ≡ suc start) where
-    pub start-line : (end : EndLine) (p : Part) → endIn end ≡ endOf (itemOf text row) → ItemInBounds text row → p ≡ lentPart (row .k1) (row .k2)
-        → lineIn text (Lent.FunctionName start end p) ≡ printRecords defaultTag (startRecord (itemOf text row))
-    unfolding startRecord recordIn
-    start-line end p e g q =
-        one-line text (Lent.FunctionName start end p) (functionName start (endOf (itemOf text row)) (part text (row .k1) (row .k2)))
-        (rw (part-in text p (row .k1) (row .k2) q (g .name (started-kind text row start is)), e))
-        ∙ ap (λ (i : Item). printRecords defaultTag (startRecord i)) (sym (started-item text row start is))
-
-    pub start-fits : ItemFits (itemOf text row) → Val.Fits w32 start
-    start-fits f = let g : ItemFits (functionItem (updated (functionIn text row) (some (extentAt start (endOf (itemOf text row)))) (row .count))) = rw (started-item text row start is) at f in
-        record { fits = omega (arith, g .1 .start) }
-
-  pub no-start : startKey (extentOf (itemOf text row)) ≡ 0 → printRecords defaultTag (startRecord (itemOf text row)) ≡ []
-  unfolding extentOf startRecord printRecords concatMap
-  no-start e = go (itemOf text row) e
-    where
-      go : (i : Item) → startKey (extentOf i) ≡ 0 → printRecords defaultTag (startRecord i) ≡ []
-      go (sectionItem spelling) e = refl
-      go (functionItem f) e = by-extent (f .extent) e
-        where
-          by-extent : (x : Option Extent) → startKey x ≡ 0 → printRecords defaultTag (startRecord (functionItem (updated f x (f .count)))) ≡ []
-          by-extent none e = refl
-          by-extent (some x) e = absurd (omega arith)
-      go (branchItem line block branch taken) e = refl
-      go (lineItem line count checksum) e = refl
-
-  pub function-line : (p : Part) → row .tag / 2 ≡ 1 → ItemInBounds text row → p ≡ lentPart (row .k1) (row .k2) → lineIn text (Lent.FunctionData (row .count) p) ≡ printRecords defaultTag (dataRecord (itemOf text row))
-  unfolding dataRecord recordIn
-  function-line p e g q =
-      rw (item-is 1 e) (one-line text (Lent.FunctionData (row .count) p) (functionData (row .count) (part text (row .k1) (row .k2))) (rw (part-in text p (row .k1) (row .k2) q (g .name e))))
-
-  pub branch-line : (t : Taken) → row .tag / 2 ≡ 2 → t ≡ lentTaken (row .tag % 2) (row .count) → lineIn text (Lent.BranchData (row .k1) (row .k2) (row .k3) t) ≡ printRecords defaultTag (dataRecord (itemOf text row))
-  unfolding dataRecord recordIn
-  branch-line t e q =
-      rw (item-is 2 e) (one-line text (Lent.BranchData (row .k1) (row .k2) (row .k3) t) (branchData (row .k1) (row .k2) (row .k3) (ifGiven (row .tag % 2) (row .count))) (rw (q, taken-in)))
-
-  pub checked-line : (c : Checksum) → row .tag / 2 ≡ 3 → ItemInBounds text row → c ≡ lentChecksum (row .tag % 2) (row .k2) (row .k3) → lineIn text (Lent.LineData (row .k1) (row .count) c) ≡ printRecords defaultTag (dataRecord (itemOf text row))
-  unfolding dataRecord recordIn
-  checked-line c e g q =
-      rw (item-is 3 e)
-      (one-line text (Lent.LineData (row .k1) (row .count) c) (lineData (row .k1) (row .count) (ifGiven (row .tag % 2) (part text (row .k2) (row .k3))))
-      (rw (q, checksum-in text (row .tag % 2) (row .k2) (row .k3) (omega arith) (g .checksum e))))
-
-  pub count-line : row .tag ≡ 6 → lineIn [] (counted (row .k1) (row .count)) ≡ printRecords defaultTag (dataRecord (itemOf text row))
-  unfolding dataRecord itemOf recordIn checksumIn
-  count-line e = rw e (one-line [] (counted (row .k1) (row .count)) (lineData (row .k1) (row .count) none) refl)
-
-  pub no-data : ItemInBounds text row → row .tag / 2 ≢ 1 → row .tag / 2 ≢ 2 → row .tag / 2 ≢ 3 → printRecords defaultTag (dataRecord (itemOf text row)) ≡ []
-  unfolding dataRecord printRecords concatMap
-  no-data g f b l = let few = g .kind in let z : row .tag / 2 ≡ 0 = omega arith in rw (item-is 0 z)
+  -- FN's start line
+  pub start-fits : (start : ℕ) → startKey (extentOf (itemOf text row)) ≡ suc start → ItemFits (itemOf text row) → Val.Fits w32 start
+  start-fits start is f = let g : ItemFits (functionItem (updated (functionIn text row) (some (extentAt start (endOf (itemOf text row)))) (row .count))) = rw (started-item text row start is) at f in
+      record { fits = omega (arith, g .1 .start) }
 
   module _ (fits : ItemFits (itemOf text row)) where
     branch-fits : row .tag / 2 ≡ 2 → ItemFits (item 2 (row .tag % 2))
@@ -217,6 +169,58 @@ module _ (text : Bytes) (row : Row) where
   pub hit-count : row .count ≢ 0 → 2 ≤ row .tag → row .tag ≢ 4 → 1 ≡ hitOne (itemOf text row)
   unfolding itemOf
   hit-count n h f = is-hit (row .tag / 2) (row .tag % 2) (omega arith) (λ e z. f (omega arith)) n
+
+-- ---- a row's records
+
+module _ (tag : Kind → Bytes) (text : Bytes) (row : Row) where
+  -- FN of a row that has a start line
+  module _ (start : ℕ) (is : startKey (extentOf (itemOf text row)) ≡ suc start) where
+    pub start-line : (end : EndLine) (p : Part) → endIn end ≡ endOf (itemOf text row) → ItemInBounds text row → p ≡ lentPart (row .k1) (row .k2)
+        → lineIn tag text (Lent.FunctionName start end p) ≡ printRecords tag (startRecord (itemOf text row))
+    unfolding startRecord recordIn
+    start-line end p e g q =
+        one-line tag text (Lent.FunctionName start end p) (functionName start (endOf (itemOf text row)) (part text (row .k1) (row .k2)))
+        (rw (part-in text p (row .k1) (row .k2) q (g .name (started-kind text row start is)), e))
+        ∙ ap (λ (i : Item). printRecords tag (startRecord i)) (sym (started-item text row start is))
+
+  pub no-start : startKey (extentOf (itemOf text row)) ≡ 0 → printRecords tag (startRecord (itemOf text row)) ≡ []
+  unfolding extentOf startRecord printRecords concatMap
+  no-start e = go (itemOf text row) e
+    where
+      go : (i : Item) → startKey (extentOf i) ≡ 0 → printRecords tag (startRecord i) ≡ []
+      go (sectionItem spelling) e = refl
+      go (functionItem f) e = by-extent (f .extent) e
+        where
+          by-extent : (x : Option Extent) → startKey x ≡ 0 → printRecords tag (startRecord (functionItem (updated f x (f .count)))) ≡ []
+          by-extent none e = refl
+          by-extent (some x) e = absurd (omega arith)
+      go (branchItem line block branch taken) e = refl
+      go (lineItem line count checksum) e = refl
+
+  pub function-line : (p : Part) → row .tag / 2 ≡ 1 → ItemInBounds text row → p ≡ lentPart (row .k1) (row .k2) → lineIn tag text (Lent.FunctionData (row .count) p) ≡ printRecords tag (dataRecord (itemOf text row))
+  unfolding dataRecord recordIn
+  function-line p e g q =
+      rw (item-is text row 1 e) (one-line tag text (Lent.FunctionData (row .count) p) (functionData (row .count) (part text (row .k1) (row .k2))) (rw (part-in text p (row .k1) (row .k2) q (g .name e))))
+
+  pub branch-line : (t : Taken) → row .tag / 2 ≡ 2 → t ≡ lentTaken (row .tag % 2) (row .count) → lineIn tag text (Lent.BranchData (row .k1) (row .k2) (row .k3) t) ≡ printRecords tag (dataRecord (itemOf text row))
+  unfolding dataRecord recordIn
+  branch-line t e q =
+      rw (item-is text row 2 e) (one-line tag text (Lent.BranchData (row .k1) (row .k2) (row .k3) t) (branchData (row .k1) (row .k2) (row .k3) (ifGiven (row .tag % 2) (row .count))) (rw (q, taken-in)))
+
+  pub checked-line : (c : Checksum) → row .tag / 2 ≡ 3 → ItemInBounds text row → c ≡ lentChecksum (row .tag % 2) (row .k2) (row .k3) → lineIn tag text (Lent.LineData (row .k1) (row .count) c) ≡ printRecords tag (dataRecord (itemOf text row))
+  unfolding dataRecord recordIn
+  checked-line c e g q =
+      rw (item-is text row 3 e)
+      (one-line tag text (Lent.LineData (row .k1) (row .count) c) (lineData (row .k1) (row .count) (ifGiven (row .tag % 2) (part text (row .k2) (row .k3))))
+      (rw (q, checksum-in text (row .tag % 2) (row .k2) (row .k3) (omega arith) (g .checksum e))))
+
+  pub count-line : row .tag ≡ 6 → lineIn tag [] (counted (row .k1) (row .count)) ≡ printRecords tag (dataRecord (itemOf text row))
+  unfolding dataRecord itemOf recordIn checksumIn
+  count-line e = rw e (one-line tag [] (counted (row .k1) (row .count)) (lineData (row .k1) (row .count) none) refl)
+
+  pub no-data : ItemInBounds text row → row .tag / 2 ≢ 1 → row .tag / 2 ≢ 2 → row .tag / 2 ≢ 3 → printRecords tag (dataRecord (itemOf text row)) ≡ []
+  unfolding dataRecord printRecords concatMap
+  no-data g f b l = let few = g .kind in let z : row .tag / 2 ≡ 0 = omega arith in rw (item-is text row 0 z)
 
 -- ---- how many were found and hit
 

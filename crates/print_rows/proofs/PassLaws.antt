@@ -13,13 +13,13 @@ use Rattle.table.specs.declared.Row.{Row}
 use Rattle.table.specs.Places.{tabulate}
 use Rattle.table.specs.Rows.{word, rowAt}
 use Rattle.table.proofs.TabulateLaws.{length-tabulate, tabulate-cong, tabulate-split}
+use Rattle.model.specs.declared.Kind.{Kind}
 use Rattle.model.specs.Bytes.{Bytes, newline}
 use Rattle.model.specs.Limits.{u32-max}
 use Rattle.model.specs.Lists.{filter, concatMap}
 use Rattle.model.specs.Record.{Record}
 use Rattle.model.specs.Report.{Item, countOf}
 use Rattle.model.specs.Line.{printRecord}
-use Rattle.model.specs.Tags.{defaultTag}
 use Rattle.model.specs.Valid.{ItemFits}
 use Rattle.model.specs.Printing.{startRecord, dataRecord, hits, group, printRecords}
 use Rattle.model.proofs.ListLaws.{each-append, select-length}
@@ -27,58 +27,58 @@ use Rattle.table_item.specs.Items.{itemOf, ItemInBounds}
 use Rattle.print_rows.specs.Emit.{RoomFor, Emitted, Numbered, Printable, numberedItem, passRecords, hitOne}
 use Rattle.print_rows.proofs.EmitLaws.{room-first, room-then, emitted-size, emitted-both}
 
-abbrev pub lines : List Record → Bytes
-lines = printRecords defaultTag
+abbrev pub lines : (tag : Kind → Bytes) → List Record → Bytes
+lines tag = printRecords tag
 
-pub lines-append : (xs ys : List Record) → lines (xs ++ ys) ≡ lines xs ++ lines ys
+pub lines-append : (tag : Kind → Bytes) (xs ys : List Record) → lines tag (xs ++ ys) ≡ lines tag xs ++ lines tag ys
 unfolding printRecords
-lines-append xs ys = each-append (λ r. printRecord defaultTag r ++ (newline ∷ [])) xs ys
+lines-append tag xs ys = each-append (λ r. printRecord tag r ++ (newline ∷ [])) xs ys
 
 -- ---- what a pass prints of an item
 
-pub pass-starts : (starts : Bool) (x : Item) → starts ≡ true → lines (startRecord x) ≡ lines (passRecords starts x)
-pass-starts starts x e = rw e
+pub pass-starts : (tag : Kind → Bytes) (starts : Bool) (x : Item) → starts ≡ true → lines tag (startRecord x) ≡ lines tag (passRecords starts x)
+pass-starts tag starts x e = rw e
 
-pub pass-data : (starts : Bool) (x : Item) → starts ≡ false → lines (dataRecord x) ≡ lines (passRecords starts x)
-pass-data starts x e = rw e
+pub pass-data : (tag : Kind → Bytes) (starts : Bool) (x : Item) → starts ≡ false → lines tag (dataRecord x) ≡ lines tag (passRecords starts x)
+pass-data tag starts x e = rw e
 
 -- ---- two records, one after the other
 
-module _ (write : Bool) (out : Bytes) (at : ℕ) (x y : Record) (room : RoomFor write out at (lines (x ∷ y ∷ []))) where
-  split : RoomFor write out at (lines (x ∷ []) ++ lines (y ∷ []))
-  split = rw (lines-append (x ∷ []) (y ∷ [])) at room
+module _ (tag : Kind → Bytes) (write : Bool) (out : Bytes) (at : ℕ) (x y : Record) (room : RoomFor write out at (lines tag (x ∷ y ∷ []))) where
+  split : RoomFor write out at (lines tag (x ∷ []) ++ lines tag (y ∷ []))
+  split = rw (lines-append tag (x ∷ []) (y ∷ [])) at room
 
-  pub two-first : RoomFor write out at (lines (x ∷ []))
-  two-first = room-first write out at (lines (x ∷ [])) (lines (y ∷ [])) split
+  pub two-first : RoomFor write out at (lines tag (x ∷ []))
+  two-first = room-first write out at (lines tag (x ∷ [])) (lines tag (y ∷ [])) split
 
-  module _ (few : length out * 1 < 2 ^ 63) {out₁ : Bytes} {r₁ : ℕ} (first : Emitted write out out₁ at (lines (x ∷ [])) r₁) where
-    pub two-then : RoomFor write out₁ r₁ (lines (y ∷ []))
-    two-then = room-then write out at (lines (x ∷ [])) (lines (y ∷ [])) split few first
+  module _ (few : length out * 1 < 2 ^ 63) {out₁ : Bytes} {r₁ : ℕ} (first : Emitted write out out₁ at (lines tag (x ∷ [])) r₁) where
+    pub two-then : RoomFor write out₁ r₁ (lines tag (y ∷ []))
+    two-then = room-then write out at (lines tag (x ∷ [])) (lines tag (y ∷ [])) split few first
 
-    pub two-emitted : {out₂ : Bytes} {r₂ : ℕ} → Emitted write out₁ out₂ r₁ (lines (y ∷ [])) r₂ → Emitted write out out₂ at (lines (x ∷ y ∷ [])) r₂
-    two-emitted second = rw (lines-append (x ∷ []) (y ∷ [])) (emitted-both write out at (lines (x ∷ [])) (lines (y ∷ [])) split few first second)
+    pub two-emitted : {out₂ : Bytes} {r₂ : ℕ} → Emitted write out₁ out₂ r₁ (lines tag (y ∷ [])) r₂ → Emitted write out out₂ at (lines tag (x ∷ y ∷ [])) r₂
+    two-emitted second = rw (lines-append tag (x ∷ []) (y ∷ [])) (emitted-both write out at (lines tag (x ∷ [])) (lines tag (y ∷ [])) split few first second)
 
 -- ---- each row's records, for the first i of n rows
 
-module _ (records : Item → List Record) (f : ℕ → Item) where
+module _ (tag : Kind → Bytes) (records : Item → List Record) (f : ℕ → Item) where
   abbrev pub printed : ℕ → Bytes
-  printed n = lines (concatMap records (tabulate f n))
+  printed n = lines tag (concatMap records (tabulate f n))
 
   -- those from row i on
   abbrev rest : ℕ → ℕ → Bytes
-  rest i n = lines (concatMap records (tabulate (λ k. f (i + k)) n))
+  rest i n = lines tag (concatMap records (tabulate (λ k. f (i + k)) n))
 
   printed-split : (i n : ℕ) → printed (i + n) ≡ printed i ++ rest i n
   printed-split i n =
-      ap (λ (l : List Item). lines (concatMap records l)) (tabulate-split f i n)
-      ∙ ap lines (each-append records (tabulate f i) (tabulate (λ k. f (i + k)) n))
-      ∙ lines-append (concatMap records (tabulate f i)) (concatMap records (tabulate (λ k. f (i + k)) n))
+      ap (λ (l : List Item). lines tag (concatMap records l)) (tabulate-split f i n)
+      ∙ ap (λ (l : List Record). lines tag l) (each-append records (tabulate f i) (tabulate (λ k. f (i + k)) n))
+      ∙ lines-append tag (concatMap records (tabulate f i)) (concatMap records (tabulate (λ k. f (i + k)) n))
 
-  rest-one : (i : ℕ) → rest i 1 ≡ lines (records (f i))
+  rest-one : (i : ℕ) → rest i 1 ≡ lines tag (records (f i))
   unfolding concatMap tabulate
   rest-one i =
-      ap lines (append-nil (records (f (i + 0))))
-      ∙ ap (λ (k : ℕ). lines (records (f k))) (let z : i + 0 ≡ i = omega arith in z)
+      ap (λ (l : List Record). lines tag l) (append-nil (records (f (i + 0))))
+      ∙ ap (λ (k : ℕ). lines tag (records (f k))) (let z : i + 0 ≡ i = omega arith in z)
 
   -- the first i rows are emitted, and then m more
   module _ (write : Bool) (old : Bytes) (at n : ℕ) (all more : Bytes) (is : all ≡ printed n ++ more) (room : RoomFor write old at all) where
@@ -127,53 +127,53 @@ part-printable {text} {ws} {numbers} π i m h = record {
 }
 
 -- the n rows whose numbers are at word `numbers` on are to be printed, and then more
-pub record Rows (records : Item → List Record) (text ws : List ℕ) (numbers n : ℕ) (write : Bool) (old : Bytes) (at : ℕ) (all more : Bytes) : Type 0 where
+pub record Rows (tag : Kind → Bytes) (records : Item → List Record) (text ws : List ℕ) (numbers n : ℕ) (write : Bool) (old : Bytes) (at : ℕ) (all more : Bytes) : Type 0 where
   pub rows : Printable text ws numbers n
-  pub is : all ≡ printed records (numberedItem text ws numbers) n ++ more
+  pub is : all ≡ printed tag records (numberedItem text ws numbers) n ++ more
   pub room : RoomFor write old at all
   pub few : length old * 1 < 2 ^ 63
 
-module _ {records : Item → List Record} {text ws : List ℕ} {numbers n : ℕ} {write : Bool} {old : Bytes} {at : ℕ} {all more : Bytes} (p : Rows records text ws numbers n write old at all more)
-    (out : Bytes) (end i : ℕ) (so-far : Emitted write old out at (printed records (numberedItem text ws numbers) i) end) where
+module _ {tag : Kind → Bytes} {records : Item → List Record} {text ws : List ℕ} {numbers n : ℕ} {write : Bool} {old : Bytes} {at : ℕ} {all more : Bytes} (p : Rows tag records text ws numbers n write old at all more)
+    (out : Bytes) (end i : ℕ) (so-far : Emitted write old out at (printed tag records (numberedItem text ws numbers) i) end) where
   pub rows-size : i ≤ n → length out ≡ length old
-  rows-size h = emitted-size (room-so-far records (numberedItem text ws numbers) write old at n all more (p .is) (p .room) i h) so-far
+  rows-size h = emitted-size (room-so-far tag records (numberedItem text ws numbers) write old at n all more (p .is) (p .room) i h) so-far
 
   pub rows-more : i ≤ n → n ≤ i → RoomFor write out end more
   rows-more h k =
-      room-then write old at (printed records (numberedItem text ws numbers) n) more (rw (p .is) at (p .room)) (p .few)
-      (rw (printed-done records (numberedItem text ws numbers) i n h k) at so-far)
+      room-then write old at (printed tag records (numberedItem text ws numbers) n) more (rw (p .is) at (p .room)) (p .few)
+      (rw (printed-done tag records (numberedItem text ws numbers) i n h k) at so-far)
 
   pub rows-emitted : i ≤ n → n ≤ i → {out′ : Bytes} {r : ℕ} → Emitted write out out′ end more r → Emitted write old out′ at all r
   rows-emitted h k e =
       rw (p .is)
-      (emitted-both write old at (printed records (numberedItem text ws numbers) n) more (rw (p .is) at (p .room)) (p .few)
-      (rw (printed-done records (numberedItem text ws numbers) i n h k) at so-far) e)
+      (emitted-both write old at (printed tag records (numberedItem text ws numbers) n) more (rw (p .is) at (p .room)) (p .few)
+      (rw (printed-done tag records (numberedItem text ws numbers) i n h k) at so-far) e)
 
   module _ (m : ℕ) (within : i + m ≤ n) where
-    part-is : lines (concatMap records (tabulate (λ k. numberedItem text ws numbers (i + k)) m)) ≡ printed records (numberedItem text ws (numbers + i)) m
-    part-is = ap (λ (l : List Item). lines (concatMap records l)) (part-items text ws numbers i m)
+    part-is : lines tag (concatMap records (tabulate (λ k. numberedItem text ws numbers (i + k)) m)) ≡ printed tag records (numberedItem text ws (numbers + i)) m
+    part-is = ap (λ (l : List Item). lines tag (concatMap records l)) (part-items text ws numbers i m)
 
-    pub part-ready : RoomFor write out end (printed records (numberedItem text ws (numbers + i)) m)
-    part-ready = rw part-is at (next-room records (numberedItem text ws numbers) write old at n all more (p .is) (p .room) (p .few) out end i m within so-far)
+    pub part-ready : RoomFor write out end (printed tag records (numberedItem text ws (numbers + i)) m)
+    part-ready = rw part-is at (next-room tag records (numberedItem text ws numbers) write old at n all more (p .is) (p .room) (p .few) out end i m within so-far)
 
-    pub part-emitted : {out′ : Bytes} {r : ℕ} → Emitted write out out′ end (printed records (numberedItem text ws (numbers + i)) m) r
-        → Emitted write old out′ at (printed records (numberedItem text ws numbers) (i + m)) r
+    pub part-emitted : {out′ : Bytes} {r : ℕ} → Emitted write out out′ end (printed tag records (numberedItem text ws (numbers + i)) m) r
+        → Emitted write old out′ at (printed tag records (numberedItem text ws numbers) (i + m)) r
     part-emitted e =
-        next-emitted records (numberedItem text ws numbers) write old at n all more (p .is) (p .room) (p .few) out end i m within so-far (rw part-is e)
+        next-emitted tag records (numberedItem text ws numbers) write old at n all more (p .is) (p .room) (p .few) out end i m within so-far (rw part-is e)
 
   module _ (within : i < n) (row : Row) (here : row ≡ rowAt ws (word ws (numbers + i))) where
-    row-is : lines (concatMap records (tabulate (λ k. numberedItem text ws numbers (i + k)) 1)) ≡ lines (records (itemOf text row))
-    row-is = rw here (rest-one records (numberedItem text ws numbers) i)
+    row-is : lines tag (concatMap records (tabulate (λ k. numberedItem text ws numbers (i + k)) 1)) ≡ lines tag (records (itemOf text row))
+    row-is = rw here (rest-one tag records (numberedItem text ws numbers) i)
 
-    pub row-ready : (ItemInBounds text row × ItemFits (itemOf text row)) × RoomFor write out end (lines (records (itemOf text row)))
+    pub row-ready : (ItemInBounds text row × ItemFits (itemOf text row)) × RoomFor write out end (lines tag (records (itemOf text row)))
     row-ready = (
       rw here (p .rows .good i within, p .rows .fits i within),
-      rw row-is at (next-room records (numberedItem text ws numbers) write old at n all more (p .is) (p .room) (p .few) out end i 1 (omega arith) so-far),
+      rw row-is at (next-room tag records (numberedItem text ws numbers) write old at n all more (p .is) (p .room) (p .few) out end i 1 (omega arith) so-far),
     )
 
-    pub row-emitted : {out′ : Bytes} {r : ℕ} → Emitted write out out′ end (lines (records (itemOf text row))) r → Emitted write old out′ at (printed records (numberedItem text ws numbers) (i + 1)) r
+    pub row-emitted : {out′ : Bytes} {r : ℕ} → Emitted write out out′ end (lines tag (records (itemOf text row))) r → Emitted write old out′ at (printed tag records (numberedItem text ws numbers) (i + 1)) r
     row-emitted e =
-        next-emitted records (numberedItem text ws numbers) write old at n all more (p .is) (p .room) (p .few) out end i 1 (omega arith) so-far (rw row-is e)
+        next-emitted tag records (numberedItem text ws numbers) write old at n all more (p .is) (p .room) (p .few) out end i 1 (omega arith) so-far (rw row-is e)
 
 -- ---- how many are hit
 
@@ -218,14 +218,14 @@ module _ (f : ℕ → Item) where
 
 -- ---- a group
 
-module _ (found hit : ℕ → Record) (f : ℕ → Item) where
-  pub group-none : (n : ℕ) → n ≡ 0 → lines (group found hit (tabulate f n)) ≡ []
+module _ (tag : Kind → Bytes) (found hit : ℕ → Record) (f : ℕ → Item) where
+  pub group-none : (n : ℕ) → n ≡ 0 → lines tag (group found hit (tabulate f n)) ≡ []
   unfolding printRecords concatMap group tabulate
   group-none n e = rw e
 
-  pub group-is : (n : ℕ) → 0 < n → lines (group found hit (tabulate f n)) ≡ printed dataRecord f n ++ lines (found n ∷ hit (hits (tabulate f n)) ∷ [])
+  pub group-is : (n : ℕ) → 0 < n → lines tag (group found hit (tabulate f n)) ≡ printed tag dataRecord f n ++ lines tag (found n ∷ hit (hits (tabulate f n)) ∷ [])
   unfolding group tabulate
   group-is zero h = absurd (omega arith)
   group-is (suc n) h =
-      lines-append (concatMap dataRecord (tabulate f (suc n))) (found (length (tabulate f (suc n))) ∷ hit (hits (tabulate f (suc n))) ∷ [])
-      ∙ ap (λ (k : ℕ). printed dataRecord f (suc n) ++ lines (found k ∷ hit (hits (tabulate f (suc n))) ∷ [])) (length-tabulate f (suc n))
+      lines-append tag (concatMap dataRecord (tabulate f (suc n))) (found (length (tabulate f (suc n))) ∷ hit (hits (tabulate f (suc n))) ∷ [])
+      ∙ ap (λ (k : ℕ). printed tag dataRecord f (suc n) ++ lines tag (found k ∷ hit (hits (tabulate f (suc n))) ∷ [])) (length-tabulate f (suc n))

@@ -2,6 +2,7 @@
 // saturates at 2^64 − 1; one writes: "Each line is written into the rest of the output".
 use model::Checksum;
 use model::EndLine;
+use model::Kind;
 use model::Part;
 use model::Record;
 use model::Taken;
@@ -17,7 +18,7 @@ ghost use Rattle.model.specs.Lists.{concatMap};
 ghost use Rattle.model.specs.Answer.{accepted};
 ghost use Rattle.model.specs.Limits.{u32-max, u64-max};
 ghost use Rattle.model.specs.Record.{testName, sourceFile, endOfRecord};
-ghost use Rattle.model.specs.Tags.{defaultTag};
+ghost use Rattle.model.specs.TagTable.{tagsOf, areTags};
 ghost use Rattle.model.specs.Report.{extentOf};
 ghost use Rattle.model.specs.Parts.{endIn, recordIn};
 ghost use Rattle.model.specs.Printing.{startRecord, dataRecord, group, hits, printRecords};
@@ -37,18 +38,26 @@ fn saturating_add(at: usize, n: usize) -> usize
 }
 
 // One record's line. A record with a part outside text has none.
-fn emit_record(text: &[u8], record: Record, out: &mut [u8], at: usize, write: bool) -> usize
-    requires { ⌜ RoomFor write (now out) at (lineIn (now text) «record») ⌝ }
-    ensures { λ r. ⌜ Emitted write (now (out .entry)) (now (out .exit)) at (lineIn (now (text .entry)) «record») r ⌝ }
+fn emit_record(
+    tags: &[u8],
+    text: &[u8],
+    record: Record,
+    out: &mut [u8],
+    at: usize,
+    write: bool,
+) -> usize
+    requires { ⌜ areTags (now tags) ≡ true ⌝ }
+    requires { ⌜ RoomFor write (now out) at (lineIn (tagsOf (now tags)) (now text) «record») ⌝ }
+    ensures { λ r. ⌜ Emitted write (now (out .entry)) (now (out .exit)) at (lineIn (tagsOf (now (tags .entry))) (now (text .entry)) «record») r ⌝ }
 {
     if write {
-        let wrote = record_display::print_line(text, record, &mut out[at..]);
+        let wrote = record_display::print_line(tags, text, record, &mut out[at..]);
         let WriteAnswer::Written(n) = wrote else {
             return at;
         };
         return at + n;
     }
-    saturating_add(at, record_display::line_len(text, record))
+    saturating_add(at, record_display::line_len(tags, text, record))
 }
 
 // The length of an end line and the comma before it.
@@ -62,19 +71,22 @@ fn end_len(end: EndLine) -> usize
 }
 
 // The offset behind the FN of a function that has a start line, computed from its row.
-fn measure_start(row: Row, start: u64, at: usize) -> usize
+fn measure_start(tags: &[u8], row: Row, start: u64, at: usize) -> usize
+    requires { ⌜ areTags (now tags) ≡ true ⌝ }
     requires { ⌜ ((text : List ℕ) → startKey (extentOf (itemOf text row)) ≡ suc start) ⌝ }
-    ensures { λ r. ⌜ ((text : List ℕ) → ItemInBounds text row → r ≡ min (at + length (printRecords defaultTag (startRecord (itemOf text row)))) u64-max) ⌝ }
+    ensures { λ r. ⌜ ((text : List ℕ) → ItemInBounds text row → r ≡ min (at + length (printRecords (tagsOf (now (tags .entry))) (startRecord (itemOf text row)))) u64-max) ⌝ }
 {
-    let numbers = 5 + format::decimal_len(start) + end_len(table_item::end_line(row));
+    let tag = tag_table::tag_len(tags, Kind::FunctionName);
+    let numbers = 3 + tag + format::decimal_len(start) + end_len(table_item::end_line(row));
     saturating_add(saturating_add(at, numbers), row.k2 as usize)
 }
 
 // FN, where a function has a start.
-fn emit_start(text: &[u8], row: Row, out: &mut [u8], at: usize, write: bool) -> usize
+fn emit_start(tags: &[u8], text: &[u8], row: Row, out: &mut [u8], at: usize, write: bool) -> usize
+    requires { ⌜ areTags (now tags) ≡ true ⌝ }
     requires { ⌜ ItemInBounds (now text) row × ItemFits (itemOf (now text) row) ⌝ }
-    requires { ⌜ RoomFor write (now out) at (printRecords defaultTag (startRecord (itemOf (now text) row))) ⌝ }
-    ensures { λ r. ⌜ Emitted write (now (out .entry)) (now (out .exit)) at (printRecords defaultTag (startRecord (itemOf (now (text .entry)) row))) r ⌝ }
+    requires { ⌜ RoomFor write (now out) at (printRecords (tagsOf (now tags)) (startRecord (itemOf (now text) row))) ⌝ }
+    ensures { λ r. ⌜ Emitted write (now (out .entry)) (now (out .exit)) at (printRecords (tagsOf (now (tags .entry))) (startRecord (itemOf (now (text .entry)) row))) r ⌝ }
 {
     let key = table_item::start_key(row);
     if key == 0 {
@@ -87,9 +99,9 @@ fn emit_start(text: &[u8], row: Row, out: &mut [u8], at: usize, write: bool) -> 
             end: table_item::end_line(row),
             name: part_of(row.k1, row.k2),
         };
-        return emit_record(text, record, out, at, write);
+        return emit_record(tags, text, record, out, at, write);
     }
-    measure_start(row, start, at)
+    measure_start(tags, row, start, at)
 }
 
 fn part_of(start: u64, len: u64) -> Part
@@ -120,10 +132,11 @@ fn checksum_of(row: Row) -> Checksum
 }
 
 // FNDA, BRDA or DA, as a record.
-fn emit_item(text: &[u8], row: Row, out: &mut [u8], at: usize, write: bool) -> usize
+fn emit_item(tags: &[u8], text: &[u8], row: Row, out: &mut [u8], at: usize, write: bool) -> usize
+    requires { ⌜ areTags (now tags) ≡ true ⌝ }
     requires { ⌜ ItemInBounds (now text) row × ItemFits (itemOf (now text) row) ⌝ }
-    requires { ⌜ RoomFor write (now out) at (printRecords defaultTag (dataRecord (itemOf (now text) row))) ⌝ }
-    ensures { λ r. ⌜ Emitted write (now (out .entry)) (now (out .exit)) at (printRecords defaultTag (dataRecord (itemOf (now (text .entry)) row))) r ⌝ }
+    requires { ⌜ RoomFor write (now out) at (printRecords (tagsOf (now tags)) (dataRecord (itemOf (now text) row))) ⌝ }
+    ensures { λ r. ⌜ Emitted write (now (out .entry)) (now (out .exit)) at (printRecords (tagsOf (now (tags .entry))) (dataRecord (itemOf (now (text .entry)) row))) r ⌝ }
 {
     let kind = row.tag / 2;
     if kind == table_item::FUNCTION {
@@ -131,7 +144,7 @@ fn emit_item(text: &[u8], row: Row, out: &mut [u8], at: usize, write: bool) -> u
             count: row.count,
             name: part_of(row.k1, row.k2),
         };
-        return emit_record(text, record, out, at, write);
+        return emit_record(tags, text, record, out, at, write);
     }
     if kind == table_item::BRANCH {
         let record = Record::BranchData {
@@ -140,7 +153,7 @@ fn emit_item(text: &[u8], row: Row, out: &mut [u8], at: usize, write: bool) -> u
             branch: row.k3 as u32,
             taken: taken_of(row),
         };
-        return emit_record(text, record, out, at, write);
+        return emit_record(tags, text, record, out, at, write);
     }
     if kind == table_item::LINE {
         let record = Record::LineData {
@@ -148,80 +161,98 @@ fn emit_item(text: &[u8], row: Row, out: &mut [u8], at: usize, write: bool) -> u
             count: row.count,
             checksum: checksum_of(row),
         };
-        return emit_record(text, record, out, at, write);
+        return emit_record(tags, text, record, out, at, write);
     }
     at
 }
 
 // The offset behind a row's FNDA, BRDA or DA, computed from the row, without a record.
-fn measure_data(row: Row, at: usize) -> usize
-    ensures { λ r. ⌜ ((text : List ℕ) → ItemInBounds text row → r ≡ min (at + length (printRecords defaultTag (dataRecord (itemOf text row)))) u64-max) ⌝ }
+fn measure_data(tags: &[u8], row: Row, at: usize) -> usize
+    requires { ⌜ areTags (now tags) ≡ true ⌝ }
+    ensures { λ r. ⌜ ((text : List ℕ) → ItemInBounds text row → r ≡ min (at + length (printRecords (tagsOf (now (tags .entry))) (dataRecord (itemOf text row)))) u64-max) ⌝ }
 {
     let kind = row.tag / 2;
     if kind == table_item::LINE {
-        let numbers = 5 + format::decimal_len(row.k1) + format::decimal_len(row.count);
+        let tag = tag_table::tag_len(tags, Kind::LineData);
+        let numbers = 3 + tag + format::decimal_len(row.k1) + format::decimal_len(row.count);
         if row.tag % 2 == 0 {
             return saturating_add(at, numbers);
         }
         return saturating_add(saturating_add(at, numbers + 1), row.k3 as usize);
     }
     if kind == table_item::BRANCH {
-        let key = format::decimal_len(row.k1)
+        let key = tag_table::tag_len(tags, Kind::BranchData)
+            + format::decimal_len(row.k1)
             + format::decimal_len(row.k2)
             + format::decimal_len(row.k3);
         if row.tag % 2 == 0 {
-            return saturating_add(at, key + 10);
+            return saturating_add(at, key + 6);
         }
-        return saturating_add(at, key + 9 + format::decimal_len(row.count));
+        return saturating_add(at, key + 5 + format::decimal_len(row.count));
     }
     if kind == table_item::FUNCTION {
-        let number = 7 + format::decimal_len(row.count);
+        let tag = tag_table::tag_len(tags, Kind::FunctionData);
+        let number = 3 + tag + format::decimal_len(row.count);
         return saturating_add(saturating_add(at, number), row.k2 as usize);
     }
     at
 }
 
 // DA of a line with no checksum, written with no record made.
-fn emit_line_data(line: u32, count: u64, out: &mut [u8], at: usize) -> usize
-    requires { ⌜ RoomFor true (now out) at (lineIn [] (counted line count)) ⌝ }
-    ensures { λ r. ⌜ Emitted true (now (out .entry)) (now (out .exit)) at (lineIn [] (counted line count)) r ⌝ }
+fn emit_line_data(tags: &[u8], line: u32, count: u64, out: &mut [u8], at: usize) -> usize
+    requires { ⌜ areTags (now tags) ≡ true ⌝ }
+    requires { ⌜ RoomFor true (now out) at (lineIn (tagsOf (now tags)) [] (counted line count)) ⌝ }
+    ensures { λ r. ⌜ Emitted true (now (out .entry)) (now (out .exit)) at (lineIn (tagsOf (now (tags .entry))) [] (counted line count)) r ⌝ }
 {
-    let wrote = record_display::print_line_data(line, count, &mut out[at..]);
+    let wrote = record_display::print_line_data(tags, line, count, &mut out[at..]);
     let WriteAnswer::Written(n) = wrote else {
         return at;
     };
     at + n
 }
 
-// FNDA, BRDA or DA.
-fn emit_data(text: &[u8], row: Row, out: &mut [u8], at: usize, write: bool) -> usize
+// FNDA, BRDA or DA. Under the default tags DA makes no record.
+fn emit_data(tags: &[u8], text: &[u8], row: Row, out: &mut [u8], at: usize, write: bool) -> usize
+    requires { ⌜ areTags (now tags) ≡ true ⌝ }
     requires { ⌜ ItemInBounds (now text) row × ItemFits (itemOf (now text) row) ⌝ }
-    requires { ⌜ RoomFor write (now out) at (printRecords defaultTag (dataRecord (itemOf (now text) row))) ⌝ }
-    ensures { λ r. ⌜ Emitted write (now (out .entry)) (now (out .exit)) at (printRecords defaultTag (dataRecord (itemOf (now (text .entry)) row))) r ⌝ }
+    requires { ⌜ RoomFor write (now out) at (printRecords (tagsOf (now tags)) (dataRecord (itemOf (now text) row))) ⌝ }
+    ensures { λ r. ⌜ Emitted write (now (out .entry)) (now (out .exit)) at (printRecords (tagsOf (now (tags .entry))) (dataRecord (itemOf (now (text .entry)) row))) r ⌝ }
 {
     if write {
         if row.tag == table_item::LINE * 2 {
-            return emit_line_data(row.k1 as u32, row.count, out, at);
+            if tags.len() == 0 {
+                return emit_line_data(tags, row.k1 as u32, row.count, out, at);
+            }
         }
-        return emit_item(text, row, out, at, write);
+        return emit_item(tags, text, row, out, at, write);
     }
-    measure_data(row, at)
+    measure_data(tags, row, at)
 }
 
 // What one pass prints of a row: FN where `starts`, and FNDA, BRDA or DA in the other.
-fn emit_row(text: &[u8], row: Row, starts: bool, out: &mut [u8], at: usize, write: bool) -> usize
+fn emit_row(
+    tags: &[u8],
+    text: &[u8],
+    row: Row,
+    starts: bool,
+    out: &mut [u8],
+    at: usize,
+    write: bool,
+) -> usize
+    requires { ⌜ areTags (now tags) ≡ true ⌝ }
     requires { ⌜ ItemInBounds (now text) row × ItemFits (itemOf (now text) row) ⌝ }
-    requires { ⌜ RoomFor write (now out) at (printRecords defaultTag (passRecords starts (itemOf (now text) row))) ⌝ }
-    ensures { λ r. ⌜ Emitted write (now (out .entry)) (now (out .exit)) at (printRecords defaultTag (passRecords starts (itemOf (now (text .entry)) row))) r ⌝ }
+    requires { ⌜ RoomFor write (now out) at (printRecords (tagsOf (now tags)) (passRecords starts (itemOf (now text) row))) ⌝ }
+    ensures { λ r. ⌜ Emitted write (now (out .entry)) (now (out .exit)) at (printRecords (tagsOf (now (tags .entry))) (passRecords starts (itemOf (now (text .entry)) row))) r ⌝ }
 {
     if starts {
-        return emit_start(text, row, out, at, write);
+        return emit_start(tags, text, row, out, at, write);
     }
-    emit_data(text, row, out, at, write)
+    emit_data(tags, text, row, out, at, write)
 }
 
 // One pass over the n rows whose numbers are at word `numbers` on.
 pub fn emit_rows(
+    tags: &[u8],
     text: &[u8],
     words: &[u64],
     numbers: usize,
@@ -231,16 +262,17 @@ pub fn emit_rows(
     at: usize,
     write: bool,
 ) -> usize
+    requires { ⌜ areTags (now tags) ≡ true ⌝ }
     requires { ⌜ Printable (now text) (now words) numbers n ⌝ }
-    requires { ⌜ RoomFor write (now out) at (printRecords defaultTag (concatMap (passRecords starts) (tabulate (numberedItem (now text) (now words) numbers) n))) ⌝ }
-    ensures { λ r. ⌜ Emitted write (now (out .entry)) (now (out .exit)) at (printRecords defaultTag (concatMap (passRecords starts) (tabulate (numberedItem (now (text .entry)) (now (words .entry)) numbers) n))) r ⌝ }
+    requires { ⌜ RoomFor write (now out) at (printRecords (tagsOf (now tags)) (concatMap (passRecords starts) (tabulate (numberedItem (now text) (now words) numbers) n))) ⌝ }
+    ensures { λ r. ⌜ Emitted write (now (out .entry)) (now (out .exit)) at (printRecords (tagsOf (now (tags .entry))) (concatMap (passRecords starts) (tabulate (numberedItem (now (text .entry)) (now (words .entry)) numbers) n))) r ⌝ }
 {
     let mut end = at;
     let mut i = 0;
     while i < n {
         let j = words[numbers + i] as usize;
         let row = table::read_row(words, j);
-        end = emit_row(text, row, starts, out, end, write);
+        end = emit_row(tags, text, row, starts, out, end, write);
         i += 1;
     }
     end
@@ -322,6 +354,7 @@ fn batch_of(left: usize) -> usize
 // carries the hit number". An empty group prints nothing. The rows are scattered in memory, so the hits of a batch are
 // counted first, in a short loop that lets many cache misses overlap.
 pub fn emit_group(
+    tags: &[u8],
     text: &[u8],
     words: &[u64],
     kind: u64,
@@ -331,10 +364,11 @@ pub fn emit_group(
     at: usize,
     write: bool,
 ) -> usize
+    requires { ⌜ areTags (now tags) ≡ true ⌝ }
     requires { ⌜ Printable (now text) (now words) numbers n ⌝ }
     requires { ⌜ (1 ≤ kind) × (kind ≤ 3) × (n ≤ u32-max) ⌝ }
-    requires { ⌜ RoomFor write (now out) at (printRecords defaultTag (group (foundOf kind) (hitOf kind) (tabulate (numberedItem (now text) (now words) numbers) n))) ⌝ }
-    ensures { λ r. ⌜ Emitted write (now (out .entry)) (now (out .exit)) at (printRecords defaultTag (group (foundOf kind) (hitOf kind) (tabulate (numberedItem (now (text .entry)) (now (words .entry)) numbers) n))) r ⌝ }
+    requires { ⌜ RoomFor write (now out) at (printRecords (tagsOf (now tags)) (group (foundOf kind) (hitOf kind) (tabulate (numberedItem (now text) (now words) numbers) n))) ⌝ }
+    ensures { λ r. ⌜ Emitted write (now (out .entry)) (now (out .exit)) at (printRecords (tagsOf (now (tags .entry))) (group (foundOf kind) (hitOf kind) (tabulate (numberedItem (now (text .entry)) (now (words .entry)) numbers) n))) r ⌝ }
 {
     if n == 0 {
         return at;
@@ -345,29 +379,38 @@ pub fn emit_group(
     while i < n {
         let m = batch_of(n - i);
         hit = hit + count_hits(words, numbers + i, m);
-        end = emit_rows(text, words, numbers + i, m, false, out, end, write);
+        end = emit_rows(tags, text, words, numbers + i, m, false, out, end, write);
         i += m;
     }
-    let found = emit_record(text, found_record(kind, n as u32), out, end, write);
-    emit_record(text, hit_record(kind, hit), out, found, write)
+    let found = emit_record(tags, text, found_record(kind, n as u32), out, end, write);
+    emit_record(tags, text, hit_record(kind, hit), out, found, write)
 }
 
 // TN and SF of a section's header row.
-pub fn emit_head(text: &[u8], row: Row, out: &mut [u8], at: usize, write: bool) -> usize
+pub fn emit_head(
+    tags: &[u8],
+    text: &[u8],
+    row: Row,
+    out: &mut [u8],
+    at: usize,
+    write: bool,
+) -> usize
+    requires { ⌜ areTags (now tags) ≡ true ⌝ }
     requires { ⌜ (row .test + row .«test_len» ≤ length (now text)) × (row .path + row .«path_len» ≤ length (now text)) ⌝ }
-    requires { ⌜ RoomFor write (now out) at (printRecords defaultTag (testName (part (now text) (row .test) (row .«test_len»)) ∷ sourceFile (part (now text) (row .path) (row .«path_len»)) ∷ [])) ⌝ }
-    ensures { λ r. ⌜ Emitted write (now (out .entry)) (now (out .exit)) at (printRecords defaultTag (testName (part (now (text .entry)) (row .test) (row .«test_len»)) ∷ sourceFile (part (now (text .entry)) (row .path) (row .«path_len»)) ∷ [])) r ⌝ }
+    requires { ⌜ RoomFor write (now out) at (printRecords (tagsOf (now tags)) (testName (part (now text) (row .test) (row .«test_len»)) ∷ sourceFile (part (now text) (row .path) (row .«path_len»)) ∷ [])) ⌝ }
+    ensures { λ r. ⌜ Emitted write (now (out .entry)) (now (out .exit)) at (printRecords (tagsOf (now (tags .entry))) (testName (part (now (text .entry)) (row .test) (row .«test_len»)) ∷ sourceFile (part (now (text .entry)) (row .path) (row .«path_len»)) ∷ [])) r ⌝ }
 {
     let test = part_of(row.test, row.test_len);
-    let end = emit_record(text, Record::TestName(test), out, at, write);
+    let end = emit_record(tags, text, Record::TestName(test), out, at, write);
     let path = part_of(row.path, row.path_len);
-    emit_record(text, Record::SourceFile(path), out, end, write)
+    emit_record(tags, text, Record::SourceFile(path), out, end, write)
 }
 
 // end_of_record.
-pub fn emit_end(text: &[u8], out: &mut [u8], at: usize, write: bool) -> usize
-    requires { ⌜ RoomFor write (now out) at (printRecords defaultTag (endOfRecord ∷ [])) ⌝ }
-    ensures { λ r. ⌜ Emitted write (now (out .entry)) (now (out .exit)) at (printRecords defaultTag (endOfRecord ∷ [])) r ⌝ }
+pub fn emit_end(tags: &[u8], text: &[u8], out: &mut [u8], at: usize, write: bool) -> usize
+    requires { ⌜ areTags (now tags) ≡ true ⌝ }
+    requires { ⌜ RoomFor write (now out) at (printRecords (tagsOf (now tags)) (endOfRecord ∷ [])) ⌝ }
+    ensures { λ r. ⌜ Emitted write (now (out .entry)) (now (out .exit)) at (printRecords (tagsOf (now (tags .entry))) (endOfRecord ∷ [])) r ⌝ }
 {
-    emit_record(text, Record::EndOfRecord, out, at, write)
+    emit_record(tags, text, Record::EndOfRecord, out, at, write)
 }

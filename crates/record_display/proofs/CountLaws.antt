@@ -5,14 +5,15 @@ use mathlib.Core.Bool.{true}
 use mathlib.Core.List.{List, [], _∷_, _++_, append-nil}
 use native.Mathlib.Omega.{arith}
 use lib.Dec.{lit≤}
-use lib.ListN.{length, take, drop, set}
+use lib.ListN.{length, take, drop, set, length-append}
 use mir.Val.{Fits}
 use mir.Syntax.{w64}
+use Rattle.model.specs.declared.Kind.{Kind}
 use Rattle.model.specs.declared.Kind.the-variants as Kd
 use Rattle.model.specs.declared.WriteAnswer.the-variants.{Written}
 use Rattle.model.specs.Bytes.{Bytes}
 use Rattle.model.specs.Number.{decimal}
-use Rattle.model.specs.Tags.{defaultTag}
+use Rattle.model.specs.TagTable.{tagsOf, areTags}
 use Rattle.model.specs.Output.{outputAfter}
 use Rattle.model.specs.Calls.{writeAnswer}
 use Rattle.model.specs.Parts.{printLine}
@@ -34,70 +35,71 @@ both line count = pair 58 line 44 count
 abbrev numbers : ℕ → ℕ → List ℕ
 numbers line count = line ∷ count ∷ []
 
-abbrev tag : Bytes
-tag = defaultTag Kd.LineData
+abbrev head : (tag : Kind → Bytes) → ℕ → ℕ → Bytes
+head tag line count = headOf tag Kd.LineData (numbers line count) 2
 
-abbrev head : ℕ → ℕ → Bytes
-head line count = headOf Kd.LineData (numbers line count) 2
+abbrev fields : (tag : Kind → Bytes) → ℕ → ℕ → Bytes
+fields tag line count = fieldsText tag [] Kd.LineData (numbers line count) 2 L.Nothing
 
-abbrev fields : ℕ → ℕ → Bytes
-fields line count = fieldsText [] Kd.LineData (numbers line count) 2 L.Nothing
+abbrev whole : (tag : Kind → Bytes) → ℕ → ℕ → Bytes
+whole tag line count = lineText tag [] Kd.LineData (numbers line count) 2 L.Nothing
 
-abbrev whole : ℕ → ℕ → Bytes
-whole line count = lineText [] Kd.LineData (numbers line count) 2 L.Nothing
-
-head-both : (line count : ℕ) → head line count ≡ tag ++ both line count
+head-both : (tag : Kind → Bytes) (line count : ℕ) → head tag line count ≡ (tag Kd.LineData) ++ both line count
 unfolding headOf separated numberTexts
-head-both line count = ap (λ (l : Bytes). tag ++ (58 ∷ decimal line ++ 44 ∷ l)) (append-nil (decimal count))
+head-both tag line count = ap (λ (l : Bytes). (tag Kd.LineData) ++ (58 ∷ decimal line ++ 44 ∷ l)) (append-nil (decimal count))
 
-fields-head : (line count : ℕ) → fields line count ≡ head line count
+fields-head : (tag : Kind → Bytes) (line count : ℕ) → fields tag line count ≡ head tag line count
 unfolding fieldsText separated lastField
-fields-head line count = append-nil (head line count)
+fields-head tag line count = append-nil (head tag line count)
 
-module _ (line count : ℕ) (old : Bytes) (room : length (whole line count) ≤ length old) where
-  head-room : length (head line count) ≤ length old
-  head-room = rw (fields-head line count) at (line-first [] Kd.LineData 2 (numbers line count) L.Nothing (length old) room)
+pub count-fits : (tags : Bytes) (line count : ℕ) (old : Bytes) (at n : ℕ) → length (whole (tagsOf tags) line count) ≤ length old → at ≡ length (tagsOf tags Kd.LineData) → n ≡ length (both line count)
+    → length old < 2 ^ 64 → Fits w64 (at + n + 1)
+count-fits tags line count old at n room upTo more h =
+    let size = ap length (head-both (tagsOf tags) line count) ∙ length-append (tagsOf tags Kd.LineData) (both line count) in
+    let one = line-len (tagsOf tags) [] Kd.LineData 2 (numbers line count) L.Nothing (length (fields (tagsOf tags) line count)) refl in
+    record { fits = omega (arith, size, one, ap length (fields-head (tagsOf tags) line count), room, upTo, more, h) }
 
-  pub count-first : length tag ≤ length old
-  count-first = head-first Kd.LineData 2 (length old) (numbers line count) head-room
+module _ (tags : Bytes) (line count : ℕ) (old : Bytes) (room : length (whole (tagsOf tags) line count) ≤ length old) where
+  head-room : length (head (tagsOf tags) line count) ≤ length old
+  head-room = rw (fields-head (tagsOf tags) line count) at (line-first (tagsOf tags) [] Kd.LineData 2 (numbers line count) L.Nothing (length old) room)
 
-  module _ (out : Bytes) (at : ℕ) (upTo : at ≡ length tag) (held : out ≡ over tag old) where
+  pub count-first : length (tagsOf tags Kd.LineData) ≤ length old
+  count-first = head-first (tagsOf tags) Kd.LineData 2 (length old) (numbers line count) head-room
+
+  module _ (out : Bytes) (at : ℕ) (upTo : at ≡ length (tagsOf tags Kd.LineData)) (held : out ≡ over (tagsOf tags Kd.LineData) old) where
     pub count-at : at ≤ length out
-    count-at = second-at (head line count) tag (both line count) old (head-both line count) head-room out at held upTo
+    count-at = second-at (head (tagsOf tags) line count) (tagsOf tags Kd.LineData) (both line count) old (head-both (tagsOf tags) line count) head-room out at held upTo
 
     pub count-room : length (both line count) ≤ length (take (length out - at) (drop at out))
-    count-room = second-room (head line count) tag (both line count) old (head-both line count) head-room out at held upTo
+    count-room = second-room (head (tagsOf tags) line count) (tagsOf tags Kd.LineData) (both line count) old (head-both (tagsOf tags) line count) head-room out at held upTo
 
     module _ (n : ℕ) (more : n ≡ length (both line count)) where
       pub count-ends : length old < 2 ^ 64 → Fits w64 (at + n)
-      count-ends h = second-fits (head line count) tag (both line count) old (head-both line count) head-room out at held upTo n more h
+      count-ends h = second-fits (head (tagsOf tags) line count) (tagsOf tags Kd.LineData) (both line count) old (head-both (tagsOf tags) line count) head-room out at held upTo n more h
 
-      end : at + n ≡ length (fields line count)
+      end : at + n ≡ length (fields (tagsOf tags) line count)
       end =
-          second-len (head line count) tag (both line count) old (head-both line count) head-room out at held upTo n more
-          ∙ ap length (sym (fields-head line count))
+          second-len (head (tagsOf tags) line count) (tagsOf tags Kd.LineData) (both line count) old (head-both (tagsOf tags) line count) head-room out at held upTo n more
+          ∙ ap length (sym (fields-head (tagsOf tags) line count))
 
-      pub count-len : at + n + 1 ≡ length (whole line count)
-      count-len = line-len [] Kd.LineData 2 (numbers line count) L.Nothing (at + n) end
+      pub count-len : at + n + 1 ≡ length (whole (tagsOf tags) line count)
+      count-len = line-len (tagsOf tags) [] Kd.LineData 2 (numbers line count) L.Nothing (at + n) end
 
       module _ (ys : Bytes) (rest : ys ≡ over (both line count) (take (length out - at) (drop at out))) where
         abbrev written : Bytes
         written = take at out ++ (ys ++ drop (length out - at) (drop at out))
 
-        done : written ≡ over (fields line count) old
-        done = rw (fields-head line count) (second-out (head line count) tag (both line count) old (head-both line count) head-room out at held upTo ys rest)
+        done : written ≡ over (fields (tagsOf tags) line count) old
+        done = rw (fields-head (tagsOf tags) line count) (second-out (head (tagsOf tags) line count) (tagsOf tags Kd.LineData) (both line count) old (head-both (tagsOf tags) line count) head-room out at held upTo ys rest)
 
         pub count-within : at + n < length written
-        count-within = line-within [] Kd.LineData 2 (numbers line count) L.Nothing (at + n) old written done end room
-
-        pub count-fits : length old < 2 ^ 64 → Fits w64 (at + n + 1)
-        count-fits h = line-fits [] Kd.LineData 2 (numbers line count) L.Nothing (at + n) old written done end room h
+        count-within = line-within (tagsOf tags) [] Kd.LineData 2 (numbers line count) L.Nothing (at + n) old written done end room
 
         pub count-kept : length (set written (at + n) 10) ≡ length old
-        count-kept = line-kept [] Kd.LineData 2 (numbers line count) L.Nothing (at + n) old written done end room
+        count-kept = line-kept (tagsOf tags) [] Kd.LineData 2 (numbers line count) L.Nothing (at + n) old written done end room
 
-        pub count-out : set written (at + n) 10 ≡ over (whole line count) old
-        count-out = line-out [] Kd.LineData 2 (numbers line count) L.Nothing (at + n) old written done end room
+        pub count-out : set written (at + n) 10 ≡ over (whole (tagsOf tags) line count) old
+        count-out = line-out (tagsOf tags) [] Kd.LineData 2 (numbers line count) L.Nothing (at + n) old written done end room
 
 -- ---- it is what the printer answers
 
@@ -107,18 +109,18 @@ lineFields line count = record { kind = Kd.LineData; numbers = numbers line coun
 line-fields : (line count : ℕ) → FieldsOf (counted line count) (lineFields line count)
 line-fields line count = record { kind = refl; few = lit≤ tt; long = lit≤ tt; numbers = refl; last = refl }
 
-fitting : (line count room : ℕ) → max-head ≤ room → Fitting (lineFields line count) room true
+fitting : (tags : Bytes) → areTags tags ≡ true → (line count room : ℕ) → max-head ≤ room → Fitting (tagsOf tags) (lineFields line count) room true
 unfolding lastLen
-fitting line count room h = fits-any 0 (lit≤ tt) refl h
+fitting tags are line count room h = fits-any tags are 0 (lit≤ tt) refl h
 
-module _ (line count : ℕ) where
-  pub counted-room : (room : ℕ) → max-head ≤ room → length (whole line count) ≤ room
-  counted-room room h = print-room [] (counted line count) (lineFields line count) (line-fields line count) true (inside-nothing L.Nothing 0 refl) refl (fitting line count room h) refl
+module _ (tags : Bytes) (are : areTags tags ≡ true) (line count : ℕ) where
+  pub counted-room : (room : ℕ) → max-head ≤ room → length (whole (tagsOf tags) line count) ≤ room
+  counted-room room h = print-room (tagsOf tags) [] (counted line count) (lineFields line count) (line-fields line count) true (inside-nothing L.Nothing 0 refl) refl (fitting tags are line count room h) refl
 
-  pub counted-written : (room n : ℕ) → max-head ≤ room → n ≡ length (whole line count) → Written n ≡ writeAnswer (printLine defaultTag [] (counted line count) room)
+  pub counted-written : (room n : ℕ) → max-head ≤ room → n ≡ length (whole (tagsOf tags) line count) → Written n ≡ writeAnswer (printLine (tagsOf tags) [] (counted line count) room)
   counted-written room n h e =
-      print-written [] (counted line count) (lineFields line count) (line-fields line count) true (inside-nothing L.Nothing 0 refl) refl (fitting line count room h) refl n e
+      print-written (tagsOf tags) [] (counted line count) (lineFields line count) (line-fields line count) true (inside-nothing L.Nothing 0 refl) refl (fitting tags are line count room h) refl n e
 
-  pub counted-out : (old out : Bytes) → max-head ≤ length old → out ≡ over (whole line count) old → out ≡ outputAfter (printLine defaultTag [] (counted line count) (length old)) old
+  pub counted-out : (old out : Bytes) → max-head ≤ length old → out ≡ over (whole (tagsOf tags) line count) old → out ≡ outputAfter (printLine (tagsOf tags) [] (counted line count) (length old)) old
   counted-out old out h e =
-      print-out [] (counted line count) (lineFields line count) (line-fields line count) true (inside-nothing L.Nothing 0 refl) refl old out (fitting line count (length old) h) refl e
+      print-out (tagsOf tags) [] (counted line count) (lineFields line count) (line-fields line count) true (inside-nothing L.Nothing 0 refl) refl old out (fitting tags are line count (length old) h) refl e

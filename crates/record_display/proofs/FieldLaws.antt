@@ -16,14 +16,12 @@ use Rattle.model.specs.declared.Kind.the-variants as Kd
 use Rattle.model.specs.declared.Part.{Part}
 use Rattle.model.specs.Bytes.{Bytes, ascii}
 use Rattle.model.specs.Number.{decimal}
-use Rattle.model.specs.Tags.{defaultTag}
 use Rattle.model.specs.Output.{written, outputAfter}
 use Rattle.format.specs.Put.{putLen, over}
 use Rattle.scan.proofs.ByteLaws.{drop-end, drop-next}
-use Rattle.record_display.specs.Fields.{TagOf, separated, numberTexts, lastLen, lastField, inside, sepAfter, headOf}
+use Rattle.record_display.specs.Fields.{separated, numberTexts, lastLen, lastField, inside, sepAfter, headOf}
 use Rattle.record_display.specs.declared.fields.Last.{Last}
 use Rattle.record_display.specs.declared.fields.Last.the-variants as L
-use Rattle.record_display.specs.declared.tag.Tag.{Tag}
 use Rattle.format.proofs.OverLaws.{lent-size, over-more, put-len, put-over, to-end}
 
 -- the last field, known by its variant
@@ -171,42 +169,21 @@ module _ (numbers : List ℕ) (count : ℕ) (old out : Bytes) (at sep i : ℕ) (
   putting-end h = w .held ∙ ap (λ (d : Bytes). over d old) (sym (append-nil (w .done)) ∙ (rw (past-fields numbers count few four sep i h) at (w .left)))
 
 -- the tag
-pub tag-is : (kind other : Kind) (r : Tag) → kind ≡ other → TagOf other r → TagOf kind r
-tag-is kind other r e t = rw e t
-
-module _ (kind : Kind) (r : Tag) (t : TagOf kind r) where
-  pub tag-length : r .len ≡ length (defaultTag kind)
-  tag-length = sym (length-take-le (r .len) (r .bytes) (t .long)) ∙ ap length (t .is)
-
-pub tag-data : (kind : Kind) → kind ≡ Kd.LineData → ascii "DA" ≡ defaultTag kind
-unfolding defaultTag
-tag-data kind e = rw e
-
-pub tag-branch : (kind : Kind) → kind ≡ Kd.BranchData → ascii "BRDA" ≡ defaultTag kind
-unfolding defaultTag
-tag-branch kind e = rw e
-
-module _ (kind : Kind) (s old : Bytes) (is : s ≡ defaultTag kind) (room : length (defaultTag kind) ≤ length old) where
-  tag-room : length s ≤ length old
-  tag-room = rw is room
-
-  pub tag-written : (n : ℕ) → n ≡ putLen (written (length old) s) → n ≡ length (defaultTag kind)
-  tag-written n e = put-len s old tag-room n e ∙ ap length is
-
-  pub tag-out : (out : Bytes) → out ≡ outputAfter (written (length old) s) old → out ≡ over (defaultTag kind) old
-  tag-out out e = put-over s old tag-room out e ∙ ap (λ (s : Bytes). over s old) is
-
-pub head-is : (kind : Kind) (count : ℕ) (numbers : List ℕ) → headOf kind numbers count ≡ defaultTag kind ++ separated 58 (numberTexts numbers count)
+pub head-is : (tag : Kind → Bytes) (kind : Kind) (count : ℕ) (numbers : List ℕ) → headOf tag kind numbers count ≡ tag kind ++ separated 58 (numberTexts numbers count)
 unfolding headOf
-head-is kind count numbers = refl
+head-is tag kind count numbers = refl
 
-pub head-first : (kind : Kind) (count n : ℕ) (numbers : List ℕ) → length (headOf kind numbers count) ≤ n → length (defaultTag kind) ≤ n
+pub head-first : (tag : Kind → Bytes) (kind : Kind) (count n : ℕ) (numbers : List ℕ) → length (headOf tag kind numbers count) ≤ n → length (tag kind) ≤ n
 unfolding headOf
-head-first kind count n numbers h = omega (arith, length-append (defaultTag kind) (separated 58 (numberTexts numbers count)))
+head-first tag kind count n numbers h = omega (arith, length-append (tag kind) (separated 58 (numberTexts numbers count)))
 
-pub head-len : (kind : Kind) (count : ℕ) (numbers : List ℕ) (a b : ℕ) → a ≡ length (defaultTag kind) → b ≡ length (separated 58 (numberTexts numbers count)) → a + b ≡ length (headOf kind numbers count)
+pub head-len : (tag : Kind → Bytes) (kind : Kind) (count : ℕ) (numbers : List ℕ) (a b : ℕ) → a ≡ length (tag kind) → b ≡ length (separated 58 (numberTexts numbers count)) → a + b ≡ length (headOf tag kind numbers count)
 unfolding headOf
-head-len kind count numbers a b e f = rw (e, f, length-append)
+head-len tag kind count numbers a b e f = rw (e, f, length-append)
+
+pub head-fits : (tag : Kind → Bytes) (kind : Kind) (count : ℕ) (numbers : List ℕ) (old : Bytes) (at n : ℕ) → at ≡ length (tag kind) → n ≡ length (separated 58 (numberTexts numbers count)) → length (headOf tag kind numbers count) ≤ length old → length old < 2 ^ 64 → Fits w64 (at + n)
+unfolding headOf
+head-fits tag kind count numbers old at n e f room h = record { fits = omega (arith, e, f, room, h, length-append (tag kind) (separated 58 (numberTexts numbers count))) }
 
 -- the test that a last field lies inside
 pub inside-nothing : (last : Last) (n : ℕ) → last ≡ L.Nothing → true ≡ inside n last

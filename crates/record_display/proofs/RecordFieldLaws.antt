@@ -12,7 +12,6 @@ use mir.Val.{Fits}
 use mir.Syntax.{w64}
 use borrow.Author.Tests.{leb-true, le-leb}
 use Rattle.model.specs.declared.Kind.{Kind}
-use Rattle.model.specs.declared.Kind.the-variants as Kd
 use Rattle.model.specs.declared.EndLine.{EndLine}
 use Rattle.model.specs.declared.Part.{Part}
 use Rattle.model.specs.declared.Taken.{Taken}
@@ -20,8 +19,9 @@ use Rattle.model.specs.declared.Checksum.{Checksum}
 use Rattle.model.specs.declared.Record.{Record}
 use Rattle.model.specs.declared.Record.the-variants.{FunctionName, BranchData, LineData}
 use Rattle.model.specs.Bytes.{Bytes}
+use Rattle.model.specs.TagTable.{tagsOf, areTags}
+use Rattle.model.proofs.TagTableLaws.{tags-few}
 use Rattle.model.specs.Number.{decimal}
-use Rattle.model.specs.Tags.{defaultTag}
 use Rattle.format.specs.Put.{over}
 use Rattle.format.proofs.DecimalLaws.{decimal-most}
 use Rattle.record_display.specs.Fields.{FieldsOf, separated, numberTexts, lastLen, lastField, inside, sepAfter, headOf, max-head, fieldsText, lineText, Fitting}
@@ -46,7 +46,7 @@ fields-checksum l n t u s e h = rw e h
 pub ruleset field-laws = (fields-is, fields-end, fields-taken, fields-checksum)
 
 -- the last field's length
-module _ (t : Bytes) where
+module _ (tag : Kind → Bytes) (t : Bytes) where
   long-last : (last : Last) (sep : ℕ) → inside (length t) last ≡ true → length (separated sep (lastField t last)) ≡ lastLen last
   unfolding separated lastField lastLen inside
   long-last L.Nothing sep e = refl
@@ -57,52 +57,52 @@ module _ (t : Bytes) where
       ap (λ (l : Bytes). suc (length l)) (append-nil (take (p .len) (drop (p .start) t))) ∙ ap suc k ∙ sym (one-add (p .len))
 
   module _ (kind : Kind) (count sep : ℕ) (numbers : List ℕ) (last : Last) (is : sep ≡ sepAfter count) where
-    pub fields-are : fieldsText t kind numbers count last ≡ headOf kind numbers count ++ separated sep (lastField t last)
+    pub fields-are : fieldsText tag t kind numbers count last ≡ headOf tag kind numbers count ++ separated sep (lastField t last)
     unfolding fieldsText
     fields-are = rw is
 
-    pub last-room : (old out : Bytes) (at : ℕ) → inside (length t) last ≡ true → out ≡ over (headOf kind numbers count) old → at ≡ length (headOf kind numbers count) → length (fieldsText t kind numbers count last) ≤ length old → lastLen last ≤ length (take (length out - at) (drop at out))
-    last-room old out at e held upTo room = rw (long-last last sep e) at (second-room (fieldsText t kind numbers count last) (headOf kind numbers count) (separated sep (lastField t last)) old fields-are room out at held upTo)
+    pub last-room : (old out : Bytes) (at : ℕ) → inside (length t) last ≡ true → out ≡ over (headOf tag kind numbers count) old → at ≡ length (headOf tag kind numbers count) → length (fieldsText tag t kind numbers count last) ≤ length old → lastLen last ≤ length (take (length out - at) (drop at out))
+    last-room old out at e held upTo room = rw (long-last last sep e) at (second-room (fieldsText tag t kind numbers count last) (headOf tag kind numbers count) (separated sep (lastField t last)) old fields-are room out at held upTo)
 
-  module _ (kind : Kind) (count : ℕ) (numbers : List ℕ) (last : Last) (at n : ℕ) (within : inside (length t) last ≡ true) (e : at ≡ length (headOf kind numbers count)) (f : n ≡ lastLen last) where
-    pub fields-len : at + n ≡ length (fieldsText t kind numbers count last)
+  module _ (kind : Kind) (count : ℕ) (numbers : List ℕ) (last : Last) (at n : ℕ) (within : inside (length t) last ≡ true) (e : at ≡ length (headOf tag kind numbers count)) (f : n ≡ lastLen last) where
+    pub fields-len : at + n ≡ length (fieldsText tag t kind numbers count last)
     unfolding fieldsText
     fields-len = rw (e, f, length-append, long-last last (sepAfter count) within)
 
-    pub fields-fits : (old : Bytes) → length (fieldsText t kind numbers count last) ≤ length old → length old < 2 ^ 64 → Fits w64 (at + n)
+    pub fields-fits : (old : Bytes) → length (fieldsText tag t kind numbers count last) ≤ length old → length old < 2 ^ 64 → Fits w64 (at + n)
     fields-fits old room h = record { fits = omega (arith, fields-len) }
 
   module _ (kind : Kind) (count : ℕ) (numbers : List ℕ) (last : Last) (n : ℕ) where
-    pub fields-first : length (fieldsText t kind numbers count last) ≤ n → length (headOf kind numbers count) ≤ n
+    pub fields-first : length (fieldsText tag t kind numbers count last) ≤ n → length (headOf tag kind numbers count) ≤ n
     unfolding fieldsText
-    fields-first h = omega (arith, length-append (headOf kind numbers count) (separated (sepAfter count) (lastField t last)))
+    fields-first h = omega (arith, length-append (headOf tag kind numbers count) (separated (sepAfter count) (lastField t last)))
 
-    line-more : length (lineText t kind numbers count last) ≡ length (fieldsText t kind numbers count last) + 1
+    line-more : length (lineText tag t kind numbers count last) ≡ length (fieldsText tag t kind numbers count last) + 1
     unfolding lineText
-    line-more = length-append (fieldsText t kind numbers count last) (10 ∷ [])
+    line-more = length-append (fieldsText tag t kind numbers count last) (10 ∷ [])
 
-    pub line-first : length (lineText t kind numbers count last) ≤ n → length (fieldsText t kind numbers count last) ≤ n
+    pub line-first : length (lineText tag t kind numbers count last) ≤ n → length (fieldsText tag t kind numbers count last) ≤ n
     line-first h = omega (arith, line-more)
 
-    pub line-len : n ≡ length (fieldsText t kind numbers count last) → n + 1 ≡ length (lineText t kind numbers count last)
+    pub line-len : n ≡ length (fieldsText tag t kind numbers count last) → n + 1 ≡ length (lineText tag t kind numbers count last)
     line-len e = omega (arith, line-more)
 
-    module _ (old out : Bytes) (held : out ≡ over (fieldsText t kind numbers count last) old) (upTo : n ≡ length (fieldsText t kind numbers count last)) (room : length (lineText t kind numbers count last) ≤ length old) where
+    module _ (old out : Bytes) (held : out ≡ over (fieldsText tag t kind numbers count last) old) (upTo : n ≡ length (fieldsText tag t kind numbers count last)) (room : length (lineText tag t kind numbers count last) ≤ length old) where
       short : n < length old
       short = omega (arith, line-more)
 
       pub line-within : n < length out
-      line-within = last-within old out (fieldsText t kind numbers count last) n 10 held upTo short
+      line-within = last-within old out (fieldsText tag t kind numbers count last) n 10 held upTo short
 
       pub line-fits : length old < 2 ^ 64 → Fits w64 (n + 1)
       line-fits h = record { fits = omega (arith, line-more) }
 
-      pub line-out : set out n 10 ≡ over (lineText t kind numbers count last) old
+      pub line-out : set out n 10 ≡ over (lineText tag t kind numbers count last) old
       unfolding lineText
-      line-out = last-out old out (fieldsText t kind numbers count last) n 10 held upTo short
+      line-out = last-out old out (fieldsText tag t kind numbers count last) n 10 held upTo short
 
       pub line-kept : length (set out n 10) ≡ length old
-      line-kept = last-kept old out (fieldsText t kind numbers count last) n 10 held upTo short
+      line-kept = last-kept old out (fieldsText tag t kind numbers count last) n 10 held upTo short
 
 -- fields after fields
 all-commas : (fs gs : List Bytes) → separated 44 (fs ++ gs) ≡ separated 44 fs ++ separated 44 gs
@@ -122,37 +122,20 @@ after-numbers (x ∷ ns) (suc count) gs h =
 
 -- ---- the longest head
 
-tag-most : (kind : Kind) → length (defaultTag kind) ≤ 13
-unfolding defaultTag
-tag-most Kd.TestName = lit≤ tt
-tag-most Kd.SourceFile = lit≤ tt
-tag-most Kd.FunctionName = lit≤ tt
-tag-most Kd.FunctionData = lit≤ tt
-tag-most Kd.FunctionsFound = lit≤ tt
-tag-most Kd.FunctionsHit = lit≤ tt
-tag-most Kd.BranchData = lit≤ tt
-tag-most Kd.BranchesFound = lit≤ tt
-tag-most Kd.BranchesHit = lit≤ tt
-tag-most Kd.LineData = lit≤ tt
-tag-most Kd.LinesFound = lit≤ tt
-tag-most Kd.LinesHit = lit≤ tt
-tag-most Kd.EndOfRecord = lit≤ tt
-
 numbers-most : (sep : ℕ) (ns : List ℕ) → length (separated sep (map decimal ns)) ≤ 21 * length ns
 unfolding separated
 numbers-most sep [] = omega arith
 numbers-most sep (n ∷ ns) = omega (arith, decimal-most n, numbers-most 44 ns, length-append (decimal n) (separated 44 (map decimal ns)))
 
-head-most : (kind : Kind) (count : ℕ) (numbers : List ℕ) → count ≤ 4 → length (headOf kind numbers count) ≤ 97
+head-most : (tags : Bytes) → areTags tags ≡ true → (kind : Kind) (count : ℕ) (numbers : List ℕ) → count ≤ 4 → length (headOf (tagsOf tags) kind numbers count) ≤ 100
 unfolding headOf numberTexts
-head-most kind count numbers h =
-    omega (arith, tag-most kind, numbers-most 58 (take count numbers), length-take count numbers, length-append (defaultTag kind) (separated 58 (map decimal (take count numbers))))
+head-most tags are kind count numbers h =
+    omega (arith, tags-few tags are kind, numbers-most 58 (take count numbers), length-take count numbers, length-append (tagsOf tags kind) (separated 58 (map decimal (take count numbers))))
 
 -- whether a line fits
-module _ {s : Fields} {room : ℕ} where
-  pub fits-any : (n : ℕ) → s .count ≤ 4 → n ≡ lastLen (s .last) → max-head + n ≤ room → Fitting s room true
-  fits-any n few e h =
-      record { is = sym (le-leb (length (headOf (s .kind) (s .numbers) (s .count)) + lastLen (s .last) + 1) room (omega (arith, head-most (s .kind) (s .count) (s .numbers) few))) }
+pub fits-any : {s : Fields} {room : ℕ} (tags : Bytes) → areTags tags ≡ true → (n : ℕ) → s .count ≤ 4 → n ≡ lastLen (s .last) → max-head + n ≤ room → Fitting (tagsOf tags) s room true
+fits-any {s} {room} tags are n few e h =
+    record { is = sym (le-leb (length (headOf (tagsOf tags) (s .kind) (s .numbers) (s .count)) + lastLen (s .last) + 1) room (omega (arith, head-most tags are (s .kind) (s .count) (s .numbers) few))) }
 
-  pub fits-measured : (n : ℕ) → n ≡ length (headOf (s .kind) (s .numbers) (s .count)) + lastLen (s .last) + 1 → Fitting s room (leb n room)
-  fits-measured n e = record { is = ap (λ (k : ℕ). leb k room) e }
+pub fits-measured : (tag : Kind → Bytes) {s : Fields} {room : ℕ} (n : ℕ) → n ≡ length (headOf tag (s .kind) (s .numbers) (s .count)) + lastLen (s .last) + 1 → Fitting tag s room (leb n room)
+fits-measured tag {s} {room} n e = record { is = ap (λ (k : ℕ). leb k room) e }

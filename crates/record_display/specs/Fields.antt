@@ -20,11 +20,9 @@ use Rattle.model.specs.declared.Record.{Record}
 use Rattle.model.specs.declared.Record.the-variants.{TestName, SourceFile, FunctionName, FunctionData, FunctionsFound, FunctionsHit, BranchData, BranchesFound, BranchesHit, LineData, LinesFound, LinesHit, EndOfRecord}
 use Rattle.model.specs.Bytes.{Bytes, ascii}
 use Rattle.model.specs.Number.{decimal}
-use Rattle.model.specs.Tags.{defaultTag}
 use Rattle.record_display.specs.declared.fields.Last.{Last}
 use Rattle.record_display.specs.declared.fields.Last.the-variants as L
 use Rattle.record_display.specs.declared.fields.Fields.{Fields}
-use Rattle.record_display.specs.declared.tag.Tag.{Tag}
 
 -- the numbers of a record, then "-" or a text
 abbrev pub endNumber : EndLine → List ℕ
@@ -88,12 +86,6 @@ lastOf (LinesFound n) = L.Nothing
 lastOf (LinesHit n) = L.Nothing
 lastOf EndOfRecord = L.Nothing
 
--- a tag at the front of bytes
-pub record TagOf (kind : Kind) (r : Tag) : Type 0 where
-  pub long : r .len ≤ length (r .bytes)
-  pub few : r .len ≤ 13
-  pub is : take (r .len) (r .bytes) ≡ defaultTag kind
-
 -- the fields are a record's kind, numbers and last field
 pub record FieldsOf (a : Record) (s : Fields) : Type 0 where
   pub kind : s .kind ≡ kindOf a
@@ -134,23 +126,23 @@ unfoldable pub sepAfter : ℕ → ℕ
 sepAfter count = cond (eqb count 0) 58 44
 
 -- the tag and the numbers
-unfoldable pub headOf : Kind → List ℕ → ℕ → Bytes
-headOf kind numbers count = defaultTag kind ++ separated 58 (numberTexts numbers count)
+unfoldable pub headOf : (tag : Kind → Bytes) → Kind → List ℕ → ℕ → Bytes
+headOf tag kind numbers count = tag kind ++ separated 58 (numberTexts numbers count)
 
 -- the tag, four numbers and byte 10 are at most so many bytes
 abbrev pub max-head : ℕ
-max-head = 98
+max-head = 101
 
 -- all fields, and the line
-unfoldable pub fieldsText : Bytes → Kind → List ℕ → ℕ → Last → Bytes
-fieldsText t kind numbers count last = headOf kind numbers count ++ separated (sepAfter count) (lastField t last)
+unfoldable pub fieldsText : (tag : Kind → Bytes) → Bytes → Kind → List ℕ → ℕ → Last → Bytes
+fieldsText tag t kind numbers count last = headOf tag kind numbers count ++ separated (sepAfter count) (lastField t last)
 
-unfoldable pub lineText : Bytes → Kind → List ℕ → ℕ → Last → Bytes
-lineText t kind numbers count last = fieldsText t kind numbers count last ++ (10 ∷ [])
+unfoldable pub lineText : (tag : Kind → Bytes) → Bytes → Kind → List ℕ → ℕ → Last → Bytes
+lineText tag t kind numbers count last = fieldsText tag t kind numbers count last ++ (10 ∷ [])
 
 -- r says whether the line is at most room bytes long
-pub record Fitting (s : Fields) (room : ℕ) (r : Bool) : Type 0 where
-  pub is : r ≡ leb (length (headOf (s .kind) (s .numbers) (s .count)) + lastLen (s .last) + 1) room
+pub record Fitting (tag : Kind → Bytes) (s : Fields) (room : ℕ) (r : Bool) : Type 0 where
+  pub is : r ≡ leb (length (headOf tag (s .kind) (s .numbers) (s .count)) + lastLen (s .last) + 1) room
 
 -- a refusal, with the needed length
 abbrev pub neededAt : Fault → ℕ → Refusal

@@ -1,13 +1,14 @@
 -- A whole line: its end trimmed, its tag recognised, its body read. Assumes nothing.
-use Prim.Native.Nat.{ℕ, _+_, _≤_, _<_}
+use Prim.Native.Nat.{ℕ, _+_, _≤_}
 use mathlib.Core.Path.{_≡_, refl, sym, ap, _∙_}
-use mathlib.Core.List.{[], _∷_, _++_, append-assoc, append-nil}
-use mathlib.Core.Bool.{Bool, true, false, cond, _||_}
-use mathlib.Core.Option.{Option, none, some}
-use native.Mathlib.Omega.{arith}
-use lib.Dec.{ltb, eqb}
-use lib.ListN.{length, take, drop, drop-of-length-le, length-take, take-append-drop}
-use borrow.Author.Tests.{lt-ltb, le-ltb, ltb-true, ltb-false}
+use mathlib.Core.List.{List, [], _∷_}
+use mathlib.Core.Bool.{Bool, true, false, cond}
+use mathlib.Core.Option.{none, some}
+use lib.Dec.{ltb}
+use lib.ListN.{length, drop, drop-of-length-le}
+use denote.Enum.Declared.{tagOf}
+use types.Run.{OneOf, miss}
+use borrow.Author.Tests.{ltb-false}
 use Rattle.ordmap.proofs.Results.{impossible, not-refused}
 use Rattle.model.specs.declared.Fault.the-variants.{UnknownRecord}
 use Rattle.model.specs.declared.Kind.{Kind}
@@ -18,143 +19,107 @@ use Rattle.model.specs.declared.Record.{Record as LentRecord}
 use Rattle.model.specs.declared.Record.the-variants as Lent
 use Rattle.model.specs.declared.LineAnswer.{LineAnswer}
 use Rattle.model.specs.declared.LineAnswer.the-variants.{Read, Refused}
-use Rattle.model.specs.Bytes.{Bytes, newline, return, colon, sameBytes, before, after, Free}
-use Rattle.model.specs.Answer.{Answer, accepted, refused, _>>=_, refuse, onLine}
+use Rattle.model.specs.Bytes.{Bytes, colon, before}
+use Rattle.model.specs.Answer.{Answer, accepted, refused, _>>=_, onLine}
 use Rattle.model.specs.Record.{Record, testName, sourceFile, endOfRecord}
-use Rattle.model.specs.Tags.{allKinds, defaultTag}
-use Rattle.model.specs.Line.{beforeTrimmed, trimmed, kindAmong, readOne, readBody, bodyOf, readTrimmed, readRecord, readLine}
+use Rattle.model.specs.TagTable.{tagsOf, areTags}
+use Rattle.model.specs.Line.{trimmed, readOne, readBody, bodyOf, readTrimmed, readRecord}
 use Rattle.model.specs.Parts.{lentFrom, lentRecord, lentLine}
-use Rattle.model.proofs.ByteLaws.{before-seam}
-use Rattle.model.proofs.KeyOrder.{bytes-same}
-use Rattle.model.proofs.TagLaws.{defaultTag-lawful, kindAmong-tag}
 use Rattle.model.specs.Calls.{lineValues, LineCall, lineAnswer}
+use Rattle.model.proofs.Kind.{the-type}
+use Rattle.model.proofs.TagLaws.{kindAmong-tag, kindAmong-none}
+use Rattle.model.proofs.TagTableLaws.{tags-lawful}
 use Rattle.model.proofs.CallLaws.{line-exact}
+use Rattle.tag_table.specs.Kinds.{bodyAt, Tagged, Untagged, FoundIn}
+use Rattle.tag_table.specs.declared.Found.{Found}
+use Rattle.tag_table.specs.declared.Found.the-variants.{Known, Unknown}
 use Rattle.record_parse.specs.Answers.{Answers, read, refusal}
 use Rattle.record_parse.specs.Fields.{refusedAt, partFrom}
-use Rattle.record_parse.specs.Lines.{countMade, countKind, CountOf, bodyIn, bodyAt}
+use Rattle.record_parse.specs.Lines.{countMade, countKind, isTotal, TotalOf}
 use Rattle.record_parse.specs.declared.lines.Total.{Total}
 use Rattle.record_parse.specs.declared.lines.Total.the-variants as Ct
-use Rattle.record_parse.specs.declared.lines.TotalAnswer.{TotalAnswer}
-use Rattle.record_parse.specs.declared.lines.TotalAnswer.the-variants as CA
 use Rattle.record_parse.proofs.FieldLaws.{part, part-rest, after-at}
 
--- ---- the kind of a tag
+-- ---- the kinds whose body is a text, a number, or is ignored
 
-pub tagged : {line : Bytes} {r : LineAnswer} (kind : Kind) (body tg : Bytes) (d : Bool) → Answers line r (readBody kind body) → d ≡ sameBytes tg (defaultTag kind) → d ≡ true → Answers line r (bodyIn (kindAmong defaultTag allKinds tg) body)
-tagged kind body tg d a e t =
-    let is : tg ≡ defaultTag kind = bytes-same .same-eq tg (defaultTag kind) (sym e ∙ t) in
-    rw (is, kindAmong-tag defaultTag defaultTag-lawful kind) a
+module _ (line : Bytes) (at : ℕ) (kind : Kind) where
+  module _ (p : Part) (is : p ≡ partFrom at (part line at)) (there : at ≤ length line) where
+    pub test-body : kind ≡ Kd.TestName → Answers line (Read (Lent.TestName p)) (readBody kind (drop at line))
+    unfolding readBody lentFrom
+    test-body e = rw e (read (testName (drop at line)) (Lent.TestName p) (ap (λ (q : Part). Lent.TestName q) (is ∙ part-rest line at there)))
 
--- a tag that is another
-pub record Not (bytes : Bytes) (kind : Kind) : Type 0 where
-  pub is : sameBytes bytes (defaultTag kind) ≡ false
+    pub source-body : kind ≡ Kd.SourceFile → Answers line (Read (Lent.SourceFile p)) (readBody kind (drop at line))
+    unfolding readBody lentFrom
+    source-body e = rw e (read (sourceFile (drop at line)) (Lent.SourceFile p) (ap (λ (q : Part). Lent.SourceFile q) (is ∙ part-rest line at there)))
 
-pub not-tag : {bytes : Bytes} {kind : Kind} (d : Bool) → d ≡ sameBytes bytes (defaultTag kind) → d ≡ false → Not bytes kind
-not-tag d e f = record { is = sym e ∙ f }
+  pub end-body : kind ≡ Kd.EndOfRecord → Answers line (Read Lent.EndOfRecord) (readBody kind (drop at line))
+  unfolding readBody lentFrom
+  end-body e = rw e (read endOfRecord Lent.EndOfRecord refl)
+
+  -- a kind that has a reader of its own
+  pub known-body : (known : Kind) (r : LineAnswer) → kind ≡ known → Answers line r (readBody known (drop at line)) → Answers line r (readBody kind (drop at line))
+  known-body known r e a = rw e a
 
 -- ---- the six kinds that hold one number
 
-pub count-known : (bytes : Bytes) (kind : Total) (d : Bool) → d ≡ sameBytes bytes (defaultTag (countKind kind)) → d ≡ true → CountOf bytes (CA.Known kind)
-count-known bytes kind d e t = record { is = sym e ∙ t }
+pub total-is : (kind known : Kind) (r : Total) → kind ≡ known → countKind r ≡ known → TotalOf kind r
+total-is kind known r e k = record { is = λ t. k ∙ sym e }
 
-pub count-unknown : (bytes : Bytes) → Not bytes Kd.FunctionsFound → Not bytes Kd.FunctionsHit → Not bytes Kd.BranchesFound → Not bytes Kd.BranchesHit → Not bytes Kd.LinesFound → Not bytes Kd.LinesHit → CountOf bytes CA.Unknown
-count-unknown bytes a b c d e f = record { is = go }
-  where
-    go : (kind : Total) → sameBytes bytes (defaultTag (countKind kind)) ≡ false
-    go Ct.FunctionsFound = a .is
-    go Ct.FunctionsHit = b .is
-    go Ct.BranchesFound = c .is
-    go Ct.BranchesHit = d .is
-    go Ct.LinesFound = e .is
-    go Ct.LinesHit = f .is
+-- a kind that is none of the first five
+abbrev notFirst : List ℕ
+notFirst = 0 ∷ 1 ∷ 2 ∷ 3 ∷ 6 ∷ 9 ∷ 11 ∷ 12 ∷ []
 
-count-body : {line : Bytes} {r : LineAnswer} (kind : Total) (body : Bytes) → Answers line r (readOne (countMade kind) body) → Answers line r (readBody (countKind kind) body)
+last-total : (kind : Kind) → OneOf notFirst (tagOf the-type kind) → isTotal kind ≡ true → Kd.LinesHit ≡ kind
+last-total Kd.TestName h t = impossible cc
+last-total Kd.SourceFile h t = impossible cc
+last-total Kd.FunctionName h t = impossible cc
+last-total Kd.FunctionData h t = impossible cc
+last-total Kd.FunctionsFound h t = absurd (miss notFirst 4 tt h)
+last-total Kd.FunctionsHit h t = absurd (miss notFirst 5 tt h)
+last-total Kd.BranchData h t = impossible cc
+last-total Kd.BranchesFound h t = absurd (miss notFirst 7 tt h)
+last-total Kd.BranchesHit h t = absurd (miss notFirst 8 tt h)
+last-total Kd.LineData h t = impossible cc
+last-total Kd.LinesFound h t = absurd (miss notFirst 10 tt h)
+last-total Kd.LinesHit h t = refl
+last-total Kd.EndOfRecord h t = impossible cc
+
+pub total-last : (kind : Kind) → OneOf notFirst (tagOf the-type kind) → TotalOf kind Ct.LinesHit
+total-last kind h = record { is = last-total kind h }
+
+-- a kind that has no reader of its own
+abbrev readAsTotal : List ℕ
+readAsTotal = 4 ∷ 5 ∷ 7 ∷ 8 ∷ 10 ∷ 11 ∷ []
+
+holds-total : (kind : Kind) → OneOf readAsTotal (tagOf the-type kind) → isTotal kind ≡ true
+holds-total Kd.TestName h = absurd (miss readAsTotal 0 tt h)
+holds-total Kd.SourceFile h = absurd (miss readAsTotal 1 tt h)
+holds-total Kd.FunctionName h = absurd (miss readAsTotal 2 tt h)
+holds-total Kd.FunctionData h = absurd (miss readAsTotal 3 tt h)
+holds-total Kd.FunctionsFound h = refl
+holds-total Kd.FunctionsHit h = refl
+holds-total Kd.BranchData h = absurd (miss readAsTotal 6 tt h)
+holds-total Kd.BranchesFound h = refl
+holds-total Kd.BranchesHit h = refl
+holds-total Kd.LineData h = absurd (miss readAsTotal 9 tt h)
+holds-total Kd.LinesFound h = refl
+holds-total Kd.LinesHit h = refl
+holds-total Kd.EndOfRecord h = absurd (miss readAsTotal 12 tt h)
+
+total-body : {line : Bytes} {r : LineAnswer} (total : Total) (body : Bytes) → Answers line r (readOne (countMade total) body) → Answers line r (readBody (countKind total) body)
 unfolding readBody
-count-body Ct.FunctionsFound body a = a
-count-body Ct.FunctionsHit body a = a
-count-body Ct.BranchesFound body a = a
-count-body Ct.BranchesHit body a = a
-count-body Ct.LinesFound body a = a
-count-body Ct.LinesHit body a = a
+total-body Ct.FunctionsFound body a = a
+total-body Ct.FunctionsHit body a = a
+total-body Ct.BranchesFound body a = a
+total-body Ct.BranchesHit body a = a
+total-body Ct.LinesFound body a = a
+total-body Ct.LinesHit body a = a
 
-pub count-tagged : {line : Bytes} {r : LineAnswer} (kind : Total) (body tg : Bytes) (got : TotalAnswer) → Answers line r (readOne (countMade kind) body) → CountOf tg got → got ≡ CA.Known kind → Answers line r (bodyIn (kindAmong defaultTag allKinds tg) body)
-count-tagged kind body tg got a seen e =
-    let is : sameBytes tg (defaultTag (countKind kind)) ≡ true = rw e at (seen .is) in
-    tagged (countKind kind) body tg true (count-body kind body a) (sym is) refl
-
--- none of the thirteen
-pub unknown : (line body tg : Bytes) (r : LineAnswer) (got : TotalAnswer) → r ≡ refusedAt UnknownRecord 0 → CountOf tg got → got ≡ CA.Unknown → Not tg Kd.TestName → Not tg Kd.SourceFile → Not tg Kd.FunctionName → Not tg Kd.FunctionData → Not tg Kd.BranchData → Not tg Kd.LineData → Not tg Kd.EndOfRecord → Answers line r (bodyIn (kindAmong defaultTag allKinds tg) body)
-unfolding kindAmong allKinds
-unknown line body tg r got e seen u a b c d f g h =
-    let no-count : (kind : Total) → sameBytes tg (defaultTag (countKind kind)) ≡ false = rw u at (seen .is) in
-    rw (e, a .is, b .is, c .is, d .is, f .is, g .is, h .is, no-count Ct.FunctionsFound, no-count Ct.FunctionsHit, no-count Ct.BranchesFound, no-count Ct.BranchesHit, no-count Ct.LinesFound, no-count Ct.LinesHit)
-    (refusal _)
-
--- ---- the kinds whose body is a text, or is ignored
-
-module _ (line : Bytes) (at : ℕ) (tg : Bytes) (d : Bool) (yes-is : d ≡ true) where
-  module _ (p : Part) (is : p ≡ partFrom at (part line at)) (there : at ≤ length line) where
-    pub test-tagged : d ≡ sameBytes tg (defaultTag Kd.TestName) → Answers line (Read (Lent.TestName p)) (bodyIn (kindAmong defaultTag allKinds tg) (drop at line))
-    unfolding readBody lentFrom
-    test-tagged e =
-        tagged Kd.TestName (drop at line) tg d
-        (read (testName (drop at line)) (Lent.TestName p) (ap (λ (q : Part). Lent.TestName q) (is ∙ part-rest line at there))) e yes-is
-
-    pub source-tagged : d ≡ sameBytes tg (defaultTag Kd.SourceFile) → Answers line (Read (Lent.SourceFile p)) (bodyIn (kindAmong defaultTag allKinds tg) (drop at line))
-    unfolding readBody lentFrom
-    source-tagged e =
-        tagged Kd.SourceFile (drop at line) tg d
-        (read (sourceFile (drop at line)) (Lent.SourceFile p) (ap (λ (q : Part). Lent.SourceFile q) (is ∙ part-rest line at there))) e yes-is
-
-  pub end-tagged : (body : Bytes) → d ≡ sameBytes tg (defaultTag Kd.EndOfRecord) → Answers line (Read Lent.EndOfRecord) (bodyIn (kindAmong defaultTag allKinds tg) body)
-  unfolding readBody lentFrom
-  end-tagged body e = tagged Kd.EndOfRecord body tg d (read endOfRecord Lent.EndOfRecord refl) e yes-is
-
--- ---- where the tag ends
-
--- a line that starts with a tag and ':'
-starts-end : (xs s : Bytes) → Free colon xs → sameBytes (take (length (xs ++ (colon ∷ []))) s) (xs ++ (colon ∷ [])) ≡ true → s ≡ xs ++ colon ∷ drop (length (xs ++ (colon ∷ []))) s
-starts-end xs s free e =
-    let n = length (xs ++ (colon ∷ [])) in
-    sym (take-append-drop n s) ∙ ap (λ (l : Bytes). l ++ drop n s) (bytes-same .same-eq (take n s) (xs ++ (colon ∷ [])) e) ∙ append-assoc xs (colon ∷ []) (drop n s)
-
-module _ (s : Bytes) (d : Bool) (yes-is : d ≡ true) where
-  before-end : (xs : Bytes) → Free colon xs → d ≡ sameBytes (take (length (xs ++ (colon ∷ []))) s) (xs ++ (colon ∷ [])) → before colon s ≡ xs
-  before-end xs free e = ap (before colon) (starts-end xs s free (sym e ∙ yes-is)) ∙ before-seam colon xs _ free
-
-  pub data-end : d ≡ sameBytes (take 3 s) (68 ∷ 65 ∷ 58 ∷ []) → 2 ≡ length (before 58 s)
-  data-end e = sym (ap length (before-end (68 ∷ 65 ∷ []) (refl, (refl, tt)) e))
-
-  pub branch-end : d ≡ sameBytes (take 5 s) (66 ∷ 82 ∷ 68 ∷ 65 ∷ 58 ∷ []) → 4 ≡ length (before 58 s)
-  branch-end e = sym (ap length (before-end (66 ∷ 82 ∷ 68 ∷ 65 ∷ []) (refl, (refl, (refl, (refl, tt)))) e))
-
-before-prefix : (c : ℕ) (s : Bytes) → take (length (before c s)) s ≡ before c s
-unfolding before
-before-prefix c [] = refl
-before-prefix c (b ∷ bs) = go (eqb b c) (before-prefix c bs)
-  where
-    go : (d : Bool) → take (length (before c bs)) bs ≡ before c bs → take (length (cond d [] (b ∷ before c bs))) (b ∷ bs) ≡ cond d [] (b ∷ before c bs)
-    go true e = refl
-    go false e = ap (λ (r : Bytes). b ∷ r) e
-
-before-within : (c : ℕ) (s : Bytes) (n : ℕ) → n ≡ length (before c s) → n ≤ length s
-before-within c s n e = let h = simp length-take at (ap length (before-prefix c s)) in omega (arith, h)
-
-pub data-room : (s : Bytes) (d : Bool) → d ≡ true → d ≡ sameBytes (take 3 s) (68 ∷ 65 ∷ 58 ∷ []) → 2 ≤ length s
-data-room s d t e = before-within 58 s 2 (data-end s d t e)
-
-pub branch-room : (s : Bytes) (d : Bool) → d ≡ true → d ≡ sameBytes (take 5 s) (66 ∷ 82 ∷ 68 ∷ 65 ∷ 58 ∷ []) → 4 ≤ length s
-branch-room s d t e = before-within 58 s 4 (branch-end s d t e)
+pub other-body : (line : Bytes) (r : LineAnswer) (kind : Kind) (total : Total) (body : Bytes) → OneOf readAsTotal (tagOf the-type kind) → TotalOf kind total
+    → Answers line r (readOne (countMade total) body) → Answers line r (readBody kind body)
+other-body line r kind total body h t a = rw (← (t .is (holds-total kind h))) (total-body total body a)
 
 -- ---- where the body starts
-
-pub body-after : (n mark : ℕ) → mark < n → mark + 1 ≡ bodyAt n mark
-unfolding bodyAt
-body-after n mark h = rw (lt-ltb mark n h)
-
-pub body-none : (n mark : ℕ) → n ≤ mark → mark ≡ bodyAt n mark
-unfolding bodyAt
-body-none n mark h = rw (le-ltb mark n h)
 
 body-is : (s : Bytes) → drop (bodyAt (length s) (length (before colon s))) s ≡ bodyOf s
 unfolding bodyOf bodyAt
@@ -171,29 +136,44 @@ unfolding lineValues
 answer-is (read made lent e) = ap (λ (l : LentRecord). accepted l) e
 answer-is (refusal q) = refl
 
-pub record-read : (line s : Bytes) (mark at : ℕ) (r : LineAnswer) → s ≡ trimmed line → mark ≡ length (before 58 s) → at ≡ bodyAt (length s) mark
-    → Answers s r (bodyIn (kindAmong defaultTag allKinds (take mark s)) (drop at s)) → LineCall (lentRecord defaultTag line) r
-unfolding lentRecord readRecord readTrimmed
-record-read line s mark at r is found start body =
-    let b : Answers s r (bodyIn (kindAmong defaultTag allKinds (before colon s)) (bodyOf s)) = rw (start, found, before-prefix 58 s, body-is s) at body in
-    let c : Answers (trimmed line) r (readTrimmed defaultTag (trimmed line)) = rw is at b in
-    answer-is c
+module _ (tags line s : Bytes) (are : areTags tags ≡ true) (is : s ≡ trimmed line) where
+  trimmed-read : (r : LineAnswer) → Answers s r (readTrimmed (tagsOf tags) s) → LineCall (lentRecord (tagsOf tags) line) r
+  unfolding lentRecord readRecord
+  trimmed-read r a = let b : Answers (trimmed line) r (readTrimmed (tagsOf tags) (trimmed line)) = rw is at a in answer-is b
+
+  module _ (found : Found) (f : FoundIn (tagsOf tags) s found) where
+    pub record-read : (kind : Kind) (at : ℕ) (r : LineAnswer) → found ≡ Known kind at → Answers s r (readBody kind (drop at s)) → LineCall (lentRecord (tagsOf tags) line) r
+    unfolding readTrimmed
+    record-read kind at r e body =
+        let t : Tagged (tagsOf tags) s kind at = rw e at f in
+        trimmed-read r
+        (rw (t .is, kindAmong-tag (tagsOf tags) (tags-lawful tags are) kind, readTrimmed)
+        (rw (t .body, body-is s) at body))
+
+    pub record-unknown : (r : LineAnswer) → found ≡ Unknown → r ≡ refusedAt UnknownRecord 0 → LineCall (lentRecord (tagsOf tags) line) r
+    unfolding readTrimmed
+    record-unknown r e q =
+        let t : Untagged (tagsOf tags) s = rw e at f in
+        trimmed-read r (rw (kindAmong-none (tagsOf tags) (before colon s) (t .none), readTrimmed, q) (refusal _))
+
+    pub found-within : (kind : Kind) (at : ℕ) → found ≡ Known kind at → at ≤ length s
+    found-within kind at e = let t : Tagged (tagsOf tags) s kind at = rw e at f in t .within
 
 -- ---- a lone line is line 1
 
-module _ (line : Bytes) (got : LineAnswer) (seen : LineCall (lentRecord defaultTag line) got) where
-  pub lone-read : (lent : LentRecord) → got ≡ Read lent → LineCall (lentLine defaultTag line) (Read lent)
+module _ (tag : Kind → Bytes) (line : Bytes) (got : LineAnswer) (seen : LineCall (lentRecord tag line) got) where
+  pub lone-read : (lent : LentRecord) → got ≡ Read lent → LineCall (lentLine tag line) (Read lent)
   unfolding lineValues lentLine
-  lone-read lent e = go (lentRecord defaultTag line) (rw e at seen)
+  lone-read lent e = go (lentRecord tag line) (rw e at seen)
     where
       go : (a : Answer LentRecord) → LineCall a (Read lent) → LineCall (onLine 1 a) (Read lent)
       go (accepted l) q = q
       go (refused r) q = absurd (not-refused q)
 
   pub lone-refused : (q : Refusal) → got ≡ Refused q
-      → LineCall (lentLine defaultTag line) (Refused (record { fault = q .fault; text = q .text; line = 1; field = q .field; needed = q .needed }))
+      → LineCall (lentLine tag line) (Refused (record { fault = q .fault; text = q .text; line = 1; field = q .field; needed = q .needed }))
   unfolding lineValues lineAnswer lentLine
-  lone-refused q e = go (lentRecord defaultTag line) (sym e ∙ line-exact (lentRecord defaultTag line) got seen)
+  lone-refused q e = go (lentRecord tag line) (sym e ∙ line-exact (lentRecord tag line) got seen)
     where
       go : (a : Answer LentRecord) → Refused q ≡ lineAnswer a
           → LineCall (onLine 1 a) (Refused (record { fault = q .fault; text = q .text; line = 1; field = q .field; needed = q .needed }))

@@ -1,19 +1,16 @@
 -- What the readers of the kinds of line promise, in the model's definitions. Assumes nothing.
-use Prim.Native.Nat.{ℕ, _+_}
+use Prim.Native.Nat.{ℕ}
 use mathlib.Core.Path.{_≡_}
-use mathlib.Core.Bool.{true, false}
-use mathlib.Core.Option.{Option, none, some}
-use lib.Dec.{ltb}
+use mathlib.Core.Bool.{Bool, true, false}
+use mathlib.Core.Option.{some}
 use lib.ListN.{drop}
-use Rattle.model.specs.declared.Fault.the-variants.{UnknownRecord}
 use Rattle.model.specs.declared.Kind.{Kind}
 use Rattle.model.specs.declared.Kind.the-variants as Kd
 use Rattle.model.specs.declared.LineAnswer.{LineAnswer}
 use Rattle.model.specs.declared.Record.{Record as LentRecord}
 use Rattle.model.specs.declared.Record.the-variants as Lent
-use Rattle.model.specs.Order.{if_then_else_}
-use Rattle.model.specs.Bytes.{Bytes, sameBytes}
-use Rattle.model.specs.Answer.{Answer, _>>=_, refuse}
+use Rattle.model.specs.Bytes.{Bytes}
+use Rattle.model.specs.Answer.{_>>=_}
 use Rattle.model.specs.Limits.{u32-max, u64-max}
 use Rattle.model.specs.Record.{
   Record,
@@ -25,12 +22,9 @@ use Rattle.model.specs.Record.{
   linesFound,
   linesHit,
 }
-use Rattle.model.specs.Tags.{defaultTag}
-use Rattle.model.specs.Line.{fromField, numberField, textField, takenField, lastBefore, withEnd, readFunction, readBody}
+use Rattle.model.specs.Line.{fromField, numberField, textField, takenField, lastBefore, withEnd, readFunction}
 use Rattle.record_parse.specs.declared.lines.Total.{Total}
 use Rattle.record_parse.specs.declared.lines.Total.the-variants as Ct
-use Rattle.record_parse.specs.declared.lines.TotalAnswer.{TotalAnswer}
-use Rattle.record_parse.specs.declared.lines.TotalAnswer.the-variants as CA
 use Rattle.record_parse.specs.Answers.{Answers}
 
 -- the answer for every BRDA body whose field 4 is at the front of rest
@@ -75,20 +69,21 @@ countKind Ct.BranchesHit = Kd.BranchesHit
 countKind Ct.LinesFound = Kd.LinesFound
 countKind Ct.LinesHit = Kd.LinesHit
 
--- whether a tag is that of one of the six
-abbrev pub countIs : Bytes → TotalAnswer → Type 0
-countIs bytes (CA.Known kind) = sameBytes bytes (defaultTag (countKind kind)) ≡ true
-countIs bytes CA.Unknown = (kind : Total) → sameBytes bytes (defaultTag (countKind kind)) ≡ false
+-- a kind that holds one number, as one of the six
+abbrev pub isTotal : Kind → Bool
+isTotal Kd.TestName = false
+isTotal Kd.SourceFile = false
+isTotal Kd.FunctionName = false
+isTotal Kd.FunctionData = false
+isTotal Kd.FunctionsFound = true
+isTotal Kd.FunctionsHit = true
+isTotal Kd.BranchData = false
+isTotal Kd.BranchesFound = true
+isTotal Kd.BranchesHit = true
+isTotal Kd.LineData = false
+isTotal Kd.LinesFound = true
+isTotal Kd.LinesHit = true
+isTotal Kd.EndOfRecord = false
 
-pub record CountOf (bytes : Bytes) (r : TotalAnswer) : Type 0 where
-  pub is : countIs bytes r
-
--- ---- a whole line
-
--- the body of a line whose kind is known or not
-abbrev pub bodyIn : Option Kind → Bytes → Answer Record
-bodyIn known body = elim known [ none ↦ refuse UnknownRecord | some kind ↦ readBody kind body ]
-
--- where the body starts in a line of n bytes, its colon at a position or, where there is none, at n
-unfoldable pub bodyAt : ℕ → ℕ → ℕ
-bodyAt n colon = if ltb colon n then colon + 1 else colon
+pub record TotalOf (kind : Kind) (r : Total) : Type 0 where
+  pub is : isTotal kind ≡ true → countKind r ≡ kind

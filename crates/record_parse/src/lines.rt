@@ -4,10 +4,10 @@ ghost use mathlib.Core.Path.{_≡_};
 ghost use Prim.Native.Nat.{_≤_};
 ghost use lib.ListN.{length, drop};
 ghost use Rattle.model.specs.Line.{readBody, readOne};
-ghost use Rattle.model.specs.declared.Kind.the-variants as Kind;
+ghost use Rattle.model.specs.declared.Kind.the-variants as Kd;
 ghost use Rattle.scan_digits.specs.Word.{ShortRead};
 ghost use Rattle.record_parse.specs.Answers.{Answers};
-ghost use Rattle.record_parse.specs.Lines.{EndRead, FunctionRead, TakenRead, countLent, countMade, CountOf};
+ghost use Rattle.record_parse.specs.Lines.{EndRead, FunctionRead, TakenRead, countLent, countMade};
 use super::fields::Field;
 use super::fields::begins_with_end;
 use super::fields::checksum_field;
@@ -27,21 +27,6 @@ use scan_digits::Short;
 const MAX_U32: u64 = 4294967295;
 
 const MAX_U64: u64 = 18446744073709551615;
-
-// The kinds that hold one number.
-pub(crate) enum Total {
-    FunctionsFound,
-    FunctionsHit,
-    BranchesFound,
-    BranchesHit,
-    LinesFound,
-    LinesHit,
-}
-
-pub(crate) enum TotalAnswer {
-    Known(Total),
-    Unknown,
-}
 
 // The end of an FN body that has an end line: that line, which must not be below the start line, and a name.
 fn read_end(line: &[u8], at: usize, start: u32) -> LineAnswer
@@ -78,7 +63,7 @@ fn read_function(line: &[u8], at: usize, start: u32) -> LineAnswer
 // FN: a start line, perhaps an end line, and a name.
 pub(crate) fn read_function_name(line: &[u8], at: usize) -> LineAnswer
     requires { ⌜ at ≤ length (now line) ⌝ }
-    ensures { λ r. ⌜ Answers (now (line .entry)) r (readBody Kind.FunctionName (drop at (now (line .entry)))) ⌝ }
+    ensures { λ r. ⌜ Answers (now (line .entry)) r (readBody Kd.FunctionName (drop at (now (line .entry)))) ⌝ }
 {
     let short = scan_digits::short_number(line, &line[at..]);
     let first = number_field(at, &line[at..], short, MAX_U32);
@@ -91,7 +76,7 @@ pub(crate) fn read_function_name(line: &[u8], at: usize) -> LineAnswer
 // FNDA: a count and a name.
 pub(crate) fn read_function_data(line: &[u8], at: usize) -> LineAnswer
     requires { ⌜ at ≤ length (now line) ⌝ }
-    ensures { λ r. ⌜ Answers (now (line .entry)) r (readBody Kind.FunctionData (drop at (now (line .entry)))) ⌝ }
+    ensures { λ r. ⌜ Answers (now (line .entry)) r (readBody Kd.FunctionData (drop at (now (line .entry)))) ⌝ }
 {
     let short = scan_digits::short_number(line, &line[at..]);
     let first = number_field(at, &line[at..], short, MAX_U64);
@@ -151,7 +136,7 @@ fn read_taken(line: u32, block: u32, branch: u32, short: Short, rest: &[u8]) -> 
 // BRDA: line, block, branch and a taken count.
 pub(crate) fn read_branch_data(line: &[u8], at: usize) -> LineAnswer
     requires { ⌜ at ≤ length (now line) ⌝ }
-    ensures { λ r. ⌜ Answers (now (line .entry)) r (readBody Kind.BranchData (drop at (now (line .entry)))) ⌝ }
+    ensures { λ r. ⌜ Answers (now (line .entry)) r (readBody Kd.BranchData (drop at (now (line .entry)))) ⌝ }
 {
     let short = scan_digits::short_number(line, &line[at..]);
     let first = number_field(at, &line[at..], short, MAX_U32);
@@ -189,7 +174,7 @@ pub(crate) fn read_branch_data(line: &[u8], at: usize) -> LineAnswer
 // DA: a line number, a count and perhaps a checksum.
 pub(crate) fn read_line_data(line: &[u8], at: usize) -> LineAnswer
     requires { ⌜ at ≤ length (now line) ⌝ }
-    ensures { λ r. ⌜ Answers (now (line .entry)) r (readBody Kind.LineData (drop at (now (line .entry)))) ⌝ }
+    ensures { λ r. ⌜ Answers (now (line .entry)) r (readBody Kd.LineData (drop at (now (line .entry)))) ⌝ }
 {
     let short = scan_digits::short_number(line, &line[at..]);
     let first = number_field(at, &line[at..], short, MAX_U32);
@@ -217,6 +202,16 @@ pub(crate) fn read_line_data(line: &[u8], at: usize) -> LineAnswer
     }
 }
 
+// The kinds that hold one number.
+pub(crate) enum Total {
+    FunctionsFound,
+    FunctionsHit,
+    BranchesFound,
+    BranchesHit,
+    LinesFound,
+    LinesHit,
+}
+
 // The record of a kind that holds one number.
 fn total_record(kind: Total, n: u32) -> Record
     ensures { λ r. ⌜ r ≡ countLent kind n ⌝ }
@@ -242,29 +237,4 @@ pub(crate) fn read_total(kind: Total, line: &[u8], at: usize) -> LineAnswer
         return number_refusal(first, 1);
     };
     LineAnswer::Read(total_record(kind, value as u32))
-}
-
-// The kind of a tag, if it is one that holds one number.
-pub(crate) fn total_of(tag: &[u8]) -> TotalAnswer
-    ensures { λ r. ⌜ CountOf (now (tag .entry)) r ⌝ }
-{
-    if scan::equal(tag, b"LF") {
-        return TotalAnswer::Known(Total::LinesFound);
-    }
-    if scan::equal(tag, b"LH") {
-        return TotalAnswer::Known(Total::LinesHit);
-    }
-    if scan::equal(tag, b"FNF") {
-        return TotalAnswer::Known(Total::FunctionsFound);
-    }
-    if scan::equal(tag, b"FNH") {
-        return TotalAnswer::Known(Total::FunctionsHit);
-    }
-    if scan::equal(tag, b"BRF") {
-        return TotalAnswer::Known(Total::BranchesFound);
-    }
-    if scan::equal(tag, b"BRH") {
-        return TotalAnswer::Known(Total::BranchesHit);
-    }
-    TotalAnswer::Unknown
 }

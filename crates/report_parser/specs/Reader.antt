@@ -4,6 +4,7 @@ use mathlib.Core.Path.{_≡_}
 use mathlib.Core.Bool.{false, cond}
 use mathlib.Core.List.{List}
 use lib.ListN.{length, drop}
+use Rattle.model.specs.declared.Kind.{Kind}
 use Rattle.model.specs.declared.Fault.{Fault}
 use Rattle.model.specs.declared.Fault.the-variants.{UnexpectedEof}
 use Rattle.model.specs.declared.Refusal.{Refusal}
@@ -12,7 +13,6 @@ use Rattle.model.specs.declared.LineAnswer.the-variants as A
 use Rattle.model.specs.Bytes.{Bytes}
 use Rattle.model.specs.Answer.{Answer, accepted, refused}
 use Rattle.model.specs.Report.{Report}
-use Rattle.model.specs.Tags.{defaultTag}
 use Rattle.model.specs.Reading.{lines, readLines, readText}
 use Rattle.section.specs.declared.State.{State}
 use Rattle.section.specs.declared.Step.{Step}
@@ -25,13 +25,13 @@ use Rattle.report_parser.specs.declared.TextAnswer.{TextAnswer}
 use Rattle.report_parser.specs.declared.TextAnswer.the-variants as T
 
 -- the answer to what is left from `at` on, its next line having this number, read from the state that the words hold
-abbrev pub leftAt : Bytes → List ℕ → ℕ → ℕ → ℕ → ℕ → State → Answer Report
-leftAt text ws index limit at number st = readLines defaultTag limit number (lines (drop at text)) (stateOf text ws index st)
+abbrev pub leftAt : (tag : Kind → Bytes) → Bytes → List ℕ → ℕ → ℕ → ℕ → ℕ → State → Answer Report
+leftAt tag text ws index limit at number st = readLines tag limit number (lines (drop at text)) (stateOf text ws index st)
 
 -- the words hold a state, and what is left gives the answer of the whole, which starts at `from`
-pub record Progress (text ws : List ℕ) (index limit from at number : ℕ) (st : State) : Type 0 where
+pub record Progress (tag : Kind → Bytes) (text ws : List ℕ) (index limit from at number : ℕ) (st : State) : Type 0 where
   pub valid : HoldsState text ws index limit st
-  pub left : leftAt text ws index limit at number st ≡ readText defaultTag limit (drop from text)
+  pub left : leftAt tag text ws index limit at number st ≡ readText tag limit (drop from text)
   pub few : number ≤ at + 1
 
 -- a refusal at a line
@@ -70,14 +70,14 @@ pub record TextFinished (text ws ws′ : List ℕ) (index : ℕ) (st : State) (n
   pub in-main : st .inside ≡ false → AllInMain text ws ws′ index st kept
 
 -- after a line: the next one starts at `next`, and what is left gives the same answer; or that is the refusal
-abbrev pub AfterLine : Bytes → List ℕ → ℕ → ℕ → ℕ → ℕ → Answer Report → LineStep → Type 0
-AfterLine text ws index limit at number answer (L.Next st next) =
-    HoldsState text ws index limit st × (leftAt text ws index limit next (number + 1) st ≡ answer) × (at < next) × (next ≤ length text + 1)
-AfterLine text ws index limit at number answer (L.Refused r) = answer ≡ refused r
+abbrev pub AfterLine : (tag : Kind → Bytes) → Bytes → List ℕ → ℕ → ℕ → ℕ → ℕ → Answer Report → LineStep → Type 0
+AfterLine tag text ws index limit at number answer (L.Next st next) =
+    HoldsState text ws index limit st × (leftAt tag text ws index limit next (number + 1) st ≡ answer) × (at < next) × (next ≤ length text + 1)
+AfterLine tag text ws index limit at number answer (L.Refused r) = answer ≡ refused r
 
 -- the words ws and the state before the line, the words ws′ after it
-pub record LineDone (text ws ws′ : List ℕ) (index limit at number : ℕ) (st : State) (r : LineStep) : Type 0 where
-  pub after : AfterLine text ws′ index limit at number (leftAt text ws index limit at number st) r
+pub record LineDone (tag : Kind → Bytes) (text ws ws′ : List ℕ) (index limit at number : ℕ) (st : State) (r : LineStep) : Type 0 where
+  pub after : AfterLine tag text ws′ index limit at number (leftAt tag text ws index limit at number st) r
 
 -- the report that the first entries in the index's order are
 abbrev pub seenText : Bytes → List ℕ → ℕ → TextAnswer → Answer Report
@@ -90,6 +90,6 @@ HeldText text ws index limit (T.Read kept used) = Sections text ws index used ke
 HeldText text ws index limit (T.Refused r) = Unit {0}
 
 -- the answer is the model's for the text that starts at `from`
-pub record TextRead (text ws : List ℕ) (index limit from : ℕ) (r : TextAnswer) : Type 0 where
-  pub is : seenText text ws index r ≡ readText defaultTag limit (drop from text)
+pub record TextRead (tag : Kind → Bytes) (text ws : List ℕ) (index limit from : ℕ) (r : TextAnswer) : Type 0 where
+  pub is : seenText text ws index r ≡ readText tag limit (drop from text)
   pub held : HeldText text ws index limit r

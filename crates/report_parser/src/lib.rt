@@ -8,8 +8,10 @@ use model::Refusal;
 use section::State;
 use section::Step;
 ghost use mathlib.Core.Path.{_≡_};
+ghost use mathlib.Core.Bool.{true};
 ghost use Prim.Native.Nat.{_≤_, _<_};
 ghost use lib.ListN.{length};
+ghost use Rattle.model.specs.TagTable.{tagsOf, areTags};
 ghost use Rattle.section.specs.Reading.{SectionRoom, HoldsState};
 ghost use Rattle.report_parser.specs.Reader.{atLine, faultAt, LineRefuses, StepRefuses, RefusedLine, RefusedStep, LineDone, TextFinished, TextRead};
 
@@ -75,6 +77,7 @@ fn refused_step(done: Step, number: u64) -> LineStep
 
 // Reads the line that starts at `at`; it has this number.
 fn read_line_at(
+    tags: &[u8],
     text: &[u8],
     words: &mut [u64],
     index: usize,
@@ -83,11 +86,12 @@ fn read_line_at(
     at: usize,
     number: u64,
 ) -> LineStep
+    requires { ⌜ areTags (now tags) ≡ true ⌝ }
     requires { ⌜ HoldsState (now text) (now words) index limit state × (at < length (now text)) ⌝ }
-    ensures { λ r. ⌜ LineDone (now (text .entry)) (now (words .entry)) (now (words .exit)) index limit at number state r ⌝ }
+    ensures { λ r. ⌜ LineDone (tagsOf (now (tags .entry))) (now (text .entry)) (now (words .entry)) (now (words .exit)) index limit at number state r ⌝ }
 {
     let len = scan::find(&text[at..], b'\n');
-    let got = record_parse::read_record(&text[at..at + len]);
+    let got = record_parse::read_record(tags, &text[at..at + len]);
     let LineAnswer::Read(made) = got else {
         return refused_line(got, number);
     };
@@ -125,20 +129,22 @@ fn finish_text(
 // Reads the text that starts at `from` into rows at the front of the words, whose index starts at word `index`; there is room for `limit`
 // entries. The rows' names are parts of all that is lent: a bundle's texts are read so that their rows can be compared.
 pub fn read_lines(
+    tags: &[u8],
     text: &[u8],
     from: usize,
     words: &mut [u64],
     index: usize,
     limit: usize,
 ) -> TextAnswer
+    requires { ⌜ areTags (now tags) ≡ true ⌝ }
     requires { ⌜ SectionRoom (now words) index limit × (from ≤ length (now text)) ⌝ }
-    ensures { λ r. ⌜ TextRead (now (text .entry)) (now (words .exit)) index limit from r ⌝ }
+    ensures { λ r. ⌜ TextRead (tagsOf (now (tags .entry))) (now (text .entry)) (now (words .exit)) index limit from r ⌝ }
 {
     let mut state = section::start();
     let mut at = from;
     let mut number = 1;
     while at < text.len() {
-        let got = read_line_at(text, words, index, limit, state, at, number);
+        let got = read_line_at(tags, text, words, index, limit, state, at, number);
         match got {
             LineStep::Refused(refusal) => {
                 return TextAnswer::Refused(refusal);

@@ -12,7 +12,7 @@ const MAX_INPUT: usize = 131072;
 // A line has at most 65,535 bytes, so its record always fits; if not, the output says so and the comparison fails.
 fn show_record(line: &[u8], record: Record) {
     let mut out = io::large_buffer();
-    let wrote = record_display::print_line(line, record, &mut out);
+    let wrote = lcov::print_line(line, record, &mut out);
     let WriteAnswer::Written(n) = wrote else {
         io::write_all(1, b"no room\n");
         return;
@@ -21,7 +21,7 @@ fn show_record(line: &[u8], record: Record) {
 }
 
 fn show(line: &[u8]) {
-    let got = record_parse::read_line(line);
+    let got = lcov::read_line(line);
     match got {
         LineAnswer::Read(record) => show_record(line, record),
         LineAnswer::Refused(refusal) => program_io::show_refusal(refusal),

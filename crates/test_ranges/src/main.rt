@@ -102,7 +102,7 @@ fn ill_formed() {
 fn part_outside() {
     let mut out = [0u8; 16];
     let name = Part { start: 3, len: 2 };
-    match record_display::print_line(b"TN:a", Record::TestName(name), &mut out) {
+    match lcov::print_line(b"TN:a", Record::TestName(name), &mut out) {
         WriteAnswer::Written(n) => program_io::write_first(&out, n),
         WriteAnswer::Refused(refusal) => program_io::show_refusal(refusal),
     }

@@ -1,6 +1,6 @@
 //! A build of the port behind the interface.
 
-use crate::interface::{Gatherer, HalfOpen, Lent, Numbers, Port, Ranges};
+use crate::interface::{Gatherer, HalfOpen, Lent, Numbers, Port, Ranges, Tagged};
 use crate::ranges::List;
 use lcov_sys::Calls;
 
@@ -50,6 +50,48 @@ impl Gatherer for Build {
         let List { pairs, used } = list;
         self.0
             .filter(text, pairs, *used, lent.scratch, lent.out, lent.answer)
+    }
+}
+
+impl Tagged for Build {
+    fn read_line_tagged(&self, tags: &[u8], line: &[u8], answer: &mut [u64]) -> u32 {
+        self.0.read_line_tagged(tags, line, answer)
+    }
+
+    fn print_line_tagged(
+        &self,
+        tags: &[u8],
+        line: &[u8],
+        out: &mut [u8],
+        answer: &mut [u64],
+    ) -> u32 {
+        self.0.print_line_tagged(tags, line, out, answer)
+    }
+
+    fn read_text_tagged(&self, tags: &[u8], text: &[u8], lent: Lent) -> u32 {
+        self.0
+            .read_text_tagged(tags, text, lent.scratch, lent.out, lent.answer)
+    }
+
+    fn gather_tagged(&self, tags: &[u8], bundle: &[u8], lent: Lent) -> u32 {
+        self.0
+            .gather_tagged(tags, bundle, lent.scratch, lent.out, lent.answer)
+    }
+
+    fn gather_lossy_tagged(&self, tags: &[u8], bundle: &[u8], lent: Lent) -> u32 {
+        self.0
+            .gather_lossy_tagged(tags, bundle, lent.scratch, lent.out, lent.answer)
+    }
+
+    fn filter_text_tagged(&self, tags: &[u8], text: &[u8], list: &List, lent: Lent) -> u32 {
+        let List { pairs, used } = list;
+        let Lent {
+            scratch,
+            out,
+            answer,
+        } = lent;
+        self.0
+            .filter_tagged(tags, text, pairs, *used, scratch, out, answer)
     }
 }
 

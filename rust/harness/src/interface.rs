@@ -44,6 +44,28 @@ pub trait Gatherer {
     fn filter_text(&self, text: &[u8], list: &List, lent: Lent) -> u32;
 }
 
+/// The calls that take a table of tags, each as the call without one.
+pub trait Tagged: Port + Gatherer {
+    fn read_line_tagged(&self, tags: &[u8], line: &[u8], answer: &mut [u64]) -> u32;
+
+    fn print_line_tagged(
+        &self,
+        tags: &[u8],
+        line: &[u8],
+        out: &mut [u8],
+        answer: &mut [u64],
+    ) -> u32;
+
+    fn read_text_tagged(&self, tags: &[u8], text: &[u8], lent: Lent) -> u32;
+
+    /// Checked.
+    fn gather_tagged(&self, tags: &[u8], bundle: &[u8], lent: Lent) -> u32;
+
+    fn gather_lossy_tagged(&self, tags: &[u8], bundle: &[u8], lent: Lent) -> u32;
+
+    fn filter_text_tagged(&self, tags: &[u8], text: &[u8], list: &List, lent: Lent) -> u32;
+}
+
 /// The calls on lists of ranges.
 pub trait Ranges {
     /// Changes the pairs; the first word of the answer is how many are used then.

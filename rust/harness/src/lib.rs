@@ -1,7 +1,8 @@
-//! The differential harness for lines, number fields, paths, ranges, texts and bundles: questions, what the Rust answers, and the comparison with the port.
+//! The differential harness for lines, number fields, paths, ranges, texts, bundles and tables of tags: questions, what the Rust answers, and the
+//! comparison with the port.
 //!
-//! Nothing here is linked with the port: [`Port`], [`Numbers`], [`Ranges`] and [`Gatherer`] are what the programs hand in, a [`Build`], and the tests a
-//! stand-in for it.
+//! Nothing here is linked with the port: [`Port`], [`Numbers`], [`Ranges`], [`Gatherer`] and [`Tagged`] are what the programs hand in, a [`Build`], and the tests
+//! a stand-in for it.
 
 pub mod calls;
 pub mod compare;
@@ -18,6 +19,7 @@ pub mod ranges;
 pub mod reports;
 pub mod rng;
 pub mod sample;
+pub mod tagged;
 pub mod tally;
 pub mod tracefile;
 
@@ -26,5 +28,5 @@ mod stand_in;
 
 pub use calls::Build;
 pub use compare::Comparison;
-pub use interface::{Gatherer, Numbers, Port, Ranges};
+pub use interface::{Gatherer, Numbers, Port, Ranges, Tagged};
 pub use rng::Rng;

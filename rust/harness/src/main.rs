@@ -1,10 +1,11 @@
 //! Compares the port with the unchanged Rust on lines, paths, ranges, texts, filters and bundles, and with what include/lcov.h says on
-//! single number fields. Where an FN has an end line, the Rust is asked about the same without end lines, and these are put in here.
+//! single number fields. Where an FN has an end line, the Rust is asked about the same without end lines, and these are put in here. What takes
+//! a table of tags is compared with the port's own calls without one, on the same in default tags.
 //!
-//!     harness [--seed N] [--minutes M | [--lines N] [--numbers N] [--ranges N] [--reports N]]
+//!     harness [--seed N] [--minutes M | [--lines N] [--numbers N] [--ranges N] [--reports N] [--tables N]]
 //!
 //! Every run asks the systematic lines, number fields and bundles and all pairs of paths. Random questions follow: so many lines, number
-//! fields, lists of ranges, and texts, filters and bundles, or rounds of all of them until so many minutes have passed since the start. It
+//! fields, lists of ranges, texts, filters and bundles, and tables of tags, or rounds of all of them until so many minutes have passed since the start. It
 //! prints how often each answer came, ten differences of each kind in full (of texts and bundles the smallest), how many calls there were,
 //! and a last line `N compared, M differences`; the exit status is 0 only if M is 0.
 
@@ -13,13 +14,14 @@ use harness::interface::{INNER_WORDS, MAX_ENTRIES, WORDS_PER_ENTRY};
 use harness::lines::{random, systematic};
 use harness::ranges::cases::ROOM;
 use harness::ranges::program::Program;
-use harness::{numbers, paths, ranges, reports, Build, Comparison, Rng};
-use lcov_sys::Calls;
+use harness::tagged::tables;
+use harness::{numbers, paths, ranges, reports, sample, tagged, Build, Comparison, Rng};
+use lcov_sys::{Calls, DEFAULT_TAGS};
 use std::process::ExitCode;
 use std::time::{Duration, Instant};
 
 const USAGE: &str =
-    "usage: harness [--seed N] [--minutes M | [--lines N] [--numbers N] [--ranges N] [--reports N]]";
+    "usage: harness [--seed N] [--minutes M | [--lines N] [--numbers N] [--ranges N] [--reports N] [--tables N]]";
 
 /// The number of random questions.
 #[derive(Clone, Copy)]
@@ -30,6 +32,8 @@ struct Round {
     ranges: u64,
     /// Half of them texts, each filtered too, half bundles, each asked checked and lossy.
     reports: u64,
+    /// Tables of tags, each with lines, a text, which is filtered too, and a bundle.
+    tables: u64,
 }
 
 /// What a run asks where nothing else is said.
@@ -38,6 +42,7 @@ const USUAL: Round = Round {
     numbers: 500_000,
     ranges: 20_000,
     reports: 200_000,
+    tables: 40_000,
 };
 
 /// What is asked again and again until the time is over.
@@ -46,6 +51,7 @@ const AGAIN: Round = Round {
     numbers: 100_000,
     ranges: 4_000,
     reports: 40_000,
+    tables: 8_000,
 };
 
 /// Of how many lists one is asked of range structs too, which another process answers.
@@ -102,6 +108,7 @@ fn options(mut words: impl Iterator<Item = String>) -> Option<Options> {
             "--numbers" => options.round.numbers = number,
             "--ranges" => options.round.ranges = number,
             "--reports" => options.round.reports = number,
+            "--tables" => options.round.tables = number,
             _ => return None,
         }
         counted |= !matches!(word.as_str(), "--seed" | "--minutes");
@@ -118,6 +125,7 @@ struct Run {
     /// Lists of range structs.
     structs: ranges::compare::Comparison<Program>,
     reports: reports::compare::Comparison<Build>,
+    tagged: tagged::Comparison<Build>,
 }
 
 impl Run {
@@ -131,6 +139,7 @@ impl Run {
             ranges: ranges::compare::Comparison::new(port),
             structs: ranges::compare::Comparison::new(program),
             reports: reports::compare::Comparison::new(port, seed),
+            tagged: tagged::Comparison::new(port, seed),
         }
     }
 
@@ -151,6 +160,26 @@ impl Run {
             reports.text(&reports::systematic::ascending(entries));
         }
         reports::systematic::replaced(self.seed, &mut |text| reports.text(text));
+        self.recorded_with_tables();
+    }
+
+    /// The recorded lines and bundles, with the default table, with one that loads, and with one that is refused or else special.
+    fn recorded_with_tables(&mut self) {
+        let special = tables::special();
+        let lines = sample::decoded(&sample::make().lines).expect("the sample that was made");
+        for line in lines {
+            let (random, other) = (tables::random(&mut self.rng), self.rng.below(special.len()));
+            for table in [&DEFAULT_TAGS[..], &random, &special[other]] {
+                self.tagged.line(table, &line);
+            }
+        }
+        for recorded in reports::recorded::all() {
+            let random = tables::random(&mut self.rng);
+            self.tagged.bundle(&random, &recorded.bundle);
+            for table in &special {
+                self.tagged.bundle(table, &recorded.bundle);
+            }
+        }
     }
 
     fn round(&mut self, round: Round) {
@@ -166,6 +195,9 @@ impl Run {
         }
         for _ in 0..round.reports / 2 {
             random_reports(&mut self.reports, &mut self.rng);
+        }
+        for _ in 0..round.tables {
+            random_table(&mut self.tagged, &mut self.rng);
         }
     }
 
@@ -189,6 +221,7 @@ impl Run {
             &self.ranges.differences,
             &self.structs.differences,
             &self.reports.differences,
+            &self.tagged.differences,
         ]
         .into_iter()
     }
@@ -201,14 +234,19 @@ impl Run {
         print!("{}{}", self.lines.tally, self.numbers.tally);
         print!("{}", self.ranges.tally);
         println!("of range structs, by the program test_line_num:");
-        print!("{}{}", self.structs.tally, self.reports.tally);
+        print!(
+            "{}{}{}",
+            self.structs.tally, self.reports.tally, self.tagged.tally
+        );
         for (number, difference) in (1..).zip(self.found().flat_map(Differences::shown)) {
             println!("difference {number}: {difference}");
         }
         let ranges = self.ranges.tally.calls() + self.structs.tally.calls();
         let numbers = &self.numbers.tally;
-        let calls = self.lines.calls + numbers.calls + ranges + self.reports.tally.calls();
-        let compared = self.lines.compared() + numbers.asked() + ranges;
+        let tagged = &self.tagged.tally;
+        let calls =
+            self.lines.calls + numbers.calls + ranges + self.reports.tally.calls() + tagged.calls;
+        let compared = self.lines.compared() + numbers.asked() + ranges + tagged.asked();
         println!(
             "seed {}: {calls} calls in {:.1} s",
             self.seed,
@@ -237,4 +275,24 @@ fn random_reports(comparison: &mut reports::compare::Comparison<Build>, rng: &mu
             comparison.bundle(&bundle);
         }
     }
+}
+
+/// So many lines for a text.
+const LINES_OF_TABLE: usize = 6;
+
+/// The default table, one that loads, or one that does not, with lines, a text, read and filtered, and a bundle.
+fn random_table(comparison: &mut tagged::Comparison<Build>, rng: &mut Rng) {
+    let table = match rng.below(8) {
+        0 | 1 => DEFAULT_TAGS.to_vec(),
+        2 => tables::damaged(rng),
+        _ => tables::random(rng),
+    };
+    for _ in 0..LINES_OF_TABLE {
+        comparison.line(&table, &random::line(rng));
+    }
+    let habit = reports::random::Habit::random(rng);
+    let text = reports::random::text(rng, habit);
+    comparison.text(&table, &text);
+    comparison.filter(&table, &text, &reports::random::lines_kept(rng));
+    comparison.bundle(&table, &reports::random::bundle(rng));
 }

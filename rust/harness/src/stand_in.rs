@@ -50,6 +50,17 @@ pub enum Wrong {
     CheckedIsLossy,
     InnerLimit,
     FilterKeepsAll,
+
+    // with tables of tags
+    SlotsCompared,
+    EqualFirst,
+    TableNotTried,
+    BundleFirst,
+    PrefixTaken,
+    TagEndsAtZero,
+    DefaultStillRead,
+    DefaultPrinted,
+    StartOfDefault,
 }
 
 impl Wrong {

@@ -4,6 +4,8 @@ use crate::form::{is_digits, Field, Form, FORMS, NEWER_FORMS};
 use crate::forms::{is_negative, EXCEPTION};
 use crate::items::Taking;
 use crate::joined::Conflict;
+use crate::shown::shown;
+use crate::tags::Tags;
 use lcov_sys::{Fault, Refusal};
 
 pub const CUT: &str = "the file is cut; get it again";
@@ -20,14 +22,21 @@ pub const LARGE_SECTION: &str = "capture that source file without branches, or i
 pub const LARGE_FILE: &str =
     "with --as-written the sections of a file in which one comes again share the limit, and with --as-geninfo each has its own";
 
-/// For a line that is refused by itself; `part` is what is refused of it.
-pub fn for_line(refusal: &Refusal, line: &[u8], part: &[u8], taking: Taking) -> String {
+/// For a line that is refused by itself, given with the default tags; `part` is what is refused of it.
+pub fn for_line(
+    refusal: &Refusal,
+    line: &[u8],
+    part: &[u8],
+    taking: Taking,
+    tags: Option<&Tags>,
+) -> String {
     if refusal.number == 23 {
         return ENDS_BEFORE.to_owned();
     }
     let Some(form) = Form::of(line) else {
-        return for_tag(line, refusal.line, taking);
+        return for_tag(line, refusal.line, taking, tags);
     };
+    let words = || form_words(form, tags);
     let place = refusal.field.saturating_sub(1) as usize;
     let field = form.fields_of(line).nth(place);
     match (refusal.number, field) {
@@ -37,14 +46,19 @@ pub fn for_line(refusal: &Refusal, line: &[u8], part: &[u8], taking: Taking) -> 
                 .to_owned()
         }
         (5, Some(Field::Small("BLOCK"))) if part.starts_with(b"e") => for_exception(taking),
-        (6, Some(field)) => field.greatest_in_words().unwrap_or(form_words(form)),
-        (19, _) => format!("{}; a number has digits alone", form_words(form)),
-        _ => form_words(form),
+        (6, Some(field)) => field.greatest_in_words().unwrap_or_else(words),
+        (19, _) => format!("{}; a number has digits alone", words()),
+        _ => words(),
     }
 }
 
-fn form_words(form: Form) -> String {
-    format!("the line has the form {}", form.words())
+fn form_words(form: Form, tags: Option<&Tags>) -> String {
+    format!("the line has the form {}", in_own_tags(&form.words(), tags))
+}
+
+/// A line, or a tag alone, as the user writes it.
+fn in_own_tags(line: &str, tags: Option<&Tags>) -> String {
+    tags.map_or(line.to_owned(), |tags| shown(&tags.write(line.as_bytes())))
 }
 
 fn for_exception(taking: Taking) -> String {
@@ -56,7 +70,7 @@ fn for_exception(taking: Taking) -> String {
     }
 }
 
-fn for_tag(line: &[u8], number: u64, taking: Taking) -> String {
+fn for_tag(line: &[u8], number: u64, taking: Taking, own: Option<&Tags>) -> String {
     match (Form::newer(line), taking) {
         (Some(form), Taking::AsGeninfo) => for_newer(form, line),
         (Some(_), Taking::AsWritten) => {
@@ -69,7 +83,8 @@ fn for_tag(line: &[u8], number: u64, taking: Taking) -> String {
                 Taking::AsWritten => &[][..],
                 Taking::AsGeninfo => &NEWER_FORMS,
             };
-            let tags: Vec<&str> = FORMS.iter().chain(newer).map(|form| form.tag).collect();
+            let forms = FORMS.iter().chain(newer);
+            let tags: Vec<String> = forms.map(|form| in_own_tags(form.tag, own)).collect();
             let doubt = if number == 1 {
                 "is it a tracefile? "
             } else {
@@ -86,7 +101,7 @@ fn for_newer(form: Form, line: &[u8]) -> String {
     let field = field.filter(|_| is_digits(&line[part]));
     field
         .and_then(Field::greatest_in_words)
-        .unwrap_or(form_words(form))
+        .unwrap_or_else(|| form_words(form, None))
 }
 
 pub fn for_conflict(conflict: &Conflict) -> &'static str {

@@ -16,8 +16,11 @@ use crate::open::OpenSection;
 use crate::record::without_end;
 use crate::shown::shown;
 use crate::source::Sources;
+use crate::tags::Tags;
 use crate::words::{conflict_words, section_words};
 use lcov_sys::{Refusal, MAX_ENTRIES};
+use std::borrow::Cow;
+use std::ops::Range;
 
 /// How the files were gathered.
 #[derive(Debug, Clone, Copy, PartialEq, Eq)]
@@ -108,7 +111,12 @@ impl Case<'_> {
 
     fn of_line(&self) -> Option<String> {
         let line = self.line()?;
-        Some(line_words(&self.refusal, line, self.rules.taking))
+        Some(line_words(
+            &self.refusal,
+            line,
+            self.rules.taking,
+            self.sources.rewriting.tags(),
+        ))
     }
 
     fn open(&self) -> OpenSection<'_> {
@@ -130,7 +138,8 @@ impl Case<'_> {
 
     fn of_calls(&self) -> Option<String> {
         let (number, line) = (self.refusal.line, self.line()?);
-        let name = line.splitn(2, |&byte| byte == b',').nth(1)?;
+        let read = in_default_tags(line, self.sources.rewriting.tags());
+        let name = read.splitn(2, |&byte| byte == b',').nth(1)?;
         let calls = self.open().calls_before(self.text, number, name);
         let (name, open) = (shown(name), self.open_words());
         let what = format!("\n  function {name} in {open} has {calls} calls before this line");
@@ -174,19 +183,33 @@ impl Case<'_> {
     }
 }
 
-/// Of a line that is refused by itself.
-pub fn line_words(refusal: &Refusal, line: &[u8], taking: Taking) -> String {
+/// Of a line that is refused by itself, as the file has it.
+pub fn line_words(refusal: &Refusal, line: &[u8], taking: Taking, tags: Option<&Tags>) -> String {
+    let read = in_default_tags(line, tags);
+    let part = refused_part(refusal, &read, taking);
+    let advice = advice::for_line(refusal, &read, &read[part.clone()], taking, tags);
+    // What begins the line is its tag; all else stands as far from the line's end in both.
+    let part = match part.start {
+        0 => tag_of(line),
+        start => start + line.len() - read.len()..part.end + line.len() - read.len(),
+    };
+    excerpt(refusal.line, line, part) + &help(&advice)
+}
+
+fn in_default_tags<'a>(line: &'a [u8], tags: Option<&Tags>) -> Cow<'a, [u8]> {
+    tags.map_or(line.into(), |tags| tags.read(line).into())
+}
+
+fn refused_part(refusal: &Refusal, line: &[u8], taking: Taking) -> Range<usize> {
     let newer = Form::newer(line).filter(|_| taking == Taking::AsGeninfo);
-    let part = match refusal.number {
+    match refusal.number {
         1 => newer.map_or(tag_of(line), |form| form.fault_in(line).0),
         3 => excess_of(line),
         // FNL of lcov 2.3 has an index before the start line.
         23 if line.starts_with(b"FNL:") => field_of(line, 3),
         23 => field_of(line, 2),
         _ => field_of(line, refusal.field),
-    };
-    let advice = advice::for_line(refusal, line, &line[part.clone()], taking);
-    excerpt(refusal.line, line, part) + &help(&advice)
+    }
 }
 
 pub fn open_words(open: &OpenSection, sources: Sources) -> String {

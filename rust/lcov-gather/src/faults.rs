@@ -49,7 +49,7 @@ impl LineFault<'_> {
         let words = match number {
             7 | 25 => unended_words(self.line, self.bytes, &open()),
             8 => ended_words(&open()),
-            _ => line_words(&refusal, self.bytes, taking),
+            _ => line_words(&refusal, self.bytes, taking, sources.rewriting.tags()),
         };
         Failure::Explained(Box::new(Failure::Refused(path, refusal)), words)
     }

@@ -44,6 +44,8 @@ pub mod sections;
 pub mod shown;
 pub mod source;
 pub mod store;
+pub mod tag_file;
+pub mod tags;
 pub mod tracefile;
 pub mod unzip;
 pub mod words;

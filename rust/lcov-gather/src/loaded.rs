@@ -41,6 +41,7 @@ impl Loaded {
             return Err(Failure::TooLong(path));
         }
         let bytes = &worker.files[range.clone()];
+        source.count(bytes);
         let scanned = scan(bytes, &source.name(), reading.meaning, sources.guard());
         let mut loaded = Loaded {
             place,
@@ -94,13 +95,13 @@ impl Loaded {
     }
 }
 
-/// A file with its paths as they are mapped.
+/// A file with its tags and paths as they are changed.
 fn read(source: &Source, rewriting: &Rewriting, worker: &mut Worker) -> Result<Identity, Failure> {
-    if !rewriting.has_maps() {
+    if !rewriting.changes_lines() {
         return source.read(&mut worker.files);
     }
     worker.spare.clear();
     let identity = source.read(&mut worker.spare)?;
-    worker.files.extend(rewriting.map_paths(&worker.spare));
+    worker.files.extend(rewriting.change_lines(&worker.spare));
     Ok(identity)
 }

@@ -5,6 +5,7 @@ use crate::gathering::{Mode, Reading, ROUND};
 use crate::lines::Cut;
 use crate::meaning::Meaning;
 use crate::rewrite::Rewriting;
+use crate::tag_file;
 use clap::builder::ValueParser;
 use clap::error::ErrorKind;
 use clap::{value_parser, Arg, ArgAction, ArgMatches, Command, ValueHint};
@@ -88,6 +89,8 @@ fn options(mut matches: ArgMatches) -> Result<Options, Failure> {
     let cuts = matches.remove_many::<OsString>("lines").unwrap_or_default();
     let maps = matches.remove_many("map-path").unwrap_or_default();
     let output = matches.remove_one::<PathBuf>("output");
+    let tags = matches.remove_one::<PathBuf>("tags");
+    let tags = tags.map(|path| tag_file::load(&path)).transpose()?;
     Ok(Options {
         reading: Reading {
             mode,
@@ -96,7 +99,7 @@ fn options(mut matches: ArgMatches) -> Result<Options, Failure> {
             round: ROUND,
         },
         action: action(&matches),
-        rewriting: Rewriting::new(matches.remove_one("test-name"), maps)?,
+        rewriting: Rewriting::new(matches.remove_one("test-name"), maps)?.with_tags(tags),
         quiet: matches.get_flag("quiet"),
         stats: matches.get_flag("stats"),
         lines: cuts.map(|cut| Cut::parse(&cut)).collect::<Result<_, _>>()?,
@@ -190,16 +193,21 @@ fn action_arguments() -> [Arg; 2] {
     ]
 }
 
-fn rewriting_arguments() -> [Arg; 2] {
+fn rewriting_arguments() -> [Arg; 3] {
     let test_name = "Put all sections under this test name, so that the counts of all tests add up";
     let map_path =
         "In paths that begin with the folders FROM put TO in their place; may be given more than \
         once, and the first that applies counts";
+    let tags = "Read and write the tags of FILE in place of the default ones: thirteen lines, each a default \
+        tag, a blank, and the tag in its place";
     [
         value("test-name", "NAME", value_parser!(OsString)).help(test_name),
         value("map-path", "FROM=TO", value_parser!(OsString))
             .action(ArgAction::Append)
             .help(map_path),
+        value("tags", "FILE", value_parser!(PathBuf))
+            .value_hint(ValueHint::FilePath)
+            .help(tags),
     ]
 }
 

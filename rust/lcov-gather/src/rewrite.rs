@@ -1,4 +1,4 @@
-//! What is changed in a tracefile before it is read: test names, and the beginnings of paths.
+//! What is changed in a tracefile before it is read: tags, test names, and the beginnings of paths.
 //!
 //! Lines keep their numbers, so that a refusal names a line of the file. For one test name no line can be added to the sections that have no
 //! TN, so all sections get the empty name, which those have too, and the result gets the name that was asked for.
@@ -6,6 +6,7 @@
 use crate::failure::Failure;
 use crate::record::without_end;
 use crate::sections::printed_sections;
+use crate::tags::Tags;
 use crate::tracefile::Tracefile;
 use std::borrow::Cow;
 use std::ffi::{OsStr, OsString};
@@ -57,6 +58,7 @@ impl PathMap {
 pub struct Rewriting {
     test_name: Option<Vec<u8>>,
     maps: Vec<PathMap>,
+    tags: Option<Tags>,
 }
 
 impl Rewriting {
@@ -78,7 +80,17 @@ impl Rewriting {
             maps: maps
                 .map(|map| PathMap::parse(&map))
                 .collect::<Result<_, _>>()?,
+            tags: None,
         })
+    }
+
+    /// The same with the house's tags, where there are some.
+    pub fn with_tags(self, tags: Option<Tags>) -> Self {
+        Rewriting { tags, ..self }
+    }
+
+    pub fn tags(&self) -> Option<&Tags> {
+        self.tags.as_ref()
     }
 
     /// Whether all sections get one test name.
@@ -88,22 +100,31 @@ impl Rewriting {
 
     /// The bytes of a file as they are to be read.
     pub fn rewrite(&self, text: Vec<u8>) -> Vec<u8> {
-        let named = match self.has_one_name() {
-            true => without_names(&text),
+        let text = match self.changes_lines() {
+            true => self.change_lines(&text),
             false => text,
         };
-        match self.has_maps() {
-            true => self.map_paths(&named),
-            false => named,
+        match self.has_one_name() {
+            true => without_names(&text),
+            false => text,
         }
     }
 
-    pub fn has_maps(&self) -> bool {
-        !self.maps.is_empty()
+    /// Whether tags or paths are changed.
+    pub fn changes_lines(&self) -> bool {
+        self.tags.is_some() || !self.maps.is_empty()
     }
 
-    /// The text with other paths. It keeps its test names, which the cutter leaves out where all sections get one.
-    pub fn map_paths(&self, text: &[u8]) -> Vec<u8> {
+    /// The text with the default tags and other paths. It keeps its test names, which the cutter leaves out where all sections get one.
+    pub fn change_lines(&self, text: &[u8]) -> Vec<u8> {
+        match &self.tags {
+            None => self.map_paths(text),
+            Some(tags) if self.maps.is_empty() => tags.read(text),
+            Some(tags) => self.map_paths(&tags.read(text)),
+        }
+    }
+
+    fn map_paths(&self, text: &[u8]) -> Vec<u8> {
         replace_lines(text, b"SF:", |line| {
             let path = self.map(line.strip_prefix(b"SF:")?)?;
             Some(Cow::Owned([b"SF:", &path[..]].concat()))
@@ -119,6 +140,14 @@ impl Rewriting {
     pub fn name_tests(&self, joined: Tracefile) -> Tracefile {
         match &self.test_name {
             Some(name) => joined.map(|sections| named(sections, name)),
+            None => joined,
+        }
+    }
+
+    /// The result with the house's tags.
+    pub fn write_tags(&self, joined: Tracefile) -> Tracefile {
+        match &self.tags {
+            Some(tags) => joined.map(|sections| tags.write(sections)),
             None => joined,
         }
     }

@@ -36,7 +36,7 @@ impl Sources<'_> {
         Ok(self.rewriting.rewrite(self.own_text(place)?))
     }
 
-    /// A file as it is. The text has its lines, some with other test names and paths.
+    /// A file as it is. The text has its lines, some with other tags, test names and paths.
     pub fn own_text(&self, place: usize) -> Result<Vec<u8>, Failure> {
         let mut text = Vec::new();
         self.files[place].read(&mut text)?;
@@ -61,7 +61,7 @@ impl Source {
         }
     }
 
-    /// One whose numbers are counted when it is read.
+    /// One whose numbers are counted when it is gathered.
     pub fn counting(path: PathBuf) -> Self {
         Source {
             numbers: Some(OnceLock::new()),
@@ -69,7 +69,14 @@ impl Source {
         }
     }
 
-    /// None where they are not counted, or it was not read.
+    /// Counts the numbers of the file, given as the library is to read it, where that is asked for.
+    pub fn count(&self, text: &[u8]) {
+        if let Some(numbers) = &self.numbers {
+            numbers.get_or_init(|| Numbers::of(text));
+        }
+    }
+
+    /// None where they are not counted, or it was not gathered.
     pub fn numbers(&self) -> Option<Numbers> {
         self.numbers.as_ref()?.get().copied()
     }
@@ -94,15 +101,6 @@ impl Source {
 
     /// Appends the file, gunzipped.
     pub fn read(&self, bytes: &mut Vec<u8>) -> Result<Identity, Failure> {
-        let start = bytes.len();
-        let identity = self.read_plain(bytes)?;
-        if let Some(numbers) = &self.numbers {
-            numbers.get_or_init(|| Numbers::of(&bytes[start..]));
-        }
-        Ok(identity)
-    }
-
-    fn read_plain(&self, bytes: &mut Vec<u8>) -> Result<Identity, Failure> {
         if let Some((identity, kept)) = self.kept.get() {
             bytes.extend_from_slice(kept);
             return Ok(*identity);

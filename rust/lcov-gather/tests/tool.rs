@@ -192,6 +192,7 @@ fn help_tells_every_option() {
         "--lines",
         "--test-name",
         "--map-path",
+        "--tags",
         "--check",
         "--keep-going",
         "-o",

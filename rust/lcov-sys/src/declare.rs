@@ -28,6 +28,8 @@ macro_rules! in_c {
 /// The arguments stand twice: as they are split here, and as `in_c` splits them.
 macro_rules! method {
     ($name:ident $arguments:tt ($($argument:ident: $type:ty),*) $($answer:tt)*) => {
+        // They are those of the header.
+        #[allow(clippy::too_many_arguments)]
         pub fn $name(&self, $($argument: $type),*) $($answer)* {
             in_c! { (call (self.$name)) [] $arguments }
         }

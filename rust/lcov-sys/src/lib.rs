@@ -9,9 +9,11 @@
 mod declare;
 mod fault;
 mod refusal;
+mod tags;
 
 pub use fault::Fault;
 pub use refusal::Refusal;
+pub use tags::{make_tags, DEFAULT_TAGS, DEFAULT_TAG_NAMES};
 
 /// So many words of scratch allow one entry.
 pub const WORDS_PER_ENTRY: usize = 32;
@@ -21,6 +23,15 @@ pub const MAX_ENTRIES: usize = 65_535;
 
 /// The most texts that a bundle names.
 pub const MAX_TEXTS: usize = 64;
+
+/// The kinds of record, for each of which a table of tags has a length and a slot.
+pub const KINDS: usize = 13;
+
+/// The slot of a tag, and so its greatest length.
+pub const TAG_SLOT: usize = 16;
+
+/// The length of a table of tags.
+pub const TAGS_LEN: usize = 221;
 
 /// The words of an answer.
 pub const WORDS: usize = 8;
@@ -83,4 +94,49 @@ calls! {
 
     /// The range that the half-open `a..b` is: the first two words.
     fn half_open = lcov_half_open(a: u32, b: u32, answer: &mut [u64]);
+
+    /// As [`read_line`], with the tags of a table ([`make_tags`]) in place of the default ones. So do the calls below. Each refuses with 21 and 22
+    /// before all else.
+    fn read_line_tagged = lcov_read_line_tagged(tags: &[u8], line: &[u8], answer: &mut [u64]) -> u32;
+
+    /// As [`print_line`].
+    fn print_line_tagged = lcov_print_line_tagged(tags: &[u8], line: &[u8], out: &mut [u8], answer: &mut [u64]) -> u32;
+
+    /// As [`read_text`].
+    fn read_text_tagged = lcov_read_text_tagged(
+        tags: &[u8],
+        text: &[u8],
+        scratch: &mut [u64],
+        out: &mut [u8],
+        answer: &mut [u64]
+    ) -> u32;
+
+    /// As [`gather_with`].
+    fn gather_tagged = lcov_gather_tagged(
+        tags: &[u8],
+        bundle: &[u8],
+        scratch: &mut [u64],
+        out: &mut [u8],
+        answer: &mut [u64]
+    ) -> u32;
+
+    /// As [`gather_lossy`].
+    fn gather_lossy_tagged = lcov_gather_lossy_tagged(
+        tags: &[u8],
+        bundle: &[u8],
+        scratch: &mut [u64],
+        out: &mut [u8],
+        answer: &mut [u64]
+    ) -> u32;
+
+    /// As [`filter`].
+    fn filter_tagged = lcov_filter_tagged(
+        tags: &[u8],
+        text: &[u8],
+        pairs: &[[u32; 2]],
+        used: usize,
+        scratch: &mut [u64],
+        out: &mut [u8],
+        answer: &mut [u64]
+    ) -> u32;
 }

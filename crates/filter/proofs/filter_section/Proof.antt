@@ -11,7 +11,7 @@ use Rattle.filter.proofs.filter_section.Statement.{statement}
 use Rattle.filter.proofs.filter_section.Tie as tie
 
 abbrev start : tie.After-find-kind-ranges → tie.Start
-start f = f .before .before .before .before .before .before .before
+start f = f .before .before .before .before .before .before .before .before
 
 abbrev found : tie.After-keep-rows → tie.After-find-kind-ranges
 found k = k .before .before
@@ -23,20 +23,23 @@ pub filter-section-spec : {M : Type 1} → statement M
 filter-section-spec =
     tie.close
     (tie.spec
-    (λ c κs. let s = c .before .before .before .before in (s .pre .0 .0 .table .store, omega (arith, s .pre .0 .0 .table .room)))
+    (λ c κs. let s = c .before .before .before .before .before in (s .pre .1 .0 .0 .table .store, omega (arith, s .pre .1 .0 .0 .table .room)))
     (λ c. omega arith)
-    (λ c κs. let s = c .before .before .before .before .before .before in (s .pre .0 .0 .table .store, s .pre .0 .0 .table .room, omega arith))
+    (λ c κs. let s = c .before .before .before .before .before .before .before in (s .pre .1 .0 .0 .table .store, s .pre .1 .0 .0 .table .room, omega arith))
     (λ c. omega arith)
     (λ c κs. let f = c .before in
-    let s = start f in (s .pre .0 .0, f .find-kind-ranges .ensures, s .pre .1 .0))
+    let s = start f in (s .pre .1 .0 .0, f .find-kind-ranges .ensures, s .pre .1 .1 .0))
     (λ c κs. let k = c .before .before .before .before in
     let f = found k in
     let s = start f in (
-      section-ready (s .pre .0 .0) (s .pre .0 .1) (s .pre .0 .2) (f .before .before .get .ensures) (f .find-kind-ranges .ensures) (ranges s)
-          (k .keep-rows .ensures),
-      section-room (s .pre .0 .0) (s .pre .0 .1) (s .pre .0 .2) (f .before .before .get .ensures) (f .find-kind-ranges .ensures) (ranges s)
-          (k .keep-rows .ensures)
-          (s .args .write) (now (s .args .out)) (s .args .at) (s .pre .1 .1),
+      s .pre .0,
+      (
+        section-ready (s .pre .1 .0 .0) (s .pre .1 .0 .1) (s .pre .1 .0 .2) (f .before .before .get .ensures) (f .find-kind-ranges .ensures) (ranges s)
+            (k .keep-rows .ensures),
+        section-room _ (s .pre .1 .0 .0) (s .pre .1 .0 .1) (s .pre .1 .0 .2) (f .before .before .get .ensures) (f .find-kind-ranges .ensures) (ranges s)
+            (k .keep-rows .ensures)
+            (s .args .write) (now (s .args .out)) (s .args .at) (s .pre .1 .1 .1),
+      ),
     ))
     (λ c. search needs)
     (λ c. search needs)
@@ -44,6 +47,6 @@ filter-section-spec =
     let k = p .before .before .before .before .before in
     let f = found k in
     let s = start f in
-    section-done (s .pre .0 .0) (s .pre .0 .1) (s .pre .0 .2) (f .before .before .get .ensures) (f .find-kind-ranges .ensures) (ranges s)
+    section-done _ (s .pre .1 .0 .0) (s .pre .1 .0 .1) (s .pre .1 .0 .2) (f .before .before .get .ensures) (f .find-kind-ranges .ensures) (ranges s)
     (k .keep-rows .ensures)
     (p .print-kept .ensures)))

@@ -1,4 +1,5 @@
 -- `filter::filter_sections` meets its contract: the sections before a place are printed. Assumes nothing.
+use Rattle.model.specs.TagTable.{tagsOf}
 use Prim.Native.Nat.{_-_}
 use native.Mathlib.Omega.{arith}
 use denote.Ref.{now}
@@ -14,14 +15,14 @@ use Rattle.filter.proofs.filter_sections.Statement.{statement}
 use Rattle.filter.proofs.filter_sections.Tie as tie
 
 abbrev Inv-loop : tie.InvT-loop
-Inv-loop text words₀ pairs count index used n spare out₀ write lo₀ at₀ words out lo at =
-    Looping (filteredFrom (take count (rangesIn pairs)) text index n) write words₀ words out₀ out index n spare lo at
+Inv-loop tags text words₀ pairs count index used n spare out₀ write lo₀ at₀ words out lo at =
+    Looping (filteredFrom (tagsOf tags) (take count (rangesIn pairs)) text index n) write words₀ words out₀ out index n spare lo at
 
 abbrev μ-loop : tie.MeasureT-loop
-μ-loop text words₀ pairs count index used n spare out₀ write lo₀ at₀ words out lo at = n - lo
+μ-loop tags text words₀ pairs count index used n spare out₀ write lo₀ at₀ words out lo at = n - lo
 
 abbrev start : tie.At-loop Inv-loop μ-loop → tie.Start Inv-loop μ-loop
-start l = l .before .before .before .before
+start l = l .before .before .before .before .before
 
 abbrev ranges : tie.Start Inv-loop μ-loop → List Range
 ranges s = take (s .args .count) (rangesIn (now (s .args .pairs)))
@@ -32,21 +33,21 @@ filter-sections-spec =
     (tie.spec
     Inv-loop
     μ-loop
-    (λ c. let s = c .before .before .before in loop-start (s .pre .0) (s .pre .1 .1) (omega arith))
+    (λ c. let s = c .before .before .before .before in loop-start (s .pre .1 .0) (s .pre .1 .1 .1) (omega arith))
     (λ c κs. let l = c .before .before .before in
     let s = start l in
-    let π = s .pre .0 in
-    let δ = filtered-prints (ranges s) π in
+    let π = s .pre .1 .0 in
+    let δ = filtered-prints _ (ranges s) π in
     let Λ = l .loop .inv in
-    ((printable-kept π (Λ .spared), omega arith, loop-header π δ Λ (omega arith)), (s .pre .1 .0, loop-room π δ Λ)))
+    (s .pre .0, ((printable-kept π (Λ .spared), omega arith, loop-header π δ Λ (omega arith)), (s .pre .1 .1 .0, loop-room π δ Λ))))
     (λ c. let p = c .before .before .before .before .filter-section .ensures in omega (arith, p .more, p .most))
     (λ c. let p = c .before .before .before .before in
     let l = p .before .before .before .before in
     let s = start l in
-    loop-next (s .pre .0) (filtered-prints (ranges s) (s .pre .0)) (l .loop .inv) (p .filter-section .ensures)
-    (p .filter-section .kept .1 .1 .1 .1 .1 .1 .1 .1 .1 .0))
+    loop-next (s .pre .1 .0) (filtered-prints _ (ranges s) (s .pre .1 .0)) (l .loop .inv) (p .filter-section .ensures)
+    (p .filter-section .kept .1 .1 .1 .1 .1 .1 .1 .1 .1 .1 .0))
     (λ c. c .before .loop .inv .spared .words)
     (λ c. c .before .loop .inv .size)
     (λ c. let l = c .before in
     let s = start l in
-    (loop-done (s .pre .0) (filtered-prints (ranges s) (s .pre .0)) (l .loop .inv) (omega arith), l .loop .inv .spared)))
+    (loop-done (s .pre .1 .0) (filtered-prints _ (ranges s) (s .pre .1 .0)) (l .loop .inv) (omega arith), l .loop .inv .spared)))

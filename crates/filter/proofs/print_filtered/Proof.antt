@@ -1,4 +1,5 @@
 -- `filter::print_filtered` meets its contract: what is too long is refused, and the rest written. Assumes nothing.
+use Rattle.model.specs.TagTable.{tagsOf}
 use native.Mathlib.Omega.{arith}
 use borrow.Author.Needs.{needs}
 use denote.Ref.{now}
@@ -7,7 +8,6 @@ use mathlib.Core.List.{List, map}
 use lib.ListN.{take}
 use Rattle.model.specs.declared.Range.{Range}
 use Rattle.model.specs.Report.{Report}
-use Rattle.model.specs.Tags.{defaultTag}
 use Rattle.model.specs.Printing.{sections, printSections}
 use Rattle.model.specs.Filter.{filterSection}
 use Rattle.table_section.specs.Sections.{entriesAt}
@@ -22,23 +22,23 @@ use Rattle.filter.proofs.print_filtered.Tie as tie
 
 abbrev spacious : (s : tie.Start)
     → PrintableTable (now (s .args .text)) (now (s .args .words)) (s .args .index) (s .args .used) (s .args .n) (s .args .spare)
-spacious s = record { table = s .pre .0 .0; few = s .pre .0 .1; behind = s .pre .1 .0; words = s .pre .1 .1 }
+spacious s = record { table = s .pre .1 .0 .0; few = s .pre .1 .0 .1; behind = s .pre .1 .1 .0; words = s .pre .1 .1 .1 }
 
 abbrev ranges : tie.Start → List Range
 ranges s = take (s .args .count) (rangesIn (now (s .args .pairs)))
 
 abbrev start : tie.After-required-len → tie.Start
-start m = m .before .before .before .before .before .before
+start m = m .before .before .before .before .before .before .before
 
 -- what the length promises
 abbrev measured : (m : tie.After-required-len) → let a = start m .args in
-    Measured (filteredFrom (ranges (start m)) (now (a .text)) (a .index) (a .n))
-    (printSections defaultTag (map (filterSection (ranges (start m))) (sections (entriesAt (now (a .text)) (now (a .words)) (a .index) (a .n)))))
-    (now (a .words)) (m .required-len .last .1 .0) (now (a .out)) (m .required-len .last .1 .1 .1 .1 .1 .1 .1 .1 .0) (a .n) (a .spare)
+    Measured (filteredFrom (tagsOf (now (a .tags))) (ranges (start m)) (now (a .text)) (a .index) (a .n))
+    (printSections (tagsOf (now (a .tags))) (map (filterSection (ranges (start m))) (sections (entriesAt (now (a .text)) (now (a .words)) (a .index) (a .n)))))
+    (now (a .words)) (m .required-len .last .1 .1 .0) (now (a .out)) (m .required-len .last .1 .1 .1 .1 .1 .1 .1 .1 .1 .0) (a .n) (a .spare)
     (m .required-len .result)
 measured m = let a = start m .args in record {
-  prints = filtered-prints (ranges (start m)) (spacious (start m));
-  is = ap (λ (r : Report). printSections defaultTag (map (filterSection (ranges (start m))) (sections r)))
+  prints = filtered-prints _ (ranges (start m)) (spacious (start m));
+  is = ap (λ (r : Report). printSections (tagsOf (now (a .tags))) (map (filterSection (ranges (start m))) (sections r)))
       (entries-all (now (a .text)) (now (a .words)) (a .index) (a .n));
   spared = m .required-len .ensures .1;
   enough = m .required-len .ensures .0;
@@ -49,7 +49,7 @@ pub print-filtered-spec : {M : Type 1} → statement M
 print-filtered-spec =
     tie.close
     (tie.spec
-    (λ c κs. let s = c .before .before .before .before .before in (spacious s, s .pre .0 .2))
+    (λ c κs. let s = c .before .before .before .before .before .before in (s .pre .0, (spacious s, s .pre .1 .0 .2)))
     (λ c κs. search needs)
     (λ c. search needs)
     (λ c. search needs)
@@ -57,7 +57,7 @@ print-filtered-spec =
     (short-answer μ (omega arith) (c .too-short .ensures), short-out μ (omega arith)))
     (λ c κs. let m = c .before .before .before .before .before .before .before in
     let μ = measured m in
-    (printable-kept (spacious (start m)) (μ .spared), (start m .pre .0 .2, second-room μ (omega arith))))
+    (start m .pre .0, (printable-kept (spacious (start m)) (μ .spared), (start m .pre .1 .0 .2, second-room μ (omega arith)))))
     (λ c. search needs)
     (λ c. search needs)
     (λ c. let w = c .before .before .before .before in

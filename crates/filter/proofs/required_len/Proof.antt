@@ -1,4 +1,5 @@
 -- `filter::required_len` meets its contract: the output is surely long enough, or the lines are measured. Assumes nothing.
+use Rattle.model.specs.TagTable.{tagsOf}
 use Prim.Native.Nat.{_*_, _^_, _<_}
 use native.Mathlib.Omega.{arith}
 use borrow.Author.Needs.{needs}
@@ -17,13 +18,13 @@ use Rattle.filter.proofs.required_len.Statement.{statement}
 use Rattle.filter.proofs.required_len.Tie as tie
 
 abbrev start : tie.After-surely-fits → tie.Start
-start b = b .before .before .before .before .before
+start b = b .before .before .before .before .before .before
 
 abbrev ranges : tie.Start → List Range
 ranges s = take (s .args .count) (rangesIn (now (s .args .pairs)))
 
 abbrev printed : tie.Start → Bytes
-printed s = filteredFrom (ranges s) (now (s .args .text)) (s .args .index) (s .args .n) (now (s .args .words)) 0
+printed s = filteredFrom (tagsOf (now (s .args .tags))) (ranges s) (now (s .args .text)) (s .args .index) (s .args .n) (now (s .args .words)) 0
 
 few : (b : tie.After-surely-fits) → length (now (start b .args .out)) * 1 < 2 ^ 63
 few b = omega arith
@@ -32,15 +33,15 @@ pub required-len-spec : {M : Type 1} → statement M
 required-len-spec =
     tie.close
     (tie.spec
-    (λ c κs. let s = c .before .before .before .before in (s .pre .0 .table .store, s .pre .0 .table .room, omega arith))
+    (λ c κs. let s = c .before .before .before .before .before in (s .pre .0, (s .pre .1 .0 .table .store, s .pre .1 .0 .table .room, omega arith)))
     (λ c. search needs)
     (λ c. let b = c .before in
     let s = start b in (
-      fits-required (now (s .args .text)) (now (s .args .words)) (now (s .args .out)) (printed s)
-          (s .args .index) (s .args .n) (b .surely-fits .result) (c .if1 .taken) (b .surely-fits .ensures) (filtered-most (ranges s) (s .pre .0)),
+      fits-required _ (now (s .args .text)) (now (s .args .words)) (now (s .args .out)) (printed s)
+          (s .args .index) (s .args .n) (b .surely-fits .result) (c .if1 .taken) (b .surely-fits .ensures) (filtered-most _ (ranges s) (s .pre .1 .0)),
       spared-none,
     ))
-    (λ c κs. let s = start (c .before .before .before) in (s .pre .0, (s .pre .1, tt)))
+    (λ c κs. let s = start (c .before .before .before) in (s .pre .0, (s .pre .1 .0, (s .pre .1 .1, tt))))
     (λ c. search needs)
     (λ c. search needs)
     (λ c. let p = c .before .before .before .before in

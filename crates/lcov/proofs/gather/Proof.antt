@@ -22,12 +22,12 @@ gather-spec =
     (tie.spec
     (λ c κs. search needs)
     (λ c κs. search needs)
-    (λ c κs. (search (well-formed, needs), search (limit-space, needs)))
+    (λ c κs. (search needs, (search (well-formed, needs), search (limit-space, needs))))
     (λ c. search needs)
     (λ c. search needs)
     (λ c. let g = gathered (c .before .before .before) in
     let l = limited g in
-    called (gather-refused _ _ _ (well-formed _ _ (l .before .before .is-well-formed .ensures) (l .before .if1 .taken)) _ (l .entry-limit .ensures) _ _ (g .gather-texts .ensures)
+    called (gather-refused _ _ _ _ (well-formed _ _ (l .before .before .is-well-formed .ensures) (l .before .if1 .taken)) _ (l .entry-limit .ensures) _ _ (g .gather-texts .ensures)
     _ _ (c .before .refusal .given .1)))
     (λ c. search needs)
     (λ c κs. search (limit-few, needs))
@@ -35,9 +35,11 @@ gather-spec =
     (λ c κs. let s = c .before .before in
     let n = entries s in
     let g = gathered (n .before .before) in
-    let l = limited g in
-    gather-ready _ _ _ (well-formed _ _ (l .before .before .is-well-formed .ensures) (l .before .if1 .taken)) _ (l .entry-limit .ensures) _ _ (g .gather-texts .ensures)
-    _ (n .n .given .1) _ (s .before .index-at .ensures) (search needs) _ (s .spare-at .ensures))
+    let l = limited g in (
+      search needs,
+      gather-ready _ _ _ _ (well-formed _ _ (l .before .before .is-well-formed .ensures) (l .before .if1 .taken)) _ (l .entry-limit .ensures) _ _ (g .gather-texts .ensures)
+          _ (n .n .given .1) _ (s .before .index-at .ensures) (search needs) _ (s .spare-at .ensures),
+    ))
     (λ c. search needs)
     (λ c. search needs)
     (λ c. let p = c .before .before .before .before in
@@ -45,8 +47,8 @@ gather-spec =
     let n = entries s in
     let g = gathered (n .before .before) in
     let l = limited g in
-    called (gather-printed _ _ _ (well-formed _ _ (l .before .before .is-well-formed .ensures) (l .before .if1 .taken)) _ (l .entry-limit .ensures) _ _ (g .gather-texts .ensures)
-    _ (n .n .given .1) _ (s .before .index-at .ensures) (now (l .before .before .before .before .before .before .args .out)) _ _ (p .print-report .ensures)))
+    called (gather-printed _ _ _ _ (well-formed _ _ (l .before .before .is-well-formed .ensures) (l .before .if1 .taken)) _ (l .entry-limit .ensures) _ _ (g .gather-texts .ensures)
+    _ (n .n .given .1) _ (s .before .index-at .ensures) (now (l .before .before .before .before .before .before .before .args .out)) _ _ (p .print-report .ensures)))
     (λ c κs. search needs)
     (λ c. let e = c .before in
-    called (gather-bad _ _ _ _ _ (not-well-formed _ _ (e .before .is-well-formed .ensures) (e .if1 .left)) (c .unplaced .ensures))))
+    called (gather-bad _ _ _ _ _ _ (not-well-formed _ _ (e .before .is-well-formed .ensures) (e .if1 .left)) (c .unplaced .ensures))))

@@ -13,6 +13,6 @@ read-behind-spec =
     (λ c. search (base-inside, needs))
     (λ c. search (base-inside, needs))
     (λ c. search (base-inside, needs))
-    (λ c κs. (search needs, search needs, search needs, search (behind-room, needs)))
+    (λ c κs. (search needs, (search needs, search needs, search needs, search (behind-room, needs))))
     (λ c. search needs)
     (λ c. search (read-behind, needs)))

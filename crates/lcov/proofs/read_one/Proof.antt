@@ -12,6 +12,6 @@ read-one-spec =
     (λ c. search needs)
     (λ c κs. search needs)
     (λ c. search (front-long, needs))
-    (λ c κs. (search (room-as, needs), search (starts-inside, needs)))
+    (λ c κs. (search needs, (search (room-as, needs), search (starts-inside, needs))))
     (λ c. search needs)
     (λ c. search (read-one, needs)))

@@ -1,4 +1,3 @@
--- `print_bound::max_line_len` meets its contract, kind by kind. Assumes nothing.
 use borrow.Author.Needs.{needs}
 use Rattle.print_bound.proofs.RowLaws.{line-max, branch-max, function-max, section-row-max}
 use Rattle.print_bound.proofs.max_line_len.Statement.{statement}

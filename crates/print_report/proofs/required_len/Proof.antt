@@ -2,6 +2,7 @@
 use Prim.Native.Nat.{_*_, _^_, _<_}
 use native.Mathlib.Omega.{arith}
 use borrow.Author.Needs.{needs}
+use Rattle.model.specs.TagTable.{tagsOf}
 use denote.Ref.{now}
 use lib.ListN.{length}
 use Rattle.model.specs.Bytes.{Bytes}
@@ -13,10 +14,10 @@ use Rattle.print_report.proofs.required_len.Statement.{statement}
 use Rattle.print_report.proofs.required_len.Tie as tie
 
 abbrev start : tie.After-surely-fits → tie.Start
-start b = b .before .before .before .before .before
+start b = b .before .before .before .before .before .before
 
 abbrev printed : tie.Start → Bytes
-printed s = printedFrom (now (s .args .text)) (s .args .index) (s .args .n) (now (s .args .words)) 0
+printed s = printedFrom (tagsOf (now (s .args .tags))) (now (s .args .text)) (s .args .index) (s .args .n) (now (s .args .words)) 0
 
 few : (b : tie.After-surely-fits) → length (now (start b .args .out)) * 1 < 2 ^ 63
 few b = omega arith
@@ -25,15 +26,15 @@ pub required-len-spec : {M : Type 1} → statement M
 required-len-spec =
     tie.close
     (tie.spec
-    (λ c κs. let s = c .before .before .before .before in (s .pre .table .store, s .pre .table .room, omega arith))
+    (λ c κs. let s = c .before .before .before .before .before in (s .pre .0, (s .pre .1 .table .store, s .pre .1 .table .room, omega arith)))
     (λ c. search needs)
     (λ c. let b = c .before in
     let s = start b in (
-      fits-required (now (s .args .text)) (now (s .args .words)) (now (s .args .out)) (printed s)
-          (s .args .index) (s .args .n) (b .surely-fits .result) (c .if1 .taken) (b .surely-fits .ensures) (printed-most (s .pre)),
+      fits-required _ (now (s .args .text)) (now (s .args .words)) (now (s .args .out)) (printed s)
+          (s .args .index) (s .args .n) (b .surely-fits .result) (c .if1 .taken) (b .surely-fits .ensures) (printed-most _ (s .pre .1)),
       spared-none,
     ))
-    (λ c κs. (start (c .before .before .before) .pre, tt))
+    (λ c κs. let s = start (c .before .before .before) in (s .pre .0, (s .pre .1, tt)))
     (λ c. search needs)
     (λ c. search needs)
     (λ c. let p = c .before .before .before .before in

@@ -12,16 +12,16 @@ emit-data-spec =
     tie.close
     (tie.spec
     (λ c. search needs)
-    (λ c. let s = c .before .before .before .before .before .before in
-    line-number-fits (now (s .args .text)) (s .args .row) (s .pre .0 .1) (omega arith))
-    (λ c κs. let s = c .before .before .before .before .before .before .before in
-    room-written (s .args .write) (now (s .args .out)) (s .args .at) _ _ (search needs) (count-line (now (s .args .text)) (s .args .row) (omega arith)) (s .pre .1))
+    (λ c. let s = c .before .before .before .before .before .before .before .before in
+    line-number-fits (now (s .args .text)) (s .args .row) (s .pre .1 .0 .1) (omega arith))
+    (λ c κs. let s = c .before .before .before .before .before .before .before .before .before in
+    (s .pre .0, room-written (s .args .write) (now (s .args .out)) (s .args .at) _ _ (search needs) (count-line _ (now (s .args .text)) (s .args .row) (omega arith)) (s .pre .1 .1)))
     (λ c. search needs)
-    (λ c. let s = c .before .before .before .before .before .before .before .before .before .before in
-    emitted-written (s .args .write) _ _ (search needs) (count-line (now (s .args .text)) (s .args .row) (omega arith)) (c .before .before .emit-line-data .ensures))
+    (λ c. let s = c .before .before .before .before .before .before .before .before .before .before .before .before in
+    emitted-written (s .args .write) _ _ (search needs) (count-line _ (now (s .args .text)) (s .args .row) (omega arith)) (c .before .before .emit-line-data .ensures))
     (λ c κs. search needs)
     (λ c. search needs)
     (λ c. search needs)
     (λ c κs. search needs)
-    (λ c. let s = c .before .before .before .before in
-    emitted-past (s .args .write) (now (s .args .out)) _ (s .args .at) _ (c .before .if1 .left) (c .measure-data .ensures (now (s .args .text)) (s .pre .0 .0))))
+    (λ c. let s = c .before .before .before .before .before in
+    emitted-past (s .args .write) (now (s .args .out)) _ (s .args .at) _ (c .before .if1 .left) (c .measure-data .ensures (now (s .args .text)) (s .pre .1 .0 .0))))

@@ -5,6 +5,7 @@ use Prim.Native.Nat.{ℕ, _+_, _-_, _*_, _^_, _≤_, _<_}
 use native.Mathlib.Omega.{arith}
 use lib.ListN.{length}
 use borrow.Author.Needs.{needs}
+use Rattle.model.specs.TagTable.{tagsOf}
 use denote.Ref.{now}
 use Rattle.table.specs.Places.{tabulate}
 use Rattle.model.specs.Bytes.{Bytes}
@@ -43,17 +44,17 @@ use Rattle.print_rows.proofs.emit_group.Statement.{statement}
 use Rattle.print_rows.proofs.emit_group.Tie as tie
 
 abbrev Inv-loop : tie.InvT-loop
-Inv-loop text words kind numbers n out₀ at write end₀ hit₀ i₀ out end hit i =
-    (i ≤ n) × (hit ≡ hits (tabulate (numberedItem text words numbers) i)) × Emitted write out₀ out at (printed dataRecord (numberedItem text words numbers) i) end
+Inv-loop tags text words kind numbers n out₀ at write end₀ hit₀ i₀ out end hit i =
+    (i ≤ n) × (hit ≡ hits (tabulate (numberedItem text words numbers) i)) × Emitted write out₀ out at (printed (tagsOf tags) dataRecord (numberedItem text words numbers) i) end
 
 abbrev μ-loop : tie.MeasureT-loop
-μ-loop text words kind numbers n out₀ at write end₀ hit₀ i₀ out end hit i = n - i
+μ-loop tags text words kind numbers n out₀ at write end₀ hit₀ i₀ out end hit i = n - i
 
 abbrev Start : Type 0
 Start = tie.Start Inv-loop μ-loop
 
 abbrev start : tie.At-loop Inv-loop μ-loop → Start
-start l = l .before .before .before .before .before
+start l = l .before .before .before .before .before .before
 
 abbrev item : Start → ℕ → Item
 item s = numberedItem (now (s .args .text)) (now (s .args .words)) (s .args .numbers)
@@ -66,13 +67,13 @@ abbrev hit : Start → Record
 hit s = hitOf (s .args .kind) (hits (tabulate (item s) (s .args .n)))
 
 abbrev all : Start → Bytes
-all s = lines (group (foundOf (s .args .kind)) (hitOf (s .args .kind)) (tabulate (item s) (s .args .n)))
+all s = lines (tagsOf (now (s .args .tags))) (group (foundOf (s .args .kind)) (hitOf (s .args .kind)) (tabulate (item s) (s .args .n)))
 
 rows : (l : tie.At-loop Inv-loop μ-loop) → let s = start l in
-    Rows dataRecord (now (s .args .text)) (now (s .args .words)) (s .args .numbers) (s .args .n) (s .args .write) (now (s .args .out)) (s .args .at) (all s) (lines (found s ∷ hit s ∷ []))
+    Rows (tagsOf (now (s .args .tags))) dataRecord (now (s .args .text)) (now (s .args .words)) (s .args .numbers) (s .args .n) (s .args .write) (now (s .args .out)) (s .args .at) (all s) (lines (tagsOf (now (s .args .tags))) (found s ∷ hit s ∷ []))
 rows l =
     let s = start l in
-    record { rows = s .pre .0; is = group-is (foundOf (s .args .kind)) (hitOf (s .args .kind)) (item s) (s .args .n) (omega arith); room = s .pre .1 .1; few = omega arith }
+    record { rows = s .pre .1 .0; is = group-is _ (foundOf (s .args .kind)) (hitOf (s .args .kind)) (item s) (s .args .n) (omega arith); room = s .pre .1 .1 .1; few = omega arith }
 
 -- ---- a batch
 
@@ -96,38 +97,38 @@ abbrev loop : tie.After-found-record Inv-loop μ-loop → tie.At-loop Inv-loop �
 loop f = f .before .before
 
 room : (a : tie.After-loop Inv-loop μ-loop) → let l = a .before in
-    RoomFor (start l .args .write) (l .loop .out) (l .loop .end) (lines (found (start l) ∷ hit (start l) ∷ []))
+    RoomFor (start l .args .write) (l .loop .out) (l .loop .end) (lines (tagsOf (now (start l .args .tags))) (found (start l) ∷ hit (start l) ∷ []))
 room a = let l = a .before in rows-more (rows l) (l .loop .out) (l .loop .end) (l .loop .i) (l .loop .inv .2) (l .loop .inv .0) (a .loop-test .left)
 
 found-line : (f : tie.After-found-record Inv-loop μ-loop) → let s = start (loop f) in
-    lineIn (now (s .args .text)) (f .found-record .result) ≡ lines (found s ∷ [])
-found-line f = let s = start (loop f) in one-line (now (s .args .text)) _ (found s) (f .found-record .ensures (now (s .args .text)))
+    lineIn (tagsOf (now (s .args .tags))) (now (s .args .text)) (f .found-record .result) ≡ lines (tagsOf (now (s .args .tags))) (found s ∷ [])
+found-line f = let s = start (loop f) in one-line _ (now (s .args .text)) _ (found s) (f .found-record .ensures (now (s .args .text)))
 
 found-emitted : (e : tie.After-emit-record Inv-loop μ-loop) → let l = loop (e .before .before) in
-    Emitted (start l .args .write) (l .loop .out) (e .emit-record .last .1 .1 .0) (l .loop .end) (lines (found (start l) ∷ [])) (e .emit-record .result)
+    Emitted (start l .args .write) (l .loop .out) (e .emit-record .last .1 .1 .1 .0) (l .loop .end) (lines (tagsOf (now (start l .args .tags))) (found (start l) ∷ [])) (e .emit-record .result)
 found-emitted e = emitted-as _ _ _ (found-line (e .before .before)) (e .emit-record .ensures)
 
 hit-line : (h : tie.After-hit-record Inv-loop μ-loop) → let s = start (loop (h .before .before .before .before .before)) in
-    lineIn (now (s .args .text)) (h .hit-record .result) ≡ lines (hit s ∷ [])
+    lineIn (tagsOf (now (s .args .tags))) (now (s .args .text)) (h .hit-record .result) ≡ lines (tagsOf (now (s .args .tags))) (hit s ∷ [])
 hit-line h =
     let f = h .before .before .before .before .before in
     let l = loop f in
     let s = start l in
-    one-line (now (s .args .text)) _ (hitOf (s .args .kind) (l .loop .hit)) (h .hit-record .ensures (now (s .args .text)))
-    ∙ ap (λ (k : ℕ). lines (hitOf (s .args .kind) k ∷ [])) (hits-done (item s) (l .loop .i) (s .args .n) (l .loop .hit) (l .loop .inv .0) (f .before .loop-test .left) (l .loop .inv .1))
+    one-line _ (now (s .args .text)) _ (hitOf (s .args .kind) (l .loop .hit)) (h .hit-record .ensures (now (s .args .text)))
+    ∙ ap (λ (k : ℕ). lines (tagsOf (now (s .args .tags))) (hitOf (s .args .kind) k ∷ [])) (hits-done (item s) (l .loop .i) (s .args .n) (l .loop .hit) (l .loop .inv .0) (f .before .loop-test .left) (l .loop .inv .1))
 
 few : (l : tie.At-loop Inv-loop μ-loop) → length (l .loop .out) * 1 < 2 ^ 63
 few l = omega (arith, rows l .few, rows-size (rows l) (l .loop .out) (l .loop .end) (l .loop .i) (l .loop .inv .2) (l .loop .inv .0))
 
 group-emitted : (e : tie.After-emit-record2 Inv-loop μ-loop) → let l = loop (e .before .before .before .before .before .before .before) in
-    Emitted (start l .args .write) (now (start l .args .out)) (e .emit-record2 .last .1 .1 .0) (start l .args .at) (all (start l)) (e .emit-record2 .result)
+    Emitted (start l .args .write) (now (start l .args .out)) (e .emit-record2 .last .1 .1 .1 .0) (start l .args .at) (all (start l)) (e .emit-record2 .result)
 group-emitted e =
     let h = e .before .before in
     let f = h .before .before .before .before .before in
     let l = loop f in
     let s = start l in
     rows-emitted (rows l) (l .loop .out) (l .loop .end) (l .loop .i) (l .loop .inv .2) (l .loop .inv .0) (f .before .loop-test .left)
-    (two-emitted (s .args .write) (l .loop .out) (l .loop .end) (found s) (hit s) (room (f .before)) (few l) (found-emitted (h .before .before .before))
+    (two-emitted _ (s .args .write) (l .loop .out) (l .loop .end) (found s) (hit s) (room (f .before)) (few l) (found-emitted (h .before .before .before))
     (emitted-as _ _ _ (hit-line h) (e .emit-record2 .ensures)))
 
 pub emit-group-spec : {M : Type 1} → statement M
@@ -136,24 +137,27 @@ emit-group-spec =
     (tie.spec
     Inv-loop
     μ-loop
-    (λ c. let s = c .before .before .before .before in
-    emitted-empty (s .args .write) (now (s .args .out)) _ (s .args .at) (omega arith) (group-none (foundOf (s .args .kind)) (hitOf (s .args .kind)) (item s) (s .args .n) (omega arith)))
-    (λ c. let s = c .before .before .before .before in
-    (omega arith, hits-start (item s), emitted-empty (s .args .write) (now (s .args .out)) _ (s .args .at) (omega arith) (printed-start dataRecord (item s))))
+    (λ c. let s = c .before .before .before .before .before in
+    emitted-empty (s .args .write) (now (s .args .out)) _ (s .args .at) (omega arith) (group-none _ (foundOf (s .args .kind)) (hitOf (s .args .kind)) (item s) (s .args .n) (omega arith)))
+    (λ c. let s = c .before .before .before .before .before in
+    (omega arith, hits-start (item s), emitted-empty (s .args .write) (now (s .args .out)) _ (s .args .at) (omega arith) (printed-start _ dataRecord (item s))))
     (λ c. omega arith)
     (λ c κs. search needs)
-    (λ c. omega (arith, start (batched c) .pre .0 .numbered .words, c .before .loop-test .taken))
-    (λ c κs. let l = batched c in (part-numbered (start l .pre .0 .numbered) (l .loop .i) (c .batch-of .result) (within c), omega (arith, within c, start l .pre .1 .0 .2)))
+    (λ c. omega (arith, start (batched c) .pre .1 .0 .numbered .words, c .before .loop-test .taken))
+    (λ c κs. let l = batched c in (part-numbered (start l .pre .1 .0 .numbered) (l .loop .i) (c .batch-of .result) (within c), omega (arith, within c, start l .pre .1 .1 .0 .2)))
     (λ c. let b = c .before in
     let l = batched b in
     let s = start l in
     hits-fit (item s) (l .loop .i) (b .batch-of .result) (s .args .n) (l .loop .hit) (c .count-hits .result) (l .loop .inv .1)
-    (rw (hit-there c) (hits-most (λ k. item s (l .loop .i + k)) (b .batch-of .result))) (within b) (s .pre .1 .0 .2))
-    (λ c. let b = c .before in omega (arith, start (batched b) .pre .0 .numbered .words, b .before .loop-test .taken))
+    (rw (hit-there c) (hits-most (λ k. item s (l .loop .i + k)) (b .batch-of .result))) (within b) (s .pre .1 .1 .0 .2))
+    (λ c. let b = c .before in omega (arith, start (batched b) .pre .1 .0 .numbered .words, b .before .loop-test .taken))
     (λ c κs. let b = c .before .before in
     let l = batched b in (
-      part-printable (start l .pre .0) (l .loop .i) (b .batch-of .result) (within b),
-      part-ready (rows l) _ _ (l .loop .i) (l .loop .inv .2) (b .batch-of .result) (within b),
+      start l .pre .0,
+      (
+        part-printable (start l .pre .1 .0) (l .loop .i) (b .batch-of .result) (within b),
+        part-ready (rows l) _ _ (l .loop .i) (l .loop .inv .2) (b .batch-of .result) (within b),
+      ),
     ))
     (λ c. omega (arith, within (c .before .before .before .before .before)))
     (λ c. let b = c .before .before .before .before .before in
@@ -171,16 +175,18 @@ emit-group-spec =
     (λ c κs. let f = c .before in
     let l = loop f in
     let s = start l in
-    room-as (s .args .write) (l .loop .out) (l .loop .end) _ _ (found-line f) (two-first (s .args .write) (l .loop .out) (l .loop .end) (found s) (hit s) (room (f .before))))
+    (s .pre .0, room-as (s .args .write) (l .loop .out) (l .loop .end) _ _ (found-line f) (two-first _ (s .args .write) (l .loop .out) (l .loop .end) (found s) (hit s) (room (f .before)))))
     (λ c κs. omega arith)
     (λ c κs. let h = c .before in
     let e = h .before .before .before in
     let f = e .before .before in
     let l = loop f in
-    let s = start l in
-    room-as (s .args .write) (e .emit-record .last .1 .1 .0) (e .emit-record .result) _ _ (hit-line h)
-    (two-then (s .args .write) (l .loop .out) (l .loop .end) (found s) (hit s) (room (f .before)) (few l) (found-emitted e)))
+    let s = start l in (
+      s .pre .0,
+      room-as (s .args .write) (e .emit-record .last .1 .1 .1 .0) (e .emit-record .result) _ _ (hit-line h)
+          (two-then _ (s .args .write) (l .loop .out) (l .loop .end) (found s) (hit s) (room (f .before)) (few l) (found-emitted e)),
+    ))
     (λ c. let e = c .before .before in
     let s = start (loop (e .before .before .before .before .before .before .before)) in
-    emitted-size (s .pre .1 .1) (group-emitted e))
+    emitted-size (s .pre .1 .1 .1) (group-emitted e))
     (λ c. group-emitted (c .before .before)))

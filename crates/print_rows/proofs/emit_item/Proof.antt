@@ -8,10 +8,10 @@ use Rattle.print_rows.proofs.emit_item.Statement.{statement}
 use Rattle.print_rows.proofs.emit_item.Tie as tie
 
 abbrev taken : tie.After-taken-of → tie.Start
-taken t = t .before .before .before .before .before .before .before .before .before
+taken t = t .before .before .before .before .before .before .before .before .before .before
 
 abbrev checked : tie.After-checksum-of → tie.Start
-checked k = k .before .before .before .before .before .before .before .before
+checked k = k .before .before .before .before .before .before .before .before .before
 
 pub emit-item-spec : {M : Type 1} → statement M
 emit-item-spec =
@@ -26,17 +26,17 @@ emit-item-spec =
     (λ c. search (branch-number-fits, needs))
     (λ c κs. search needs)
     (λ c κs. let s = taken (c .before) in
-    room-as (s .args .write) (now (s .args .out)) (s .args .at) _ _ (branch-line (now (s .args .text)) (s .args .row) _ (omega arith) (c .before .taken-of .ensures)) (s .pre .1))
+    (s .pre .0, room-as (s .args .write) (now (s .args .out)) (s .args .at) _ _ (branch-line _ (now (s .args .text)) (s .args .row) _ (omega arith) (c .before .taken-of .ensures)) (s .pre .1 .1)))
     (λ c. search needs)
     (λ c. let e = c .before .before in
     let t = e .before .before in
-    emitted-as _ _ _ (branch-line _ (taken t .args .row) _ (omega arith) (t .taken-of .ensures)) (e .emit-record2 .ensures))
+    emitted-as _ _ _ (branch-line _ _ (taken t .args .row) _ (omega arith) (t .taken-of .ensures)) (e .emit-record2 .ensures))
     (λ c. search (line-number-fits, needs))
     (λ c κs. search needs)
     (λ c κs. let s = checked (c .before) in
-    room-as (s .args .write) (now (s .args .out)) (s .args .at) _ _ (checked-line (now (s .args .text)) (s .args .row) _ (omega arith) (s .pre .0 .0) (c .before .checksum-of .ensures)) (s .pre .1))
+    (s .pre .0, room-as (s .args .write) (now (s .args .out)) (s .args .at) _ _ (checked-line _ (now (s .args .text)) (s .args .row) _ (omega arith) (s .pre .1 .0 .0) (c .before .checksum-of .ensures)) (s .pre .1 .1)))
     (λ c. search needs)
     (λ c. let e = c .before .before in
     let k = e .before .before in
-    emitted-as _ _ _ (checked-line _ (checked k .args .row) _ (omega arith) (checked k .pre .0 .0) (k .checksum-of .ensures)) (e .emit-record3 .ensures))
-    (λ c. emitted-empty _ _ _ _ (omega arith) (no-data _ (c .before .before .before .before .before .before .args .row) (c .before .before .before .before .before .before .pre .0 .0) (omega arith) (omega arith) (omega arith))))
+    emitted-as _ _ _ (checked-line _ _ (checked k .args .row) _ (omega arith) (checked k .pre .1 .0 .0) (k .checksum-of .ensures)) (e .emit-record3 .ensures))
+    (λ c. emitted-empty _ _ _ _ (omega arith) (no-data _ _ (c .before .before .before .before .before .before .before .args .row) (c .before .before .before .before .before .before .before .pre .1 .0 .0) (omega arith) (omega arith) (omega arith))))

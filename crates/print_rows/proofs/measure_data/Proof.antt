@@ -1,7 +1,6 @@
--- `print_rows::measure_data` meets its contract, kind by kind. Assumes nothing.
+use borrow.Author.Needs.{needs}
 use native.Mathlib.Omega.{arith}
 use mathlib.Core.Path.{refl}
-use borrow.Author.Needs.{needs}
 use Rattle.print_rows.proofs.LengthLaws.{past-line, past-checked, past-untaken, past-taken, past-function, past-none}
 use Rattle.print_rows.proofs.measure_data.Statement.{statement}
 use Rattle.print_rows.proofs.measure_data.Tie as tie
@@ -10,6 +9,8 @@ pub measure-data-spec : {M : Type 1} → statement M
 measure-data-spec =
     tie.close
     (tie.spec
+    (λ c κs. search needs)
+    (λ c. search needs)
     (λ c κs. search needs)
     (λ c. search needs)
     (λ c κs. search needs)
@@ -25,6 +26,8 @@ measure-data-spec =
     (λ c. search needs)
     (λ c κs. search needs)
     (λ c. search needs)
+    (λ c κs. search needs)
+    (λ c. search needs)
     (λ c. search needs)
     (λ c κs. search needs)
     (λ c. search (past-untaken, needs))
@@ -36,6 +39,8 @@ measure-data-spec =
     (λ c κs. search needs)
     (λ c. search needs)
     (λ c κs. search needs)
+    (λ c. search needs)
+    (λ c κs. search needs)
     (λ c κs. search needs)
     (λ c. search (past-function, needs))
-    (λ c text good. past-none text _ good _ _ refl (omega arith) (omega arith) (omega arith) (omega arith)))
+    (λ c text good. past-none _ text _ good _ _ refl (omega arith) (omega arith) (omega arith) (omega arith)))

@@ -1,6 +1,5 @@
 use borrow.Author.Needs.{needs}
-use lib.Seq.{length-take-le}
-use Rattle.record_parse.proofs.TagLaws.{record-read}
+use Rattle.record_parse.proofs.TagLaws.{record-read, record-unknown, found-within}
 use Rattle.record_parse.proofs.read_record.Statement.{statement}
 use Rattle.record_parse.proofs.read_record.Tie as tie
 
@@ -10,7 +9,9 @@ read-record-spec =
     (tie.spec
     (λ c κs. search needs)
     (λ c κs. search needs)
+    (λ c. search needs)
+    (λ c κs. search (found-within, needs))
+    (λ c. search needs)
     (λ c κs. search needs)
-    (λ c. search (length-take-le, needs))
-    (λ c κs. search needs)
-    (λ c. search (record-read, needs)))
+    (λ c. search (record-read, needs))
+    (λ c. search (record-unknown, needs)))

@@ -16,7 +16,7 @@ abbrev cut : tie.After-known-told2 → tie.After-find
 cut c = line c .before .before
 
 abbrev start : tie.After-find → tie.Start
-start f = f .before .before .before .before
+start f = f .before .before .before .before .before
 
 -- the line ends within the text, as far as `omega` needs it
 record Places (f : tie.After-find) : Type 0 where
@@ -25,7 +25,7 @@ record Places (f : tie.After-find) : Type 0 where
 
 places : (f : tie.After-find) → Places f
 places f = record {
-  inside = line-end (now (start f .args .text)) (start f .args .at) (f .find .result) (start f .pre .1) (f .find .ensures .1);
+  inside = line-end (now (start f .args .text)) (start f .args .at) (f .find .result) (start f .pre .1 .1) (f .find .ensures .1);
   fits = omega arith;
 }
 
@@ -46,7 +46,7 @@ read-line-at-spec =
     (λ c. search needs)
     (λ c κs. search (line-refuses, needs))
     (λ c. search (done-refused, needs))
-    (λ c κs. search (line-end, record-at, needs))
+    (λ c κs. (search needs, search (line-end, needs), search (record-at, needs)))
     (λ c. search needs)
     (λ c. search needs)
     (λ c κs. search (step-refuses, needs))
@@ -60,5 +60,5 @@ read-line-at-spec =
     let g = t .before .before .before in
     let r = line c in
     let f = cut c in
-    done-next _ _ _ (r .read-record .result) (r .read-record .ensures) _ _ _ _ _ (start f .pre .1) (f .find .ensures .0) (f .find .ensures .1) (g .got .given .0 .0) (g .got .given .1)
+    done-next _ _ _ _ (r .read-record .result) (r .read-record .ensures) _ _ _ _ _ (start f .pre .1 .1) (f .find .ensures .0) (f .find .ensures .1) (g .got .given .0 .0) (g .got .given .1)
     (t .step .last .1 .0) (t .step .result) (t .step .ensures) (d .done .given .0 .0) (d .done .given .1)))

@@ -4,7 +4,10 @@ use crate::sides::Sides;
 use crate::table::{Table, Unit, Work};
 use crate::SEED;
 use harness::interface::WORDS;
-use harness::{tracefile, Port, Rng};
+use harness::tagged::tables::{self, HOUSE};
+use harness::tagged::translated::{Change, Outwards};
+use harness::{tracefile, Port, Rng, Tagged};
+use lcov_sys::DEFAULT_TAGS;
 use oracle::Record;
 use std::fmt::Write;
 use std::hint::black_box;
@@ -40,12 +43,42 @@ pub fn measure(sides: &Sides) {
             (", Rust into a kept string", &|| rust_prints(&lines)),
         ],
     });
+    if sides.has_all_calls() {
+        tagged_rows(&table, &lines);
+    }
     table.row(Work {
         what: "pairs of paths compared",
         times: paths.len() * paths.len(),
         port: &|port| compare(port, &paths),
         rust: &[("", &|| rust_compares(&paths))],
     });
+}
+
+/// The port reads with the default table lent, and with a house's table and its lines, beside the Rust on the default lines.
+fn tagged_rows(table: &Table, lines: &[String]) {
+    let default: Vec<Vec<u8>> = lines.iter().map(|line| line.as_bytes().to_vec()).collect();
+    let own: Vec<Vec<u8>> = default
+        .iter()
+        .map(|line| Outwards(HOUSE).line(line))
+        .collect();
+    let house = tables::of(HOUSE);
+    for (whose, tags, tagged) in [
+        ("default", &DEFAULT_TAGS[..], &default),
+        ("house", &house, &own),
+    ] {
+        table.row(Work {
+            what: &format!("lines read, {whose} tags lent"),
+            times: lines.len(),
+            port: &|port| read_tagged(port, tags, tagged),
+            rust: &[("", &|| rust_reads(lines))],
+        });
+        table.row(Work {
+            what: &format!("lines read and printed, {whose} tags lent"),
+            times: lines.len(),
+            port: &|port| print_tagged(port, tags, tagged),
+            rust: &[(", Rust into a kept string", &|| rust_prints(lines))],
+        });
+    }
 }
 
 fn paths_of(lines: &[String]) -> Vec<&str> {
@@ -67,6 +100,14 @@ fn read(port: &impl Port, lines: &[String]) {
     let mut answer = [0; WORDS];
     for line in lines {
         black_box(port.read_line(black_box(line.as_bytes()), &mut answer));
+        black_box(&answer);
+    }
+}
+
+fn read_tagged(port: &impl Tagged, tags: &[u8], lines: &[Vec<u8>]) {
+    let mut answer = [0; WORDS];
+    for line in lines {
+        black_box(port.read_line_tagged(black_box(tags), black_box(line), &mut answer));
         black_box(&answer);
     }
 }
@@ -97,6 +138,17 @@ fn print(port: &impl Port, lines: &[String]) {
     let mut answer = [0; WORDS];
     for line in lines {
         let number = port.print_line(black_box(line.as_bytes()), &mut out, &mut answer);
+        assert_eq!(number, 0, "a sound line, and room for it");
+        black_box((&out, &answer));
+    }
+}
+
+fn print_tagged(port: &impl Tagged, tags: &[u8], lines: &[Vec<u8>]) {
+    let mut out = [0; ROOM];
+    let mut answer = [0; WORDS];
+    for line in lines {
+        let number =
+            port.print_line_tagged(black_box(tags), black_box(line), &mut out, &mut answer);
         assert_eq!(number, 0, "a sound line, and room for it");
         black_box((&out, &answer));
     }

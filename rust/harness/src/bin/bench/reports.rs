@@ -7,7 +7,10 @@ use crate::{rust, SEED};
 use harness::reports::expected::Expected;
 use harness::reports::workloads::{self, Order};
 use harness::reports::{bundles, Asked};
-use harness::{Build, Gatherer, Rng};
+use harness::tagged::tables::{self, HOUSE};
+use harness::tagged::translated::{Change, Outwards};
+use harness::{Build, Gatherer, Rng, Tagged};
+use lcov_sys::DEFAULT_TAGS;
 use std::hint::black_box;
 
 /// As many as scratch allows, nearly.
@@ -40,6 +43,9 @@ pub fn measure(sides: &Sides) {
     let text = workloads::one_file(&mut rng, Order::Ascending, ENTRIES);
     unprinted_row(&table, &text);
     exact_row(&table, &text);
+    if sides.has_all_calls() {
+        tagged_rows(&table, &text);
+    }
     bundle_rows(&table);
     bundle_row(&table, "one text of 60,000 entries", &bundles::of(&[text]));
     inner_row(&table, &workloads::filled(PROGRAM_BYTES));
@@ -123,6 +129,47 @@ fn unprinted_row(table: &Table, text: &[u8]) {
         port: &|port| kept.call(|lent| port.read_text(black_box(text), lent)),
         rust: &[("", &|| drop(black_box(rust::report(black_box(text)))))],
     });
+}
+
+// ---- tables of tags
+
+/// The port reads with the default table lent, and with a house's table and its text, beside the Rust on the default text.
+fn tagged_rows(table: &Table, text: &[u8]) {
+    let bundle = workloads::same_keys(TEXTS, 1000);
+    let house = tables::of(HOUSE);
+    let (own_text, own_bundle) = (Outwards(HOUSE).text(text), Outwards(HOUSE).bundle(&bundle));
+    for (whose, tags, tagged) in [
+        ("default", &DEFAULT_TAGS[..], text),
+        ("house", &house, &own_text),
+    ] {
+        let kept = kept_tagged(tags, &rust::read_text(text));
+        table.row(Work {
+            what: &format!(
+                "read {} entries, ascending, one file, {whose} tags lent",
+                grouped(ENTRIES)
+            ),
+            times: 1,
+            port: &|port| kept.call(|lent| port.read_text_tagged(tags, black_box(tagged), lent)),
+            rust: &[("", &|| drop(black_box(rust::read_text(black_box(text)))))],
+        });
+    }
+    for (whose, tags, tagged) in [
+        ("default", &DEFAULT_TAGS[..], &bundle),
+        ("house", &house, &own_bundle),
+    ] {
+        let kept = kept_tagged(tags, &rust::gather(&bundle));
+        let what = format!("{TEXTS} × 1,000 entries, the same keys, {whose} tags lent");
+        gather_row(table, &what, &bundle, &|port| {
+            kept.call(|lent| port.gather_tagged(tags, black_box(tagged), lent))
+        });
+    }
+}
+
+/// For a report that is printed with the tags of a table.
+fn kept_tagged(tags: &[u8], report: &str) -> Kept {
+    let tags = tables::loaded(tags).expect("a table that loads");
+    let printed = Outwards(tags).text(report.as_bytes());
+    Kept::roomy(&String::from_utf8(printed).expect("tags in ASCII"))
 }
 
 // ---- bundles

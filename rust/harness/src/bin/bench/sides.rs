@@ -28,6 +28,11 @@ impl Sides {
         pairs.collect::<Result<_, _>>().map(Sides::Builds)
     }
 
+    /// Whether all calls may be measured: an old build may lack some.
+    pub fn has_all_calls(&self) -> bool {
+        matches!(self, Sides::RustAndPort(_))
+    }
+
     pub fn names(&self) -> [&'static str; 2] {
         match self {
             Sides::RustAndPort(_) => ["Rust", "port"],
@@ -47,12 +52,14 @@ impl Sides {
     }
 }
 
-/// A call that an old build may lack.
-const ADDED: &str = "lcov_read_number";
+/// Whether an old build may lack the call.
+fn is_added(name: &str) -> bool {
+    name == "lcov_read_number" || name.ends_with("_tagged")
+}
 
-/// Stands in for it. Nothing that is measured makes the call.
-extern "C" fn added_later(_: *const u8, _: usize, _: u64, _: *mut u64, _: usize) -> u32 {
-    panic!("the build has no {ADDED}")
+/// Stands in for such calls, whatever they are lent. Nothing that is measured of two builds makes one.
+extern "C" fn added_later() -> u32 {
+    panic!("the build lacks a call that was added later")
 }
 
 /// Loads a copy of the shared object with a name of its own: the same file or name would be loaded once.
@@ -65,7 +72,7 @@ fn load(path: &str, number: usize) -> Result<Build, Box<dyn Error>> {
         Library::new(&copy).and_then(|library| {
             let library = Box::leak(Box::new(library));
             Calls::found(|name| match library.get(name.as_bytes()) {
-                Err(_) if name == ADDED => Ok(added_later as *const ()),
+                Err(_) if is_added(name) => Ok(added_later as *const ()),
                 found => found.map(|symbol| *symbol),
             })
         })

@@ -1,0 +1,13 @@
+use borrow.Author.Needs.{needs}
+use Rattle.model.specs.TagTable.{tagsOf, areTags}
+use Rattle.lcov.proofs.lines.read_line.Statement.{statement}
+use Rattle.lcov.proofs.lines.read_line.Tie as tie
+
+pub read-line-spec : {M : Type 1} → statement M
+unfolding tagsOf areTags
+read-line-spec =
+    tie.close
+    (tie.spec
+    (λ c. search needs)
+    (λ c κs. search needs)
+    (λ c. search needs))

@@ -1,0 +1,4 @@
+pub mod Kinds
+pub mod Written
+pub mod Rules
+pub mod Loading
