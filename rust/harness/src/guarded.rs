@@ -1,7 +1,7 @@
 //! Words and bytes lent to the port. They are marked before the call, so that it is seen what was written and what was left alone.
 
 use crate::expected::Answer;
-use crate::interface::WORDS;
+use crate::interface::{Lent, WORDS};
 use crate::Rng;
 
 const MARK: u64 = 0xa5a5_a5a5_a5a5_a5a5;
@@ -94,7 +94,45 @@ impl LentScratch {
     }
 
     /// Whether the words behind the slice that was lent stayed.
-    pub fn kept_behind(&self, lent: usize) -> bool {
+    fn kept_behind(&self, lent: usize) -> bool {
         self.0[lent..lent + GUARD].iter().all(|&word| word == MARK)
     }
+
+    /// A call with slices of these lengths.
+    pub fn call(
+        &mut self,
+        lengths: Lengths,
+        rng: &mut Rng,
+        call: impl FnOnce(Lent) -> u32,
+    ) -> Left {
+        let mut out = LentBytes::new(lengths.room);
+        let mut answer = LentWords::new(lengths.words);
+        let number = call(Lent {
+            scratch: self.lend(lengths.scratch, rng),
+            out: out.lend(),
+            answer: answer.lend(),
+        });
+        Left {
+            number,
+            answer,
+            out,
+            scratch_kept: self.kept_behind(lengths.scratch),
+        }
+    }
+}
+
+/// The lengths of what is lent for a call.
+#[derive(Clone, Copy)]
+pub struct Lengths {
+    pub scratch: usize,
+    pub room: usize,
+    pub words: usize,
+}
+
+/// What a call left behind.
+pub struct Left {
+    pub number: u32,
+    pub answer: LentWords,
+    pub out: LentBytes,
+    pub scratch_kept: bool,
 }

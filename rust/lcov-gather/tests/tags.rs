@@ -3,25 +3,10 @@
 mod common;
 
 use common::{said, Folder};
+use lcov_sys::DEFAULT_TAG_NAMES as NAMES;
 use std::fs;
 use std::io::Write;
 use std::process::Output;
-
-const NAMES: [&str; 13] = [
-    "TN",
-    "SF",
-    "FN",
-    "FNDA",
-    "FNF",
-    "FNH",
-    "BRDA",
-    "BRF",
-    "BRH",
-    "DA",
-    "LF",
-    "LH",
-    "end_of_record",
-];
 
 /// The house's tags, in the order of [`NAMES`].
 type House = [&'static [u8]; 13];

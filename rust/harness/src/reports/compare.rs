@@ -7,8 +7,8 @@ use super::Asked;
 use crate::compare::{shown, BYTES_PAST, MOST_WORDS, THOROUGH_AT_MOST};
 use crate::differences::{Difference, Differences};
 use crate::expected::{printing, refused, Answer};
-use crate::guarded::{LentBytes, LentScratch, LentWords};
-use crate::interface::{Gatherer, Lent, INNER_WORDS, MAX_ENTRIES, WORDS, WORDS_PER_ENTRY, WRITTEN};
+use crate::guarded::{self, Left, LentScratch};
+use crate::interface::{Gatherer, INNER_WORDS, MAX_ENTRIES, WORDS, WORDS_PER_ENTRY, WRITTEN};
 use crate::ranges::List;
 use crate::tally::NUMBERS;
 use crate::Rng;
@@ -61,14 +61,6 @@ impl Scratch {
             Scratch::Inside => "scratch inside".to_owned(),
         }
     }
-}
-
-/// What a call left behind.
-struct Left {
-    number: u32,
-    answer: LentWords,
-    out: LentBytes,
-    scratch_kept: bool,
 }
 
 pub struct Comparison<P> {
@@ -232,29 +224,23 @@ impl<P: Gatherer> Comparison<P> {
     }
 
     fn asked_with(&mut self, asked: Asked, lengths: Lengths) -> Left {
-        let mut out = LentBytes::new(lengths.room);
-        let mut answer = LentWords::new(lengths.words);
-        let scratch = self.scratch.lend(lengths.scratch.words(), &mut self.rng);
-        let slices = Lent {
-            scratch,
-            out: out.lend(),
-            answer: answer.lend(),
+        let slices = guarded::Lengths {
+            scratch: lengths.scratch.words(),
+            room: lengths.room,
+            words: lengths.words,
         };
-        let number = match (asked, lengths.scratch) {
-            (Asked::Text(text), _) => self.port.read_text(text, slices),
-            (Asked::Filter(text, list), _) => self.port.filter_text(text, list, slices),
-            (Asked::Bundle(Mode::Checked, bundle), Scratch::Inside) => {
-                self.port.gather(bundle, slices.out, slices.answer)
+        let port = &self.port;
+        self.scratch.call(slices, &mut self.rng, |lent| {
+            match (asked, lengths.scratch) {
+                (Asked::Text(text), _) => port.read_text(text, lent),
+                (Asked::Filter(text, list), _) => port.filter_text(text, list, lent),
+                (Asked::Bundle(Mode::Checked, bundle), Scratch::Inside) => {
+                    port.gather(bundle, lent.out, lent.answer)
+                }
+                (Asked::Bundle(Mode::Checked, bundle), _) => port.gather_with(bundle, lent),
+                (Asked::Bundle(Mode::Lossy, bundle), _) => port.gather_lossy(bundle, lent),
             }
-            (Asked::Bundle(Mode::Checked, bundle), _) => self.port.gather_with(bundle, slices),
-            (Asked::Bundle(Mode::Lossy, bundle), _) => self.port.gather_lossy(bundle, slices),
-        };
-        Left {
-            number,
-            answer,
-            out,
-            scratch_kept: self.scratch.kept_behind(lengths.scratch.words()),
-        }
+        })
     }
 
     fn differ(&mut self, asked: Asked, lengths: Lengths, wanted: String, left: &Left) {
@@ -290,6 +276,7 @@ fn in_words(told: &Told) -> Result<&[u8], Answer> {
 mod tests {
     use super::*;
     use crate::ends::taken_out;
+    use crate::interface::Lent;
     use crate::reports::bundles;
     use crate::stand_in::Wrong;
 

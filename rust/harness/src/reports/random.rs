@@ -527,7 +527,7 @@ mod tests {
             let habit = Habit::random(&mut rng);
             let (text, list) = (text(&mut rng, habit), lines_kept(&mut rng));
             let told = Expected::of(Asked::Filter(&text, &list)).map(|expected| expected.told);
-            let pairs = list.held().map(|held| ranges::expected::told(held));
+            let pairs = list.held().map(ranges::expected::told);
             if let (Some(Ok(own)), Some(pairs)) = (told, pairs) {
                 let reckoned = oracle::filter(&taken_out(&text), &pairs).unwrap();
                 counts[0] += usize::from(functions(&own) > functions(&reckoned));

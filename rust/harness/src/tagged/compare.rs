@@ -6,7 +6,7 @@ use super::translated::{Change, Inwards, Outwards};
 use crate::compare::{shown, BYTES_PAST, MOST_WORDS};
 use crate::differences::{Difference, Differences};
 use crate::expected::{printing, Answer};
-use crate::guarded::{LentBytes, LentScratch, LentWords};
+use crate::guarded::{Left, Lengths, LentScratch};
 use crate::interface::{
     Lent, Tagged, MAX_ENTRIES, NEEDED, OUTPUT_TOO_SHORT, START, WORDS, WORDS_PER_ENTRY, WRITTEN,
 };
@@ -120,22 +120,6 @@ impl fmt::Display for Tally {
             ],
         )
     }
-}
-
-/// The lengths of what is lent for a call.
-#[derive(Clone, Copy)]
-struct Lengths {
-    scratch: usize,
-    room: usize,
-    words: usize,
-}
-
-/// What a call left behind.
-struct Left {
-    number: u32,
-    answer: LentWords,
-    out: LentBytes,
-    scratch_kept: bool,
 }
 
 pub struct Comparison<P> {
@@ -314,23 +298,12 @@ impl<P: Tagged> Comparison<P> {
 
     fn call(&mut self, table: Option<&[u8]>, asked: Asked, lengths: Lengths) -> Left {
         self.tally.calls += 1;
-        let mut out = LentBytes::new(lengths.room);
-        let mut answer = LentWords::new(lengths.words);
-        let lent = Lent {
-            scratch: self.scratch.lend(lengths.scratch, &mut self.rng),
-            out: out.lend(),
-            answer: answer.lend(),
-        };
-        let number = match table {
-            Some(table) => with_table(&self.port, table, asked, lent),
-            None => without_table(&self.port, asked, lent),
-        };
-        Left {
-            number,
-            answer,
-            out,
-            scratch_kept: self.scratch.kept_behind(lengths.scratch),
-        }
+        let port = &self.port;
+        self.scratch
+            .call(lengths, &mut self.rng, |lent| match table {
+                Some(table) => with_table(port, table, asked, lent),
+                None => without_table(port, asked, lent),
+            })
     }
 
     fn differ(
