@@ -16,10 +16,12 @@ pub use line_num_pairs::query;
 pub use lines::line_len;
 pub use lines::print_line;
 pub use lines::print_line_data;
+pub use lines::print_line_data_tagged;
 pub use lines::print_line_tagged;
 pub use lines::read_line;
 pub use lines::read_line_tagged;
 pub use lines::read_record;
+pub use lines::read_record_tagged;
 use merge::Joined;
 use model::Fault;
 use model::Mode;
@@ -327,7 +329,7 @@ fn refused_tags(fault: Fault) -> WriteAnswer
 }
 
 // The checked gather (`Report::merge`): given start lines and checksums must agree. The last promise is demand 3's for this call; the whole
-// of it, for this call, `read_text` and their forms with a table of tags, is `Demand3Calls` in specs/Demand.antt.
+// of it, for this call, `read_text` and their forms with a table of tags, is `Demand3Tables` in specs/Demand.antt.
 pub fn gather_checked(bundle: &[u8], scratch: &mut [u64], out: &mut [u8]) -> WriteAnswer
     ensures call { λ r. ⌜ GatherCall defaultTag (now (bundle .entry)) (length (now (scratch .entry))) (now (out .entry)) (now (out .exit)) r ⌝ }
     ensures demand { λ r. ⌜ AcceptsAndWrites defaultTag (now (bundle .entry)) (length (now (scratch .entry))) (now (out .entry)) (now (out .exit)) r ⌝ }

@@ -1,4 +1,4 @@
-// The calls for one line: read, and printed. Each has a form with a lent table of tags.
+// The calls for one line: read, measured, and printed. Each that reads or prints has a form with a lent table of tags.
 ghost use mathlib.Core.Path.{_≡_};
 ghost use mathlib.Core.List.{[]};
 ghost use lib.ListN.{length};
@@ -37,6 +37,16 @@ pub fn read_record(line: &[u8]) -> LineAnswer
     record_parse::read_record(b"", line)
 }
 
+// The same under the tags of a lent table.
+pub fn read_record_tagged(tags: &[u8], line: &[u8]) -> LineAnswer
+    ensures { λ r. ⌜ LineCall (tagged (now (tags .entry)) (λ tag. lentRecord tag (now (line .entry)))) r ⌝ }
+{
+    match tag_table::load(tags) {
+        Loading::Refused(fault) => LineAnswer::Refused(refusal::unplaced(fault)),
+        Loading::Loaded => record_parse::read_record(tags, line),
+    }
+}
+
 // The length of a record's line, with byte 10 after it. A record with a part outside text has no line, and 0 is its length.
 pub fn line_len(text: &[u8], record: Record) -> usize
     ensures { λ r. ⌜ r ≡ length (lineIn defaultTag (now (text .entry)) «record») ⌝ }
@@ -66,4 +76,14 @@ pub fn print_line_data(line: u32, count: u64, out: &mut [u8]) -> WriteAnswer
     ensures { λ r. ⌜ WriteCall (printLine defaultTag [] (counted line count) (length (now (out .entry)))) (now (out .entry)) (now (out .exit)) r ⌝ }
 {
     record_display::print_line_data(b"", line, count, out)
+}
+
+// The same under the tags of a lent table.
+pub fn print_line_data_tagged(tags: &[u8], line: u32, count: u64, out: &mut [u8]) -> WriteAnswer
+    ensures { λ r. ⌜ WriteCall (tagged (now (tags .entry)) (λ tag. printLine tag [] (counted line count) (length (now (out .entry))))) (now (out .entry)) (now (out .exit)) r ⌝ }
+{
+    match tag_table::load(tags) {
+        Loading::Refused(fault) => refused_tags(fault),
+        Loading::Loaded => record_display::print_line_data(tags, line, count, out),
+    }
 }

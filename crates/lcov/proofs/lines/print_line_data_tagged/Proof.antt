@@ -1,0 +1,17 @@
+use borrow.Author.Needs.{needs}
+use Rattle.lcov.proofs.CallLaws.{tags-are, tags-refused, tags-called}
+use Rattle.lcov.proofs.lines.print_line_data_tagged.Statement.{statement}
+use Rattle.lcov.proofs.lines.print_line_data_tagged.Tie as tie
+
+pub print-line-data-tagged-spec : {M : Type 1} → statement M
+print-line-data-tagged-spec =
+    tie.close
+    (tie.spec
+    (λ c κs. search needs)
+    (λ c. search needs)
+    (λ c κs. search needs)
+    (λ c. search needs)
+    (λ c κs. search (tags-are, needs))
+    (λ c. search (tags-refused, needs))
+    (λ c. search needs)
+    (λ c. search (tags-called, needs)))
