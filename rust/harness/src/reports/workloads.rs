@@ -1,5 +1,8 @@
 //! Texts and bundles for the measure of speed.
 
+pub mod geninfo;
+pub mod names;
+
 use super::bundles;
 use crate::Rng;
 
@@ -34,9 +37,9 @@ impl Order {
     }
 }
 
-fn shuffle(rng: &mut Rng, numbers: &mut [usize]) {
-    for last in (1..numbers.len()).rev() {
-        numbers.swap(last, rng.below(last + 1));
+fn shuffle<T>(rng: &mut Rng, items: &mut [T]) {
+    for last in (1..items.len()).rev() {
+        items.swap(last, rng.below(last + 1));
     }
 }
 

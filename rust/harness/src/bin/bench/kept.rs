@@ -43,6 +43,16 @@ impl Kept {
         Kept { scratch, ..self }
     }
 
+    /// Removes what an earlier call printed.
+    pub fn clear(&self) {
+        self.out.borrow_mut().fill(0);
+    }
+
+    /// Whether the last call printed this report.
+    pub fn has(&self, report: &str) -> bool {
+        self.out.borrow().starts_with(report.as_bytes())
+    }
+
     pub fn call(&self, ask: impl Fn(Lent) -> u32) {
         let mut answer = [0; WORDS];
         let mut out = self.out.borrow_mut();

@@ -1,7 +1,7 @@
 //! Measures the port beside the Rust, or two builds of the port beside each other: on the lines of a tracefile as `geninfo` writes it and
-//! on their paths, on ranges and filters, and on texts and bundles.
+//! on their paths, on ranges and filters, on texts and bundles, and on functions and branches as `geninfo` and `lcov` order them.
 //!
-//!     cargo run --offline --profile fast --bin bench -- [lines | ranges | reports | growth] [--before OLD.so --now NEW.so]
+//!     cargo run --offline --profile fast --bin bench -- [lines | ranges | reports | growth | functions] [--before OLD.so --now NEW.so]
 //!
 //! The profile leaves out the overflow checks that the comparison needs. Both sides get the same questions in turn, round by round; time
 //! is the thread's time on its processor. The Rust makes a `Record` that owns its texts, and prints it as `to_string` does, into a new
@@ -9,6 +9,8 @@
 //! makes a `Report`, and prints its records into a new string; the port gets scratch and an output that are kept.
 
 mod clock;
+mod compared;
+mod functions;
 mod growth;
 mod kept;
 mod lines;
@@ -23,18 +25,19 @@ use sides::Sides;
 use std::process::ExitCode;
 
 const USAGE: &str =
-    "usage: bench [lines | ranges | reports | growth] [--before OLD.so --now NEW.so]";
+    "usage: bench [lines | ranges | reports | growth | functions] [--before OLD.so --now NEW.so]";
 
 /// Of all that is drawn at random.
 const SEED: u64 = 1;
 
 type Measure = fn(&Sides);
 
-const PARTS: [(&str, Measure); 4] = [
+const PARTS: [(&str, Measure); 5] = [
     ("lines", lines::measure),
     ("ranges", ranges::measure),
     ("reports", reports::measure),
     ("growth", growth::measure),
+    ("functions", functions::measure),
 ];
 
 #[derive(Default)]

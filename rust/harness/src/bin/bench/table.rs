@@ -64,6 +64,10 @@ impl<'a> Table<'a> {
         Table { sides, unit }
     }
 
+    pub fn sides(&self) -> &Sides {
+        self.sides
+    }
+
     /// Measures the work and prints its row; beside the Rust, a row for each of its ways.
     pub fn row(&self, work: Work) {
         match self.sides {
