@@ -2,6 +2,7 @@
 
 pub mod geninfo;
 pub mod names;
+pub mod real;
 
 use super::bundles;
 use crate::Rng;

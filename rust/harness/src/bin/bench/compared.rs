@@ -3,39 +3,60 @@
 use crate::kept::Kept;
 use crate::rust;
 use crate::table::{Table, Work};
-use harness::Gatherer;
+use harness::interface::Lent;
+use harness::{Build, Gatherer};
 use std::hint::black_box;
 
 pub fn read_row(table: &Table, what: &str, text: &[u8]) {
-    let expected = rust::read_text(text);
-    let kept = Kept::roomy(&expected);
-    let work = Work {
+    let asked = Asked {
         what,
         times: 1,
-        port: &|port| kept.call(|lent| port.read_text(black_box(text), lent)),
-        rust: &[("", &|| drop(black_box(rust::read_text(black_box(text)))))],
+        port: &|port, lent| port.read_text(black_box(text), lent),
+        rust: &|| rust::read_text(black_box(text)),
     };
-    compared_row(table, work, &kept, &expected);
+    asked.row(table);
 }
 
 pub fn gather_row(table: &Table, what: &str, bundle: &[u8]) {
-    let expected = rust::gather(bundle);
-    let kept = Kept::roomy(&expected);
-    let work = Work {
-        what,
-        times: 1,
-        port: &|port| kept.call(|lent| port.gather_with(black_box(bundle), lent)),
-        rust: &[("", &|| drop(black_box(rust::gather(black_box(bundle)))))],
-    };
-    compared_row(table, work, &kept, &expected);
+    gather_row_by(table, what, bundle, 1);
 }
 
-fn compared_row(table: &Table, work: Work, kept: &Kept, expected: &str) {
-    for (name, builds) in table.sides().ports() {
-        kept.clear();
-        (work.port)(&builds[0]);
-        let is_same = kept.has(expected);
-        assert!(is_same, "{}{name}: the port's output differs", work.what);
+/// The time of a gather is divided by a number.
+pub fn gather_row_by(table: &Table, what: &str, bundle: &[u8], times: usize) {
+    let asked = Asked {
+        what,
+        times,
+        port: &|port, lent| port.gather_with(black_box(bundle), lent),
+        rust: &|| rust::gather(black_box(bundle)),
+    };
+    asked.row(table);
+}
+
+/// The same question for both sides.
+struct Asked<'a> {
+    what: &'a str,
+    times: usize,
+    port: &'a dyn Fn(&Build, Lent) -> u32,
+    rust: &'a dyn Fn() -> String,
+}
+
+impl Asked<'_> {
+    fn row(&self, table: &Table) {
+        let expected = (self.rust)();
+        let kept = Kept::roomy(&expected);
+        for (name, builds) in table.sides().ports() {
+            let is_same = kept.prints(&expected, |lent| (self.port)(&builds[0], lent));
+            let what = self.what;
+            assert!(
+                is_same,
+                "{what}{name}: the port doesn't print what the Rust prints"
+            );
+        }
+        table.row(Work {
+            what: self.what,
+            times: self.times,
+            port: &|port| kept.call(|lent| (self.port)(port, lent)),
+            rust: &[("", &|| drop(black_box((self.rust)())))],
+        });
     }
-    table.row(work);
 }

@@ -1,7 +1,7 @@
 //! What is lent to the port, and kept between the rounds.
 
 use harness::interface::{
-    Lent, MAX_ENTRIES, NEEDED, OUTPUT_TOO_SHORT, WORDS, WORDS_PER_ENTRY, WRITTEN,
+    Lent, Words, MAX_ENTRIES, NEEDED, OUTPUT_TOO_SHORT, WORDS, WORDS_PER_ENTRY, WRITTEN,
 };
 use std::cell::RefCell;
 use std::hint::black_box;
@@ -43,30 +43,32 @@ impl Kept {
         Kept { scratch, ..self }
     }
 
-    /// Removes what an earlier call printed.
-    pub fn clear(&self) {
-        self.out.borrow_mut().fill(0);
-    }
-
-    /// Whether the last call printed this report.
-    pub fn has(&self, report: &str) -> bool {
-        self.out.borrow().starts_with(report.as_bytes())
-    }
-
     pub fn call(&self, ask: impl Fn(Lent) -> u32) {
-        let mut answer = [0; WORDS];
-        let mut out = self.out.borrow_mut();
-        let number = ask(Lent {
-            scratch: &mut self.scratch.borrow_mut(),
-            out: &mut out,
-            answer: &mut answer,
-        });
-        let (told, place) = if out.len() < self.expected {
+        let (number, answer) = self.asked(ask);
+        let (told, place) = if self.out.borrow().len() < self.expected {
             (OUTPUT_TOO_SHORT, NEEDED)
         } else {
             (0, WRITTEN)
         };
         assert_eq!((number, answer[place]), (told, self.expected as u64));
-        black_box(&out);
+        black_box(&self.out);
+    }
+
+    /// Whether the call prints this report.
+    pub fn prints(&self, report: &str, ask: impl Fn(Lent) -> u32) -> bool {
+        self.out.borrow_mut().fill(0);
+        let (number, answer) = self.asked(ask);
+        let is_told = (number, answer[WRITTEN]) == (0, report.len() as u64);
+        is_told && self.out.borrow().starts_with(report.as_bytes())
+    }
+
+    fn asked(&self, ask: impl Fn(Lent) -> u32) -> (u32, Words) {
+        let mut answer = [0; WORDS];
+        let number = ask(Lent {
+            scratch: &mut self.scratch.borrow_mut(),
+            out: &mut self.out.borrow_mut(),
+            answer: &mut answer,
+        });
+        (number, answer)
     }
 }

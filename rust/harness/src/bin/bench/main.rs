@@ -1,13 +1,17 @@
 //! Measures the port beside the Rust, or two builds of the port beside each other: on the lines of a tracefile as `geninfo` writes it and
-//! on their paths, on ranges and filters, on texts and bundles, and on functions and branches as `geninfo` and `lcov` order them.
+//! on their paths, on ranges and filters, on texts and bundles, on functions and branches as `geninfo` and `lcov` order them, and on
+//! real tracefiles in the folder LCOV_DATA.
 //!
-//!     cargo run --offline --profile fast --bin bench -- [lines | ranges | reports | growth | functions] [--before OLD.so --now NEW.so]
+//!     cargo run --offline --profile fast --bin bench -- [PART] [--before OLD.so --now NEW.so]
+//!
+//! The parts are `lines`, `ranges`, `reports`, `growth`, `functions` and `real`.
 //!
 //! The profile leaves out the overflow checks that the comparison needs. Both sides get the same questions in turn, round by round; time
 //! is the thread's time on its processor. The Rust makes a `Record` that owns its texts, and prints it as `to_string` does, into a new
 //! string, or into one that is kept; the port answers with places in the line, and prints into a buffer that is kept. Of texts the Rust
 //! makes a `Report`, and prints its records into a new string; the port gets scratch and an output that are kept.
 
+mod archives;
 mod clock;
 mod compared;
 mod functions;
@@ -15,6 +19,7 @@ mod growth;
 mod kept;
 mod lines;
 mod ranges;
+mod real;
 mod reports;
 mod rounds;
 mod rust;
@@ -25,19 +30,20 @@ use sides::Sides;
 use std::process::ExitCode;
 
 const USAGE: &str =
-    "usage: bench [lines | ranges | reports | growth | functions] [--before OLD.so --now NEW.so]";
+    "usage: bench [lines | ranges | reports | growth | functions | real] [--before OLD.so --now NEW.so]";
 
 /// Of all that is drawn at random.
 const SEED: u64 = 1;
 
 type Measure = fn(&Sides);
 
-const PARTS: [(&str, Measure); 5] = [
+const PARTS: [(&str, Measure); 6] = [
     ("lines", lines::measure),
     ("ranges", ranges::measure),
     ("reports", reports::measure),
     ("growth", growth::measure),
     ("functions", functions::measure),
+    ("real", real::measure),
 ];
 
 #[derive(Default)]

@@ -18,6 +18,8 @@ pub struct Work<'a> {
 pub enum Unit {
     MillionsPerSecond,
     Milliseconds,
+    /// For each line.
+    Nanoseconds,
 }
 
 impl Unit {
@@ -25,6 +27,7 @@ impl Unit {
         match self {
             Unit::MillionsPerSecond => "millions per second",
             Unit::Milliseconds => "milliseconds",
+            Unit::Nanoseconds => "nanoseconds a line",
         }
     }
 
@@ -32,6 +35,7 @@ impl Unit {
         match self {
             Unit::MillionsPerSecond => 1e-6 / seconds,
             Unit::Milliseconds => 1e3 * seconds,
+            Unit::Nanoseconds => 1e9 * seconds,
         }
     }
 
@@ -39,7 +43,7 @@ impl Unit {
     fn ratio(self, [first, second]: [&str; 2]) -> String {
         match self {
             Unit::MillionsPerSecond => format!("{second} / {first}"),
-            Unit::Milliseconds => format!("{first} / {second}"),
+            Unit::Milliseconds | Unit::Nanoseconds => format!("{first} / {second}"),
         }
     }
 }
@@ -96,10 +100,10 @@ impl<'a> Table<'a> {
     }
 }
 
-/// With a comma before the thousands.
+/// With a comma before each three digits.
 pub fn grouped(number: usize) -> String {
     match (number / 1000, number % 1000) {
         (0, units) => units.to_string(),
-        (thousands, units) => format!("{thousands},{units:03}"),
+        (thousands, units) => format!("{},{units:03}", grouped(thousands)),
     }
 }
