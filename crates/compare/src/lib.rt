@@ -3,8 +3,10 @@ mod path;
 mod prefix;
 
 pub use path::compare_paths;
-use prefix::common_prefix;
+pub use prefix::common_prefix;
+pub use prefix::min_usize;
 pub use prefix::quad;
+pub use prefix::word;
 ghost use mathlib.Core.Path.{_≡_};
 ghost use Prim.Native.Nat.{compare};
 ghost use lib.Dec.{isEq};

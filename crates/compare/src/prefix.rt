@@ -5,7 +5,7 @@ ghost use Prim.Native.Nat.{_+_, _≤_, min};
 ghost use lib.ListN.{length};
 ghost use Rattle.compare.specs.Prefixes.{IsNumber, CommonPrefix};
 
-fn min_usize(m: usize, n: usize) -> usize
+pub fn min_usize(m: usize, n: usize) -> usize
     ensures { λ r. ⌜ r ≡ min m n ⌝ }
 {
     if m < n { m } else { n }
@@ -34,7 +34,7 @@ pub fn quad(s: &[u8], i: usize) -> u64
 }
 
 // Eight bytes from place i on as one number, which the compiler makes a single load.
-fn word(s: &[u8], i: usize) -> u64
+pub fn word(s: &[u8], i: usize) -> u64
     requires { ⌜ i + 8 ≤ length (now s) ⌝ }
     ensures { λ r. ⌜ IsNumber (now (s .entry)) i 8 r ⌝ }
 {

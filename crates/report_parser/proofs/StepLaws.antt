@@ -1,7 +1,7 @@
 -- What a record does, by its kind's number. Assumes nothing.
 use Prim.Native.Nat.{ℕ, zero, suc, _+_, _-_, _≤_, _<_}
 use mathlib.Core.Path.{_≡_, refl, sym, ap, _∙_}
-use mathlib.Core.Bool.{Bool, true, false}
+use mathlib.Core.Bool.{Bool, true, false, cond}
 use mathlib.Core.List.{List}
 use mathlib.Core.Option.{Option, some}
 use native.Mathlib.Omega.{arith}
@@ -22,8 +22,10 @@ use Rattle.model.specs.Record.{Record, testName, sourceFile, functionName, func
 use Rattle.model.specs.Report.{Item}
 use Rattle.model.specs.Parts.{endIn, partOf, checksumIn, recordIn}
 use Rattle.model.specs.Reading.{State as ModelState, enterItem, ignored, effect}
-use Rattle.table_item.specs.Items.{partIn, PartInside, checksumPart, itemOf}
-use Rattle.table_item.specs.Combining.{combineOf, Adds}
+use Rattle.table_item.specs.Items.{kindOf, function-kind, partIn, PartInside, checksumPart, itemOf}
+use Rattle.table_item.specs.Combining.{combineOf, Adds, isCalls, callsOf}
+use Rattle.table_item.proofs.CountLaws.{function-item}
+use Rattle.section_tail.specs.Tail.{RowOfLine}
 use Rattle.section.specs.declared.State.{State}
 use Rattle.section.specs.declared.Step.{Step}
 use Rattle.section.specs.Reading.{stateOf, counted, StepOf, StepBy}
@@ -168,12 +170,57 @@ added-item {text} {at} {len} {k} {lent} κ β ρ =
     let most = read len (drop at text) lent (ρ .is) .most in
     adding-adds lent (rw (sym κ) (is-adding k (β (rw κ most))))
 
-pub adds-of : {at len k : ℕ} {lent : LentRecord} {r : Row} → k ≡ kindNumber lent → RowOf at len lent r → Adds (eqb k 3) r
-adds-of {at} {len} {k} {lent} {r} e ω = go (eqb k 3) refl
+-- only FNDA gives calls
+calls-in : (bytes : Bytes) (lent : LentRecord) → isCalls (itemIn bytes lent) ≡ eqb (kindNumber lent) 3
+unfolding isCalls
+calls-in bytes (Lent.TestName p) = refl
+calls-in bytes (Lent.SourceFile p) = refl
+calls-in bytes (Lent.FunctionName start end p) = refl
+calls-in bytes (Lent.FunctionData count p) = refl
+calls-in bytes (Lent.FunctionsFound found) = refl
+calls-in bytes (Lent.FunctionsHit hit) = refl
+calls-in bytes (Lent.BranchData line block branch taken) = refl
+calls-in bytes (Lent.BranchesFound found) = refl
+calls-in bytes (Lent.BranchesHit hit) = refl
+calls-in bytes (Lent.LineData line count checksum) = refl
+calls-in bytes (Lent.LinesFound found) = refl
+calls-in bytes (Lent.LinesHit hit) = refl
+calls-in bytes Lent.EndOfRecord = refl
+
+no-calls : (bytes : Bytes) (lent : LentRecord) → eqb (kindNumber lent) 3 ≡ false → callsOf (itemIn bytes lent) ≡ 0
+unfolding callsOf
+no-calls bytes (Lent.TestName p) q = refl
+no-calls bytes (Lent.SourceFile p) q = refl
+no-calls bytes (Lent.FunctionName start end p) q = refl
+no-calls bytes (Lent.FunctionData count p) q = impossible cc
+no-calls bytes (Lent.FunctionsFound found) q = refl
+no-calls bytes (Lent.FunctionsHit hit) q = refl
+no-calls bytes (Lent.BranchData line block branch taken) q = refl
+no-calls bytes (Lent.BranchesFound found) q = refl
+no-calls bytes (Lent.BranchesHit hit) q = refl
+no-calls bytes (Lent.LineData line count checksum) q = refl
+no-calls bytes (Lent.LinesFound found) q = refl
+no-calls bytes (Lent.LinesHit hit) q = refl
+no-calls bytes Lent.EndOfRecord q = refl
+
+own-calls : (text : Bytes) (r : Row) → kindOf r ≡ function-kind → callsOf (itemOf text r) ≡ r .count
+unfolding callsOf
+own-calls text r e = ap callsOf (function-item text r e)
+
+pub adds-of : {at len k : ℕ} {lent : LentRecord} {r : Row} → k ≡ kindNumber lent → RowOf at len lent r → RowOfLine (eqb k 3) r
+adds-of {at} {len} {k} {lent} {r} e ω = record {
+  kind = kind (eqb k 3) refl;
+  adding = λ text. ap isCalls (ω .is text) ∙ calls-in (drop at text) lent ∙ ap (λ (n : ℕ). eqb n 3) (sym e);
+  counts = λ text. counts text (eqb k 3) refl;
+}
   where
-    go : (b : Bool) → eqb k 3 ≡ b → Adds b r
-    go true q = ω .adds (sym e ∙ eqb-true k 3 q)
-    go false q = tt
+    kind : (b : Bool) → eqb k 3 ≡ b → Adds b r
+    kind true q = ω .adds (sym e ∙ eqb-true k 3 q)
+    kind false q = tt
+
+    counts : (text : Bytes) (b : Bool) → eqb k 3 ≡ b → callsOf (itemOf text r) ≡ cond b (r .count) 0
+    counts text true q = own-calls text r (ω .adds (sym e ∙ eqb-true k 3 q))
+    counts text false q = ap callsOf (ω .is text) ∙ no-calls (drop at text) lent (ap (λ (n : ℕ). eqb n 3) (sym e) ∙ q)
 
 -- ---- steps
 

@@ -26,7 +26,7 @@ use Rattle.table_item.specs.Items.{partIn, PartInside}
 use Rattle.table_item.specs.SortedItems.{itemsAt, SortedItems}
 use Rattle.section_upsert.specs.MainDelta.{mergeItems}
 use Rattle.section_upsert.proofs.UpsertLaws.{within-fits, within-past}
-use Rattle.section_tail.specs.Tail.{insertAll, rowsOf, AllFlushed}
+use Rattle.section_tail.specs.Tail.{includeAll, rowsOf, AllFlushed}
 use Rattle.section_tail.proofs.ItemLaws.{held-length}
 use Rattle.section.specs.declared.State.{State}
 use Rattle.section.specs.declared.Step.{Step}
@@ -46,7 +46,7 @@ next-outside : {text ws : List ℕ} {index limit : ℕ} (kept delta tombstones u
     → SectionRoom ws index limit → used ≤ capacity limit → tombstones ≤ slack limit → delta ≤ kept → length report ≤ limit
     → InParts text ws index used (kept - delta) delta tombstones → PartInside text test
     → StepOf text ws index limit (counted limit (accepted (outside report (partIn text test)))) (Next (withClosed kept delta tombstones used test))
-unfolding outside entries insertAll mergeItems tabulate
+unfolding outside entries includeAll mergeItems tabulate
 next-outside {text} {ws} {index} {limit} kept delta tombstones used test report e ρ m d l f σ i =
     let same : length report + tombstones ≡ kept - delta + delta = ap (λ (x : Report). length x + tombstones) (sym e) ∙ kept-length σ in
     record {

@@ -18,8 +18,8 @@ use Rattle.table_item.specs.Items.{partIn, PartInside}
 use Rattle.section_upsert.specs.MainDelta.{mergeItems}
 use Rattle.section_upsert.proofs.UpsertLaws.{parted-none}
 use Rattle.section_tail.specs.declared.OpenSizes.{OpenSizes}
-use Rattle.section_tail.specs.Tail.{insertAll, rowsOf, endOf, itemsOf, OpenSection, TailFlushed}
-use Rattle.section_tail.proofs.ItemLaws.{same-held, same-inserted}
+use Rattle.section_tail.specs.Tail.{includeAll, callsIn, rowsOf, endOf, itemsOf, OpenSection, TailFlushed}
+use Rattle.section_tail.proofs.ItemLaws.{same-held, same-included}
 use Rattle.section_tail.proofs.UpsertLaws.{none-open as none-in-main}
 use Rattle.section.specs.declared.State.{State}
 use Rattle.section.specs.declared.Step.{Step}
@@ -78,7 +78,7 @@ flushed-emptied most η = record { items = η .items; still = η .still; others 
 -- ---- nothing is open
 
 pub no-items : (text ws : List ℕ) (index at : ℕ) (s : OpenSizes) → rowsOf s ≡ 0 → itemsOf text ws index at s ≡ []
-unfolding insertAll mergeItems tabulate
+unfolding includeAll mergeItems tabulate
 no-items text ws index at s z =
     let x : s .main ≡ 0 = omega arith in
     let y : s .delta ≡ 0 = omega arith in
@@ -86,14 +86,18 @@ no-items text ws index at s z =
     rw (x, y, q)
 
 none-open : {text ws : List ℕ} {index used spare at : ℕ} {s : OpenSizes} → Store ws index used → at ≤ used → rowsOf s ≡ 0 → OpenSection text ws index used spare at s
+unfolding callsIn mergeItems tabulate
 none-open {s = s} σ l z =
     let x : s .main ≡ 0 = omega arith in
     let y : s .delta ≡ 0 = omega arith in
+    let q : s .tail ≡ 0 = omega arith in
     record {
       parts = rw (x, y) (parted-none (none-in-main σ l));
       alone = λ h. y;
+      counted = λ h. absurd (h q);
       room = omega arith;
       inner = λ k m. absurd (omega arith);
+      calls = λ h. rw (x, y, q) (omega arith);
     }
 
 -- ---- states
@@ -178,7 +182,7 @@ module _ {text ws ws′ : List ℕ} {index limit place r : ℕ} {st : State} (ζ
         };
         sections = same-sections ws′ ζ (λ k p q. ρ .rows k p (omega (arith, ζ .space .kept))) r (ρ .store) (omega (arith, ζ .space .kept, ρ .more));
         open-items = λ h. by-inside ζ
-            (λ o. same-inserted text ws ws′ index (st .kept + 1) (st .sizes) (λ k p q. ρ .rows k p (omega (arith, items-below o))) r (ζ .open-items o) (ρ .store)
+            (λ o. same-included text ws ws′ index (st .kept + 1) (st .sizes) (λ k p q. ρ .rows k p (omega (arith, items-below o))) r (ζ .open-items o) (ρ .store)
             (omega (arith, items-below o, ρ .more)) (ρ .spare))
             (λ z e. none-open (ρ .store) (omega arith) z);
         opened = still (st .inside) (ζ .opened);
@@ -304,7 +308,7 @@ start-valid ρ =
     (omega arith)
 
 pub start-state : (text ws : List ℕ) (index : ℕ) → stateOf text ws index (withClosed 0 0 0 0 (record { start = 0; len = 0 })) ≡ outside [] []
-unfolding outside filter insertAll mergeItems tabulate
+unfolding outside filter includeAll mergeItems tabulate
 start-state text ws index = refl
 
 -- ---- answers

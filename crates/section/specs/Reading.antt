@@ -92,7 +92,7 @@ withClosed kept delta tombstones used test = record {
   delta = delta;
   tombstones = tombstones;
   used = used;
-  sizes = record { main = 0; delta = 0; tail = 0; flushes = 0 };
+  sizes = record { main = 0; delta = 0; tail = 0; flushes = 0; calls = 0 };
   inside = false;
   test = test;
   path = noPart;

@@ -8,7 +8,7 @@ use section_tail::OpenSizes;
 use section_tail::Outcome;
 use section_tail::add_row;
 use section_tail::flush_all;
-use section_tail::flush_tail;
+use section_tail::flush_midway;
 use table::Row;
 ghost use mathlib.Core.Path.{_≡_};
 ghost use mathlib.Core.List.{List, []};
@@ -18,8 +18,8 @@ ghost use Rattle.model.specs.Record.{testName, sourceFile, endOfRecord};
 ghost use Rattle.model.specs.Reading.{outside, enterItem, ignored, effect};
 ghost use Rattle.table.specs.Store.{Store};
 ghost use Rattle.table_item.specs.Items.{partIn, PartInside, itemOf, ItemRow};
-ghost use Rattle.table_item.specs.Combining.{Adds, combineOf};
-ghost use Rattle.section_tail.specs.Tail.{OpenSection};
+ghost use Rattle.table_item.specs.Combining.{combineOf};
+ghost use Rattle.section_tail.specs.Tail.{RowOfLine, OpenSection};
 ghost use Rattle.section.specs.Reading.{slack, capacity, SectionRoom, RowReserved, FlushedIfOver, withOpen, withPath, withClosed, keptSizesOf, stateOf, StateRoom, HoldsState, StepBy, AllInMain};
 
 // The state between two lines: the number of kept rows, of those in the delta, and of tombstones; the number of rows in
@@ -119,6 +119,7 @@ fn with_closed(kept: usize, delta: usize, tombstones: usize, used: usize, test: 
         delta: 0,
         tail: 0,
         flushes: 0,
+        calls: 0,
     };
     State {
         kept: kept,
@@ -175,7 +176,7 @@ fn flush_if_over(
     if end <= most {
         return sizes;
     }
-    flush_tail(text, words, index, used, spare, at, sizes)
+    flush_midway(text, words, index, used, spare, at, sizes)
 }
 
 // FN, FNDA, BRDA and DA: adds the row to the open section, and opens one if none is open.
@@ -188,7 +189,7 @@ pub fn on_item(
     row: Row,
     accumulate: bool,
 ) -> Step
-    requires { ⌜ HoldsState (now text) (now words) index limit state × ItemRow (now text) row × Adds accumulate row ⌝ }
+    requires { ⌜ HoldsState (now text) (now words) index limit state × ItemRow (now text) row × RowOfLine accumulate row ⌝ }
     ensures { λ r. ⌜ StepBy (enterItem (combineOf accumulate) (itemOf (now (text .entry)) row)) (now (text .entry)) (now (words .entry)) (now (words .exit)) index limit state r ⌝ }
 {
     let kept = state.kept;

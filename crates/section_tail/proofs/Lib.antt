@@ -1,4 +1,5 @@
 pub mod TailLaws
+pub mod CallLaws
 pub mod ItemLaws
 pub mod UpsertLaws
 pub mod AddLaws

@@ -89,7 +89,7 @@ fn upsert_delta(
     requires { ⌜ (index + used ≤ spare) × (spare + used + used ≤ length (now words)) × FoundPlace (now text) (now words) index at n (itemOf (now text) row) (Insert i) ⌝ }
     ensures { λ r. ⌜ Upserted (now (text .entry)) (now (words .entry)) (now (words .exit)) index used spare at n p row accumulate r ⌝ }
 {
-    match find_item(text, words, index, used, at + n, p, row) {
+    match find_item(text, words, index, used, at + n, p, p, row) {
         Found::At(k) => match combine_at(words, index, used, at + n + k, row, accumulate) {
             Combined::One(_both) => {
                 return UpsertOutcome::Items(n, p);
@@ -113,7 +113,7 @@ fn upsert_delta(
 }
 
 // Upserts a row into the open section: n items of main from position `at` on and p of the delta behind them. Only free
-// rows follow in the index. `spare` is the offset of free words.
+// rows follow in the index. `spare` is the offset of free words; `hint` is the position in main that is tried first.
 pub fn upsert(
     text: &[u8],
     words: &mut [u64],
@@ -123,6 +123,7 @@ pub fn upsert(
     at: usize,
     n: usize,
     p: usize,
+    hint: usize,
     row: Row,
     accumulate: bool,
 ) -> UpsertOutcome
@@ -130,7 +131,7 @@ pub fn upsert(
     requires { ⌜ (index + used ≤ spare) × (spare + used + used ≤ length (now words)) ⌝ }
     ensures { λ r. ⌜ Upserted (now (text .entry)) (now (words .entry)) (now (words .exit)) index used spare at n p row accumulate r ⌝ }
 {
-    match find_item(text, words, index, used, at, n, row) {
+    match find_item(text, words, index, used, at, n, hint, row) {
         Found::At(i) => match combine_at(words, index, used, at + i, row, accumulate) {
             Combined::One(_both) => {
                 return UpsertOutcome::Items(n, p);

@@ -37,6 +37,35 @@ less-is a b = go (compare a b) (says a b)
     go Ordering·eq h = le-ltb a b (omega arith)
     go Ordering·gt h = le-ltb a b (omega arith)
 
+-- two numbers that differ decide
+first-decides : (a b : ℕ) (o : Ordering) → a ≢ b → ltb a b ≡ isLess (lex (compare a b) o)
+first-decides a b o n = less-is a b ∙ go (compare a b) (says a b)
+  where
+    go : (p : Ordering) → Says p a b → isLess p ≡ isLess (lex p o)
+    go Ordering·lt h = refl
+    go Ordering·eq h = absurd (n h)
+    go Ordering·gt h = refl
+
+-- and two that are the same do not
+next-decides : (a b : ℕ) (o : Ordering) → a ≡ b → lex (compare a b) o ≡ o
+next-decides a b o e = ap (λ (p : Ordering). lex p o) (said Ordering·eq a b e)
+
+-- three numbers each, as two branches have them
+module _ (x y : Row) where
+  abbrev compareBranches : Ordering
+  compareBranches = lex (compare (x .k1) (y .k1)) (lex (compare (x .k2) (y .k2)) (compare (x .k3) (y .k3)))
+
+  pub branch-first : x .k1 ≢ y .k1 → ltb (x .k1) (y .k1) ≡ isLess compareBranches
+  branch-first n = first-decides (x .k1) (y .k1) (lex (compare (x .k2) (y .k2)) (compare (x .k3) (y .k3))) n
+
+  pub branch-second : x .k1 ≡ y .k1 → x .k2 ≢ y .k2 → ltb (x .k2) (y .k2) ≡ isLess compareBranches
+  branch-second e n = first-decides (x .k2) (y .k2) (compare (x .k3) (y .k3)) n ∙ ap isLess (sym (next-decides (x .k1) (y .k1) (lex (compare (x .k2) (y .k2)) (compare (x .k3) (y .k3))) e))
+
+  pub branch-third : x .k1 ≡ y .k1 → x .k2 ≡ y .k2 → ltb (x .k3) (y .k3) ≡ isLess compareBranches
+  branch-third e f =
+      less-is (x .k3) (y .k3)
+      ∙ ap isLess (sym (next-decides (x .k1) (y .k1) (lex (compare (x .k2) (y .k2)) (compare (x .k3) (y .k3))) e ∙ next-decides (x .k2) (y .k2) (compare (x .k3) (y .k3)) f))
+
 -- ---- keys
 
 -- the key after the kind
@@ -99,3 +128,7 @@ module _ (text : Bytes) (x y : Row) (gx : ItemInBounds text x) (gy : ItemInBound
 
   pub lines-before : kindOf x ≡ line-kind → kindOf y ≡ line-kind → ltb (x .k1) (y .k1) ≡ isLess compared
   lines-before e f = less-is (x .k1) (y .k1) ∙ ap isLess (lines (omega arith) (omega arith) e (compare (x .k1) (y .k1)) refl)
+
+  pub branches-before : kindOf x ≡ branch-kind → kindOf y ≡ branch-kind
+      → isLess (lex (compare (x .k1) (y .k1)) (lex (compare (x .k2) (y .k2)) (compare (x .k3) (y .k3)))) ≡ isLess compared
+  branches-before e f = ap isLess (branches (omega arith) (omega arith) e (lex (compare (x .k1) (y .k1)) (lex (compare (x .k2) (y .k2)) (compare (x .k3) (y .k3)))) refl)

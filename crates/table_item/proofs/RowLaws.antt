@@ -1,11 +1,14 @@
 -- The rows of FN, FNDA, BRDA and DA are items. Assumes nothing.
 use mathlib.Core.Path.{_≡_, refl, sym, ap, ap₂, _∙_}
 use mathlib.Core.Logic.{_≢_}
+use mathlib.Core.Bool.{Bool, true, false}
 use mathlib.Core.Option.{Option, none, some}
-use Prim.Native.Nat.{ℕ, zero, suc, _+_, _*_, _/_, _%_, _<_}
+use lib.Dec.{eqb, isEq}
+use Prim.Native.Nat.{ℕ, zero, suc, _+_, _*_, _/_, _%_, _<_, compare·suc-zero}
 use native.Mathlib.Numerals.{add-one}
 use native.Mathlib.Omega.{arith}
 use Rattle.table.specs.declared.Row.{Row}
+use Rattle.ordmap.proofs.Results.{impossible}
 use Rattle.model.specs.declared.Part.{Part}
 use Rattle.model.specs.Bytes.{Bytes}
 use Rattle.model.specs.declared.EndLine.{EndLine}
@@ -15,8 +18,9 @@ use Rattle.model.specs.declared.Taken.the-variants as Tk
 use Rattle.model.specs.declared.Checksum.{Checksum}
 use Rattle.model.specs.declared.Checksum.the-variants as Ck
 use Rattle.model.specs.Parts.{endIn, takenIn}
-use Rattle.model.specs.Report.{extentAt, Extent, functionOf, updated, extentOf, givenEnd, endOf, sectionItem, functionItem, branchItem, lineItem}
+use Rattle.model.specs.Report.{extentAt, Extent, Function, functionOf, updated, extentOf, givenEnd, endOf, sectionItem, functionItem, branchItem, lineItem}
 use Rattle.table_item.proofs.CountLaws.{function-item}
+use Rattle.table_item.specs.Combining.{noExtent, isCalls}
 use Rattle.table_item.specs.Items.{part, kindOf, function-kind, byKind, ifGiven, line-numbers, extentTag, extentWord, extentIn, startKey, functionIn, partIn, itemOf, PartInside, checksumPart, ChecksumInside, itemRow, Makes}
 
 pub word-is : (start : ℕ) (a b : EndLine) (n : ℕ) → a ≡ b → n ≡ extentWord start b → n ≡ extentWord start a
@@ -106,6 +110,47 @@ module _ (r : Row) where
   pub some-end : r .tag ≡ 3 → (text : Bytes) → endIn (El.Given (r .k3 / line-numbers)) ≡ endOf (itemOf text r)
   unfolding endIn itemOf extentOf
   some-end e text = rw e
+
+-- ---- rows of FNDA
+
+calls-by : (k m n : ℕ) (p : Bytes) (f : Function) (l b h : ℕ) (t : Option ℕ) (x y : ℕ) (z : Option Bytes) → f .extent ≡ extentIn m n
+    → isCalls (byKind k (sectionItem p) (functionItem f) (branchItem l b h t) (lineItem x y z)) ≡ byKind k false (noExtent (extentIn m n)) false false
+unfolding isCalls
+calls-by zero m n p f l b h t x y z e = refl
+calls-by (suc zero) m n p f l b h t x y z e = ap noExtent e
+calls-by (suc (suc zero)) m n p f l b h t x y z e = refl
+calls-by (suc (suc (suc k))) m n p f l b h t x y z e = refl
+
+calls-is : (text : Bytes) (r : Row) → isCalls (itemOf text r) ≡ byKind (kindOf r) false (noExtent (extentIn (r .tag % 2) (r .k3))) false false
+unfolding itemOf
+calls-is text r = calls-by (kindOf r) (r .tag % 2) (r .k3) _ (functionIn text r) _ _ _ _ _ _ _ refl
+
+pub calls-function : (text : Bytes) (r : Row) → isCalls (itemOf text r) ≡ true → kindOf r ≡ function-kind
+calls-function text r q = go (kindOf r) (sym (calls-is text r) ∙ q)
+  where
+    go : (k : ℕ) → byKind k false (noExtent (extentIn (r .tag % 2) (r .k3))) false false ≡ true → k ≡ function-kind
+    go zero e = impossible cc
+    go (suc zero) e = refl
+    go (suc (suc zero)) e = impossible cc
+    go (suc (suc (suc k))) e = impossible cc
+
+module _ (r : Row) where
+  pub calls-plain : r .tag ≡ 2 → (text : Bytes) → eqb (r .k3) 0 ≡ isCalls (itemOf text r)
+  calls-plain e text = go (r .k3) ∙ sym (calls-is text r ∙ ap (λ (t : ℕ). byKind (t / 2) false (noExtent (extentIn (t % 2) (r .k3))) false false) e)
+    where
+      go : (n : ℕ) → eqb n 0 ≡ noExtent (extentIn 0 n)
+      go zero = refl
+      go (suc n) = ap isEq (compare·suc-zero n)
+
+  pub calls-never : r .tag ≢ 2 → (text : Bytes) → false ≡ isCalls (itemOf text r)
+  calls-never e text = go (kindOf r) (r .tag % 2) (λ q. omega arith) ∙ sym (calls-is text r)
+    where
+      go : (k m : ℕ) → (k ≡ function-kind → m ≢ 0) → false ≡ byKind k false (noExtent (extentIn m (r .k3))) false false
+      go zero m f = refl
+      go (suc zero) zero f = absurd (f refl refl)
+      go (suc zero) (suc m) f = refl
+      go (suc (suc zero)) m f = refl
+      go (suc (suc (suc k))) m f = refl
 
 -- a row that has a start line is a function
 module _ (text : Bytes) (r : Row) (start : ℕ) (is : startKey (extentOf (itemOf text r)) ≡ suc start) where

@@ -3,10 +3,12 @@ use mathlib.Core.Path.{_≡_, refl, sym, ap, _∙_}
 use mathlib.Core.Logic.{_≢_}
 use mathlib.Core.Bool.{Bool, true, false}
 use mathlib.Core.List.{List}
-use Prim.Native.Nat.{ℕ, zero, suc, _-_, _≤_, _<_, Ordering, Ordering·lt, Ordering·eq, Ordering·gt}
+use Prim.Native.Nat.{ℕ, zero, suc, _+_, _-_, _≤_, _<_, Ordering, Ordering·lt, Ordering·eq, Ordering·gt}
 use native.Mathlib.Omega.{arith}
 use lib.Dec.{isEq}
+use Rattle.table.specs.declared.Row.{Row}
 use Rattle.table.specs.Places.{tabulate, PartitionPoint}
+use Rattle.table.specs.Store.{row}
 use Rattle.table.proofs.PlaceLaws.{by-eq}
 use Rattle.table.proofs.BinarySearch.{Falling}
 use Rattle.ordmap.specs.Keyed.{Above, Sorted}
@@ -18,6 +20,7 @@ use Rattle.model.specs.Report.{Item, itemKey, compareItems}
 use Rattle.model.proofs.KeyOrder.{bytes-order}
 use Rattle.table_item.specs.declared.Found.{Found}
 use Rattle.table_item.specs.declared.Found.the-variants.{At, Insert}
+use Rattle.table_item.specs.Items.{itemOf}
 use Rattle.table_item.specs.SortedItems.{itemFrom, SortedItems, place, next, FoundPlace}
 
 -- ---- a sorted list, place by place
@@ -110,6 +113,11 @@ module _ (e : Item) where
   place-at f (suc n) (suc i) h below here =
       rw (below 0 (omega arith)) (ap next (place-at (λ k. f (suc k)) n i (omega arith) (λ k l. below (suc k) (omega arith)) here))
 
+-- an item as it was read and compared
+pub before-as : (text ws : List ℕ) (index at k : ℕ) (e : Item) {x : Row} {r b : Bool} → x ≡ row ws index (at + k) → r ≡ isLess (compareItems (itemOf text x) e) → r ≡ b
+    → Before (itemFrom text ws index at) e k ≡ b
+before-as text ws index at k e f g t = rw f at (sym g ∙ t)
+
 -- ---- the answers of the search
 
 -- the answer as a match has it
@@ -128,6 +136,16 @@ module _ {text ws : List ℕ} {index at n : ℕ} {e : Item} where
   found-last ο z t = record {
     is = sym (place-insert e (itemFrom text ws index at) n n (omega arith) (λ k l. greater (itemFrom text ws index at) e k (before-falls (itemFrom text ws index at) e n (ο .sorted) k (n - 1) (omega arith) (omega arith) t)) (λ l. absurd (omega arith)));
     within = omega arith;
+  }
+
+  -- e is the i-th
+  pub found-here : {used : ℕ} (i : ℕ) → SortedItems text ws index used at n → i < n → isEq (compareItems e (itemFrom text ws index at i)) ≡ true → FoundPlace text ws index at n e (At i)
+  unfolding compareItems
+  found-here i ο l q = record {
+    is = sym (place-at e (itemFrom text ws index at) n i l
+        (λ k h. greater (itemFrom text ws index at) e k
+        (ap (λ (b : List ℕ). isLess (compareBytes (itemKey (itemFrom text ws index at k)) b)) (bytes-order .equal (is-eq _ q)) ∙ ap isLess (sorted-at itemKey compareBytes (itemFrom text ws index at) n (ο .sorted) k i h l))) (is-eq _ q));
+    within = l;
   }
 
   module _ {i : ℕ} (z : n ≢ 0) (κ : PartitionPoint (Before (itemFrom text ws index at) e) (n - 1) i) where

@@ -7,10 +7,13 @@ use model::Part;
 use model::Taken;
 use table::Row;
 ghost use mathlib.Core.Path.{_≡_};
+ghost use mathlib.Core.Bool.{true};
 ghost use mathlib.Core.List.{List};
 ghost use mathlib.Core.Option.{none, some};
-ghost use Prim.Native.Nat.{ℕ, _+_, _≤_};
+ghost use Prim.Native.Nat.{ℕ, _+_, _≤_, _<_, compare};
 ghost use lib.ListN.{length};
+ghost use lib.Dec.{isEq};
+ghost use Rattle.ordmap.specs.Compare.{lex};
 ghost use Rattle.model.specs.Order.{isLess};
 ghost use Rattle.model.specs.Bytes.{compareBytes};
 ghost use Rattle.model.specs.Report.{extentAt, functionOf, functionItem, branchItem, lineItem, extentOf, endOf, compareItems};
@@ -19,7 +22,7 @@ ghost use Rattle.compare.specs.Orders.{orderOf};
 ghost use Rattle.table.specs.Places.{PartitionPoint};
 ghost use Rattle.table_item.specs.Items.{part, extentTag, extentWord, startKey, itemOf, ItemInBounds, ItemRow, partIn, PartInside, checksumPart, ChecksumInside, itemRow, Makes};
 ghost use Rattle.table_item.specs.SortedItems.{itemFrom, SortedItems, FoundPlace};
-ghost use Rattle.table_item.specs.Combining.{Adds, combineOf, seenOne, InnerOne};
+ghost use Rattle.table_item.specs.Combining.{Adds, combineOf, seenOne, InnerOne, isCalls};
 
 // The kinds of a row; a section's header row is the first. The tag is twice the kind, plus one where the end line,
 // the taken count or the checksum is given.
@@ -99,6 +102,16 @@ pub fn calls_row(name: Part, count: u64) -> Row
     ensures { λ r. ⌜ Makes r (λ text. functionItem (functionOf (partIn text name) none count)) (λ text. PartInside text name) ⌝ }
 {
     item_row(FUNCTION * 2, name.start as u64, name.len as u64, 0, count)
+}
+
+// Whether the row is that of an FNDA line: a function of which no FN is known.
+pub fn is_calls(row: Row) -> bool
+    ensures { λ r. ⌜ ((text : List ℕ) → r ≡ isCalls (itemOf text row)) ⌝ }
+{
+    if row.tag != FUNCTION * 2 {
+        return false;
+    }
+    row.k3 == 0
 }
 
 // "BRDA:10,0,1,5"
@@ -194,7 +207,20 @@ pub fn compare_items(text: &[u8], x: Row, y: Row) -> Order
     Order::Equal
 }
 
-// Whether x comes before y. Two lines are compared at once: a text has more of them than of all else.
+// Whether x comes before y, both being branches.
+fn branch_before(x: Row, y: Row) -> bool
+    ensures { λ r. ⌜ r ≡ isLess (lex (compare (x .k1) (y .k1)) (lex (compare (x .k2) (y .k2)) (compare (x .k3) (y .k3)))) ⌝ }
+{
+    if x.k1 != y.k1 {
+        return x.k1 < y.k1;
+    }
+    if x.k2 != y.k2 {
+        return x.k2 < y.k2;
+    }
+    x.k3 < y.k3
+}
+
+// Whether x comes before y. Two lines and two branches are compared at once: a text has more of them than of all else.
 pub fn comes_before(text: &[u8], x: Row, y: Row) -> bool
     requires { ⌜ ItemInBounds (now text) x × ItemInBounds (now text) y ⌝ }
     ensures { λ r. ⌜ r ≡ isLess (compareItems (itemOf (now (text .entry)) x) (itemOf (now (text .entry)) y)) ⌝ }
@@ -202,6 +228,11 @@ pub fn comes_before(text: &[u8], x: Row, y: Row) -> bool
     if x.tag / 2 == LINE {
         if y.tag / 2 == LINE {
             return x.k1 < y.k1;
+        }
+    }
+    if x.tag / 2 == BRANCH {
+        if y.tag / 2 == BRANCH {
+            return branch_before(x, y);
         }
     }
     compare::is_less(compare_items(text, x, y))
@@ -240,7 +271,29 @@ pub enum Found {
     Insert(usize),
 }
 
-// The key's place among the n items from place `at` on. Most texts are sorted, so that the key comes after the last: tried first.
+// Whether the i-th of the n items from place `at` on has the key.
+fn has_key(
+    text: &[u8],
+    words: &[u64],
+    index: usize,
+    used: usize,
+    at: usize,
+    n: usize,
+    i: usize,
+    key: Row,
+) -> bool
+    requires { ⌜ SortedItems (now text) (now words) index used at n × ItemInBounds (now text) key ⌝ }
+    ensures { λ r. ⌜ (r ≡ true → (i < n) × (isEq (compareItems (itemOf (now (text .entry)) key) (itemFrom (now (text .entry)) (now (words .entry)) index at i)) ≡ true)) ⌝ }
+{
+    if n <= i {
+        return false;
+    }
+    let here = table::get(words, index, used, at + i);
+    compare::is_equal(compare_items(text, key, here))
+}
+
+// The key's place among the n items from place `at` on. Most texts are sorted, so that the key comes after the last or is the last: tried
+// first. Then position `hint` is tried.
 pub fn find_item(
     text: &[u8],
     words: &[u64],
@@ -248,6 +301,7 @@ pub fn find_item(
     used: usize,
     at: usize,
     n: usize,
+    hint: usize,
     key: Row,
 ) -> Found
     requires { ⌜ SortedItems (now text) (now words) index used at n × ItemInBounds (now text) key ⌝ }
@@ -259,6 +313,12 @@ pub fn find_item(
     let last = table::get(words, index, used, at + (n - 1));
     if comes_before(text, last, key) {
         return Found::Insert(n);
+    }
+    if compare::is_equal(compare_items(text, key, last)) {
+        return Found::At(n - 1);
+    }
+    if has_key(text, words, index, used, at, n, hint, key) {
+        return Found::At(hint);
     }
     let i = lower_bound_item(text, words, index, used, at, n - 1, key);
     let here = table::get(words, index, used, at + i);

@@ -263,6 +263,9 @@ impl Run {
 /// Of how many bundles one is followed by others in all orders of their texts.
 const ORDERS_ONE_IN: usize = 20;
 
+/// Of how many questions one is a text with a long section.
+const LONG_ONE_IN: usize = 1000;
+
 /// A text, read and filtered, and a bundle.
 fn random_reports(comparison: &mut reports::compare::Comparison<Build>, rng: &mut Rng) {
     let habit = reports::random::Habit::random(rng);
@@ -270,6 +273,9 @@ fn random_reports(comparison: &mut reports::compare::Comparison<Build>, rng: &mu
     comparison.text(&text);
     comparison.filter(&text, &reports::random::lines_kept(rng));
     comparison.bundle(&reports::random::bundle(rng));
+    if rng.one_in(LONG_ONE_IN) {
+        comparison.long_text(&reports::long::text(rng));
+    }
     if rng.one_in(ORDERS_ONE_IN) {
         for bundle in reports::random::in_all_orders(rng) {
             comparison.bundle(&bundle);

@@ -15,4 +15,4 @@ flush-if-over-spec =
     (λ c. flushed-there (c .before .before .before .before .before .before .pre .0) (omega arith))
     (λ c κs. search needs)
     (λ c. search needs)
-    (λ c. flushed-emptied _ (c .before .before .flush-tail .ensures)))
+    (λ c. flushed-emptied _ (c .before .before .flush-midway .ensures)))

@@ -61,9 +61,9 @@ on-item-spec =
     (λ c κs. let y = c .before .before .before .before .before .before in
     let p = places y in
     (y .reserve-row .ensures .store, record { rows = start y .pre .0 .space .room .rows; words = omega (arith, y .reserve-row .kept .0) }, p .most, p .items))
-    (λ c κs. search needs)
+    (λ c κs. let p = places (header (c .before .before)) in omega (arith, p .fits))
     (λ c. let p = places (header (c .before .before .before)) in omega (arith, c .capacity .ensures))
-    (λ c. search needs)
+    (λ c. let p = places (header (c .before .before .before .before)) in omega (arith, p .kept, p .most, p .fits))
     (λ c κs. let z = c .before .before .before .before in
     let e = c .before .capacity .ensures in
     let y = header z in
@@ -89,7 +89,9 @@ on-item-spec =
     ))
     (λ c. search needs)
     (λ c. search needs)
-    (λ c. search needs)
+    (λ c. let f = c .before .before .before .before in
+    let z = rows (entered (given f)) in
+    let p = places (header z) in omega (arith, f .flush-if-over .ensures .still .room, z .reserve-row2 .ensures .most))
     (λ c. let f = c .before .before .before .before .before in
     let z = rows (entered (given f)) in
     let p = places (header z) in omega (arith, f .flush-if-over .ensures .still .room, z .reserve-row2 .ensures .most))

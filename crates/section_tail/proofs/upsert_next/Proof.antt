@@ -1,11 +1,11 @@
 -- `section_tail::upsert_next` meets its contract: the row is never refused. Assumes nothing.
 use Rattle.table_item.proofs.CompareLaws.{inner-as}
-use Rattle.section_tail.proofs.UpsertLaws.{never-refused, one-more}
+use Rattle.section_tail.proofs.UpsertLaws.{adds-calls, never-refused, one-more}
 use borrow.Author.Needs.{needs}
 use Rattle.section_tail.proofs.upsert_next.Statement.{statement}
 use Rattle.section_tail.proofs.upsert_next.Tie as tie
 
-abbrev got : tie.After-upsert → tie.After-get
+abbrev got : tie.After-is-calls → tie.After-get
 got n = n .before .before
 
 abbrev start : tie.After-get → tie.Start
@@ -17,16 +17,19 @@ upsert-next-spec =
     (tie.spec
     (λ c. search needs)
     (λ c κs. search needs)
-    (λ c κs. let g = c .before in
+    (λ c κs. search needs)
+    (λ c κs. let g = got c in
     let s = start g in
-    ((s .pre .0 .0, inner-as (g .get .ensures) (s .pre .1 .1), tt), (s .pre .1 .2, s .pre .1 .3)))
+    ((s .pre .0 .0, inner-as (g .get .ensures) (s .pre .1 .0 .1), adds-calls _ _ (c .is-calls .ensures)), (s .pre .1 .0 .2, s .pre .1 .0 .3)))
     (λ c. search needs)
     (λ c. search needs)
     (λ c. search needs)
     (λ c. let n = c .before .before .before .before in
-    let s = start (got n) in
-    never-refused (s .args .sizes) (s .pre .0 .0) (s .pre .0 .1) (s .pre .1 .0) (got n .get .ensures) (n .upsert .ensures) (c .enum-told .given .1))
+    let i = n .before in
+    let s = start (got i) in
+    never-refused (s .args .sizes) (s .pre .0 .0) (s .pre .0 .1) (s .pre .1 .0 .0) (got i .get .ensures) (s .pre .1 .1) (i .is-calls .ensures) (n .upsert .ensures) (c .enum-told .given .1))
     (λ c. search needs)
     (λ c. let n = c .before .before .before .before .before in
-    let s = start (got n) in
-    one-more (s .args .sizes) (s .pre .0 .0) (s .pre .0 .1) (s .pre .1 .0) (got n .get .ensures) (n .upsert .ensures) (c .before .got .given .1)))
+    let i = n .before in
+    let s = start (got i) in
+    one-more (s .args .sizes) (s .pre .0 .0) (s .pre .0 .1) (s .pre .1 .0 .0) (got i .get .ensures) (s .pre .1 .1) (i .is-calls .ensures) (n .upsert .ensures) (c .before .got .given .1)))

@@ -86,6 +86,15 @@ impl<P: Gatherer> Comparison<P> {
         self.ask(Asked::Text(text));
     }
 
+    /// A text with thousands of lines: with the usual lengths alone.
+    pub fn long_text(&mut self, text: &[u8]) {
+        let asked = Asked::Text(text);
+        let expected = Expected::of(asked).expect("a text that the Rust reads");
+        self.tally
+            .count_question(asked, expected.basis, &expected.told);
+        self.usual_lengths(asked, &expected);
+    }
+
     pub fn filter(&mut self, text: &[u8], list: &List) {
         self.ask(Asked::Filter(text, list));
     }

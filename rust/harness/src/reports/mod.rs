@@ -3,6 +3,7 @@
 pub mod bundles;
 pub mod compare;
 pub mod expected;
+pub mod long;
 pub mod random;
 pub mod recorded;
 pub mod reference;

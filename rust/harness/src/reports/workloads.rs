@@ -38,7 +38,7 @@ impl Order {
     }
 }
 
-fn shuffle<T>(rng: &mut Rng, items: &mut [T]) {
+pub(super) fn shuffle<T>(rng: &mut Rng, items: &mut [T]) {
     for last in (1..items.len()).rev() {
         items.swap(last, rng.below(last + 1));
     }
