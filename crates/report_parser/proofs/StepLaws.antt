@@ -23,7 +23,7 @@ use Rattle.model.specs.Report.{Item}
 use Rattle.model.specs.Parts.{endIn, partOf, checksumIn, recordIn}
 use Rattle.model.specs.Reading.{State as ModelState, enterItem, ignored, effect}
 use Rattle.table_item.specs.Items.{kindOf, function-kind, partIn, PartInside, checksumPart, itemOf}
-use Rattle.table_item.specs.Combining.{combineOf, Adds, isCalls, callsOf}
+use Rattle.table_item.specs.Combining.{combineOf, isCalls, callsOf}
 use Rattle.table_item.proofs.CountLaws.{function-item}
 use Rattle.section_tail.specs.Tail.{RowOfLine}
 use Rattle.section.specs.declared.State.{State}
@@ -209,15 +209,10 @@ own-calls text r e = ap callsOf (function-item text r e)
 
 pub adds-of : {at len k : ℕ} {lent : LentRecord} {r : Row} → k ≡ kindNumber lent → RowOf at len lent r → RowOfLine (eqb k 3) r
 adds-of {at} {len} {k} {lent} {r} e ω = record {
-  kind = kind (eqb k 3) refl;
   adding = λ text. ap isCalls (ω .is text) ∙ calls-in (drop at text) lent ∙ ap (λ (n : ℕ). eqb n 3) (sym e);
   counts = λ text. counts text (eqb k 3) refl;
 }
   where
-    kind : (b : Bool) → eqb k 3 ≡ b → Adds b r
-    kind true q = ω .adds (sym e ∙ eqb-true k 3 q)
-    kind false q = tt
-
     counts : (text : Bytes) (b : Bool) → eqb k 3 ≡ b → callsOf (itemOf text r) ≡ cond b (r .count) 0
     counts text true q = own-calls text r (ω .adds (sym e ∙ eqb-true k 3 q))
     counts text false q = ap callsOf (ω .is text) ∙ no-calls (drop at text) lent (ap (λ (n : ℕ). eqb n 3) (sym e) ∙ q)

@@ -218,16 +218,6 @@ module _ {text ws : List ℕ} {index used spare at m : ℕ} {s : OpenSizes} (κ 
             ∙ ap (λ (k : ℕ). includeAll [] (itemsAt text ws index at k)) e
             ∙ all-included κ (κ .alone q)
 
--- the order in which the rows came
-pub as-they-came : {text ws : List ℕ} {index used at m : ℕ} → Store ws index used → Presorted text ws ws index used at m
-as-they-came σ = record {
-  store = σ;
-  below = λ k x y. refl;
-  behind = λ k x y. refl;
-  each = λ i l. (i, l, refl);
-  keys = λ k. refl;
-}
-
 -- ---- words behind the index change
 
 -- what is written behind the delta's positions leaves the section as it is

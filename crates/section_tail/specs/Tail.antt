@@ -12,7 +12,7 @@ use Rattle.model.specs.Limits.{u64-max}
 use Rattle.model.specs.Bytes.{Bytes, compareBytes}
 use Rattle.model.specs.Report.{Item, itemKey, compareItems}
 use Rattle.table_item.specs.Items.{itemOf, ItemRow}
-use Rattle.table_item.specs.Combining.{Adds, isCalls, callsOf, renewed}
+use Rattle.table_item.specs.Combining.{isCalls, callsOf, renewed}
 use Rattle.table_item.specs.SortedItems.{itemFrom, itemsAt, SortedItems}
 use Rattle.section_upsert.specs.MainDelta.{allAt, MainDelta}
 use Rattle.section_tail.specs.declared.OpenSizes.{OpenSizes}
@@ -67,7 +67,6 @@ CallsWithin n counted = counted < u64-max → n ≤ counted
 
 -- a row of a line: FNDA adds, and no other line has calls
 pub record RowOfLine (adds : Bool) (r : Row) : Type 0 where
-  pub kind : Adds adds r
   pub adding : (text : Bytes) → isCalls (itemOf text r) ≡ adds
   pub counts : (text : Bytes) → callsOf (itemOf text r) ≡ cond adds (r .count) 0
 

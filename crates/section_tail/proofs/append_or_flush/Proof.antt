@@ -4,6 +4,7 @@ use native.Mathlib.Omega.{arith}
 use Rattle.table_item.specs.Combining.{seenOne}
 use Rattle.table_item.proofs.CompareLaws.{inner-as}
 use Rattle.section_tail.proofs.ItemLaws.{last-inner}
+use Rattle.section_tail.proofs.UpsertLaws.{adds-calls}
 use Rattle.section_tail.proofs.AddLaws.{inner-made, sizes-as, included-next, included-last-row, after-emptied}
 use borrow.Author.Needs.{needs}
 use Rattle.section_tail.proofs.append_or_flush.Statement.{statement}
@@ -21,7 +22,7 @@ append-or-flush-spec =
     (λ c κs. let s = c .before .before .before .before .before .before .before .before .before in (s .pre .0 .0 .parts .main .store, omega (arith, s .pre .0 .0 .room, s .pre .0 .1)))
     (λ c κs. let s = c .before .before .before .before .before .before .before .before .before .before in
     (inner-as (c .get .ensures) (last-inner _ (s .pre .0 .0) (s .pre .0 .1) (omega (arith, s .pre .0 .1))), s .pre .0 .2))
-    (λ c κs. c .before .before .before .before .before .before .before .before .before .before .before .before .pre .0 .3 .kind)
+    (λ c κs. let s = c .before .before .before .before .before .before .before .before .before .before .before .before in adds-calls _ _ (λ text. sym (s .pre .0 .3 .adding text)))
     (λ c. search needs)
     (λ c. let s = c .before .before .before .before .before .before .before .before .before .before .before .before .before .before .before .before .before in omega (arith, s .pre .0 .1))
     (λ c κs. let s = c .before .before .before .before .before .before .before .before .before .before .before .before .before .before .before .before .before in (s .pre .0 .0 .parts .main .store, omega (arith, s .pre .0 .0 .room, s .pre .0 .1)))

@@ -1,7 +1,8 @@
 -- `section_tail::flush_tail` meets its contract. Assumes nothing.
 use mathlib.Core.Logic.{_≢_}
 use native.Mathlib.Omega.{arith}
-use Rattle.section_tail.proofs.UpsertLaws.{emptied-already, tail-inner, presorted-inner, presorted-fits, emptied, as-they-came}
+use Rattle.section_presort.proofs.PresortLaws.{presorted-none}
+use Rattle.section_tail.proofs.UpsertLaws.{emptied-already, tail-inner, presorted-inner, presorted-fits, emptied}
 use borrow.Author.Needs.{needs}
 use Rattle.section_tail.proofs.flush_tail.Statement.{statement}
 use Rattle.section_tail.proofs.flush_tail.Tie as tie
@@ -22,11 +23,11 @@ flush-tail-spec =
     (λ c κs. let s = c .before .before .before .before .before .before .before .before .before in
     let κ = s .pre .0 in
     let z = κ .alone (omega arith) in
-    ((κ .parts .main, omega arith, omega (arith, κ .room), tail-inner κ (omega arith) (omega arith)), (s .pre .1, s .pre .2, presorted-fits κ (omega arith) (as-they-came (κ .parts .main .store)) (omega arith))))
+    ((κ .parts .main, omega arith, omega (arith, κ .room), tail-inner κ (omega arith) (omega arith)), (s .pre .1, s .pre .2, presorted-fits κ (omega arith) (presorted-none _ _ (κ .parts .main .store)) (omega arith))))
     (λ c. search needs)
     (λ c. let y = c .before .before in
     let κ = y .before .before .before .before .before .before .before .before .before .before .pre .0 in
-    emptied κ (omega arith) (as-they-came (κ .parts .main .store)) (omega arith) (y .upsert-all .ensures))
+    emptied κ (omega arith) (presorted-none _ _ (κ .parts .main .store)) (omega arith) (y .upsert-all .ensures))
     (λ c κs. let s = start c in
     let κ = s .pre .0 in
     let z = κ .alone (omega arith) in

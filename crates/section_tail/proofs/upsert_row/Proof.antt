@@ -1,4 +1,6 @@
 -- `section_tail::upsert_row` meets its contract. Assumes nothing.
+use mathlib.Core.Path.{sym}
+use Rattle.section_tail.proofs.UpsertLaws.{adds-calls}
 use Rattle.section_tail.proofs.AddLaws.{calls-as, exact-items, exact-refused, exact-as}
 use borrow.Author.Needs.{needs}
 use Rattle.section_tail.proofs.upsert_row.Statement.{statement}
@@ -11,7 +13,7 @@ pub upsert-row-spec : {M : Type 1} → statement M
 upsert-row-spec =
     tie.close
     (tie.spec
-    (λ c κs. let s = c .before .before .before in ((s .pre .0 .0 .parts, s .pre .0 .2, s .pre .0 .3 .kind), s .pre .1))
+    (λ c κs. let s = c .before .before .before in ((s .pre .0 .0 .parts, s .pre .0 .2, adds-calls _ _ (λ text. sym (s .pre .0 .3 .adding text))), s .pre .1))
     (λ c. search needs)
     (λ c. search needs)
     (λ c. search needs)
