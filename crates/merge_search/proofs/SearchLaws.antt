@@ -13,18 +13,18 @@ use Rattle.table.specs.Places.{PartitionPoint, SearchBounds}
 use Rattle.table.proofs.PlaceLaws.{by-eq}
 use Rattle.table.proofs.BinarySearch.{Falling, by-test, bounds-done}
 use Rattle.ordmap.specs.Compare.{lex}
-use Rattle.ordmap.proofs.Orderings.{is-eq}
+use Rattle.ordmap.proofs.Orderings.{is-eq, said}
 use Rattle.ordmap.proofs.Results.{impossible}
 use Rattle.model.specs.Order.{isLess}
 use Rattle.model.specs.Bytes.{Bytes}
 use Rattle.model.specs.Report.{Entry, sectionKey, entryKey, compareItems, compareSections, compareKeys}
 use Rattle.model.proofs.KeyOrder.{keys-order, sections-order}
 use Rattle.table_item.specs.declared.Found.the-variants.{At, Insert}
-use Rattle.table_item.specs.Items.{itemOf}
-use Rattle.table_item.proofs.CompareLaws.{lines, lines-before}
+use Rattle.table_item.specs.Items.{itemOf, kindOf, branch-kind, line-kind, ItemInBounds}
+use Rattle.table_item.proofs.CompareLaws.{branches, lines, lines-before}
 use Rattle.table_item.proofs.SearchLaws.{is-lt, sorted-at}
 use Rattle.table_section.specs.Sections.{entryOf, entryAt, keyOf, RowInBounds}
-use Rattle.merge_search.specs.Names.{LinesOfOne}
+use Rattle.merge_search.specs.Names.{SameNamePositions, LinesOfOne}
 use Rattle.merge_search.specs.Search.{EntriesAscending, compareEntries, Before, Between, Passed, GallopBounds, SearchResult}
 use Rattle.merge_search.proofs.NameLaws.{same-key}
 
@@ -44,11 +44,14 @@ by-section a b o h e = e ∙ go (compareSections (sectionKey a) (sectionKey b)) 
     go Ordering·eq h = cc
     go Ordering·gt h = refl
 
+-- names at the same offsets are those of one section
+one-section : (text : Bytes) {x y : Row} → SameNamePositions x y → true ≡ isEq (compareSections (keyOf text x) (keyOf text y))
+one-section text {x} ν = sym (ap isEq (ap (compareSections (keyOf text x)) (sym (same-key text ν)) ∙ sections-order .same (keyOf text x)))
+
 -- the numbers of two lines decide
 module _ {text : Bytes} {x y : Row} (wx : RowInBounds text x) (wy : RowInBounds text y) (both : LinesOfOne x y) where
   of-one : (o : Ordering) → o ≡ compareItems (itemOf text x) (itemOf text y) → o ≡ compareEntries (entryOf text x) (entryOf text y)
-  of-one o = by-item (entryOf text x) (entryOf text y) o
-      (sym (ap isEq (ap (compareSections (keyOf text x)) (sym (same-key text (both .names))) ∙ sections-order .same (keyOf text x))))
+  of-one o = by-item (entryOf text x) (entryOf text y) o (one-section text (both .names))
 
   pub by-lines : (o : Ordering) → o ≡ compare (x .k1) (y .k1) → o ≡ compareEntries (entryOf text x) (entryOf text y)
   by-lines o e =
@@ -59,6 +62,28 @@ module _ {text : Bytes} {x y : Row} (wx : RowInBounds text x) (wy : RowInBounds 
 
   pub less-lines : ltb (x .k1) (y .k1) ≡ isLess (compareEntries (entryOf text x) (entryOf text y))
   less-lines = lines-before text x y (wx .good) (wy .good) (both .left) (both .right) ∙ ap isLess (of-one _ refl)
+
+-- rows that are told to be one item's by their numbers
+module _ (x y : Row) (text : Bytes) (gx : ItemInBounds text x) (gy : ItemInBounds text y) (kinds : kindOf x ≡ kindOf y) (first : x .k1 ≡ y .k1) where
+  pub equal-lines : kindOf x ≡ line-kind → compareItems (itemOf text x) (itemOf text y) ≡ Ordering·eq
+  equal-lines e = sym (lines text x y gx gy (omega arith) (omega arith) e Ordering·eq (sym (said Ordering·eq (x .k1) (y .k1) first)))
+
+  pub equal-branches : kindOf x ≡ branch-kind → x .k2 ≡ y .k2 → x .k3 ≡ y .k3 → compareItems (itemOf text x) (itemOf text y) ≡ Ordering·eq
+  equal-branches e second third = sym (branches text x y gx gy (omega arith) (omega arith) e Ordering·eq (sym same))
+    where
+      same : lex (compare (x .k1) (y .k1)) (lex (compare (x .k2) (y .k2)) (compare (x .k3) (y .k3))) ≡ Ordering·eq
+      same = rw (said Ordering·eq (x .k1) (y .k1) first, said Ordering·eq (x .k2) (y .k2) second, said Ordering·eq (x .k3) (y .k3) third)
+
+-- equal items of sections whose names are at the same offsets
+pub equal-entries : (text : Bytes) {x y : Row} → SameNamePositions x y → compareItems (itemOf text x) (itemOf text y) ≡ Ordering·eq
+    → compareEntries (entryOf text x) (entryOf text y) ≡ Ordering·eq
+equal-entries text {x} {y} ν e = sym (by-item (entryOf text x) (entryOf text y) Ordering·eq (one-section text ν) (sym e))
+
+-- the key is that of a row that the store handed out
+pub found-equal : {text : Bytes} {key r q : Row} → r ≡ q
+    → ((text : Bytes) → RowInBounds text key → RowInBounds text r → compareEntries (entryOf text key) (entryOf text r) ≡ Ordering·eq)
+    → RowInBounds text key → RowInBounds text q → compareEntries (entryOf text key) (entryOf text q) ≡ Ordering·eq
+found-equal {text} e same wk wq = rw e at (same text wk (rw e wq))
 
 -- a row that the store handed out
 pub whole-as : {text : Bytes} {r q : Row} → r ≡ q → RowInBounds text q → RowInBounds text r

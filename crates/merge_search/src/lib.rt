@@ -7,14 +7,16 @@ use table::Row;
 use table_item::Found;
 ghost use mathlib.Core.Path.{_≡_};
 ghost use mathlib.Core.Bool.{true};
-ghost use Prim.Native.Nat.{_≤_, _<_};
-ghost use Rattle.model.specs.Report.{entryKey, compareKeys};
+ghost use mathlib.Core.List.{List};
+ghost use Prim.Native.Nat.{ℕ, _≤_, _<_, Ordering·eq};
+ghost use Rattle.model.specs.Report.{entryKey, compareItems, compareKeys};
 ghost use Rattle.compare.specs.Orders.{orderOf};
 ghost use Rattle.table.specs.Store.{Store};
 ghost use Rattle.table.specs.Places.{PartitionPoint};
+ghost use Rattle.table_item.specs.Items.{itemOf, ItemInBounds};
 ghost use Rattle.table_section.specs.Sections.{entryOf, RowInBounds};
 ghost use Rattle.merge_search.specs.Names.{LinesOfOne};
-ghost use Rattle.merge_search.specs.Search.{EntriesAscending, Before, Between, Passed, GallopBounds, SearchResult};
+ghost use Rattle.merge_search.specs.Search.{EntriesAscending, compareEntries, Before, Between, Passed, GallopBounds, SearchResult};
 
 // By section, then by item.
 fn compare_rows(text: &[u8], x: Row, y: Row) -> Order
@@ -172,6 +174,40 @@ fn gallop_search(
     resolve(text, words, index, used, n, i, key)
 }
 
+// Whether both rows are lines of one number, or branches of the same three.
+fn same_numbers(x: Row, y: Row) -> bool
+    ensures { λ r. ⌜ (r ≡ true → (text : List ℕ) → ItemInBounds text x → ItemInBounds text y → compareItems (itemOf text x) (itemOf text y) ≡ Ordering·eq) ⌝ }
+{
+    let kind = x.tag / 2;
+    if kind != y.tag / 2 {
+        return false;
+    }
+    if x.k1 != y.k1 {
+        return false;
+    }
+    if kind == table_item::LINE {
+        return true;
+    }
+    if kind != table_item::BRANCH {
+        return false;
+    }
+    if x.k2 != y.k2 {
+        return false;
+    }
+    x.k3 == y.k3
+}
+
+// Whether both rows are lines or branches of one key, in sections whose names are at the same offsets. Most keys of a text are in the joined
+// table, where they are expected: a few words of both rows show it, and no call passes the key through memory.
+fn has_same_key(x: Row, y: Row) -> bool
+    ensures { λ r. ⌜ (r ≡ true → (text : List ℕ) → RowInBounds text x → RowInBounds text y → compareEntries (entryOf text x) (entryOf text y) ≡ Ordering·eq) ⌝ }
+{
+    if same_numbers(x, y) {
+        return same_names(x, y);
+    }
+    false
+}
+
 // Compares with the entry at `from` first, and gallops only if the key is greater: one comparison for a key that is or
 // belongs there.
 fn search_first(
@@ -190,6 +226,9 @@ fn search_first(
         return Found::Insert(from);
     }
     let first = table::get(words, index, used, from);
+    if has_same_key(key, first) {
+        return Found::At(from);
+    }
     let order = compare_entries(text, key, first);
     if compare::is_less(order) {
         return Found::Insert(from);

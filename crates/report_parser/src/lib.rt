@@ -90,7 +90,7 @@ fn read_line_at(
     requires { ⌜ HoldsState (now text) (now words) index limit state × (at < length (now text)) ⌝ }
     ensures { λ r. ⌜ LineDone (tagsOf (now (tags .entry))) (now (text .entry)) (now (words .entry)) (now (words .exit)) index limit at number state r ⌝ }
 {
-    let len = scan::find(&text[at..], b'\n');
+    let len = scan_line::first_line_len(&text[at..]);
     let got = record_parse::read_record(tags, &text[at..at + len]);
     let LineAnswer::Read(made) = got else {
         return refused_line(got, number);

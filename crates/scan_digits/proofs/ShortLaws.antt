@@ -71,7 +71,7 @@ word-shift (suc j) (b ∷ bs) h =
     ap (λ (k : ℕ). (wordOf bs * 256 + b) / 2 ^ k) two ∙ sym (shr-shr (wordOf bs * 256 + b) 8 (j * 8))
     ∙ ap (λ (k : ℕ). k / 2 ^ (j * 8)) rest ∙ word-shift j bs (λ i. h (suc i))
 
-drop-bounded : (n : ℕ) (s : Bytes) → Bounded s → Bounded (drop n s)
+pub drop-bounded : (n : ℕ) (s : Bytes) → Bounded s → Bounded (drop n s)
 drop-bounded zero s h = h
 drop-bounded (suc n) [] h = h
 drop-bounded (suc n) (b ∷ bs) h = drop-bounded n bs (λ i. h (suc i))

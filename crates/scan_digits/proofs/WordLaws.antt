@@ -85,7 +85,7 @@ flags-small (suc m) (suc n) x h e =
     drop-low q h = omega arith
 
 -- as many lowest digits as are counted are zero
-trailing : (j k f : ℕ) → j ≤ trailingZeros k f → f % 2 ^ j ≡ 0
+pub trailing : (j k f : ℕ) → j ≤ trailingZeros k f → f % 2 ^ j ≡ 0
 unfolding trailingZeros
 trailing zero k f h = mod-one f
 trailing (suc j) zero f h = absurd (omega arith)

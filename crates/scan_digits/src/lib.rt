@@ -40,7 +40,8 @@ fn half_word(s: &[u8], p: usize) -> u64
     a + b * 256 + c * 65536 + d * 16777216
 }
 
-fn whole_word(s: &[u8], p: usize) -> u64
+// Eight bytes as a number, which the compiler makes a single load.
+pub fn whole_word(s: &[u8], p: usize) -> u64
     requires { ⌜ p + 8 ≤ length (now s) ⌝ }
     ensures { λ r. ⌜ r ≡ wordOf (take 8 (drop p (now (s .entry)))) ⌝ }
 {

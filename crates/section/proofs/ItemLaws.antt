@@ -34,8 +34,8 @@ use Rattle.section_tail.proofs.TailLaws.{add-most}
 use Rattle.section_tail.proofs.ItemLaws.{held-length, held-exact}
 use Rattle.section.specs.declared.State.{State}
 use Rattle.section.specs.declared.Step.the-variants.{Next, Refused}
-use Rattle.section.specs.Reading.{capacity, RowReserved, FlushedIfOver, withOpen, stateOf, StateRoom, HoldsState, counted, StepOf}
-use Rattle.section.proofs.StateLaws.{full-outside, kept-size, same-kept, same-sections, withUsed, more-valid, more-state, step-as}
+use Rattle.section.specs.Reading.{capacity, RowReserved, withOpen, stateOf, StateRoom, HoldsState, counted, StepOf}
+use Rattle.section.proofs.StateLaws.{FlushedIfOver, full-outside, kept-size, same-kept, same-sections, withUsed, more-valid, more-state, step-as}
 
 -- ---- counts
 

@@ -1,6 +1,6 @@
 -- A valid state stays valid, and the same for the model, where rows are added behind those in use. Assumes nothing.
 use mathlib.Core.Path.{_≡_, refl, sym, _∙_}
-use mathlib.Core.Logic.{inl, inr}
+use mathlib.Core.Logic.{_⊎_, inl, inr}
 use mathlib.Core.Bool.{Bool, true, false}
 use mathlib.Core.List.{List, []}
 use Prim.Native.Nat.{ℕ, _+_, _-_, _≤_, _<_}
@@ -27,7 +27,7 @@ use Rattle.section.specs.declared.Step.the-variants.{Next}
 use Rattle.section_commit.specs.declared.KeptSizes.{KeptSizes}
 use Rattle.section_commit.specs.Commit.{InParts, KeptSections, reportOf}
 use Rattle.section_commit.proofs.HeldLaws.{parts-as, kept-as, kept-length, all-main}
-use Rattle.section.specs.Reading.{slack, capacity, SectionRoom, RowReserved, FlushedIfOver, withOpen, withPath, withClosed, mainOf, keptSizesOf, pathIn, stateOf, Opened, RowsWithinLimit, PathInside, StateRoom, HoldsState, StepOf}
+use Rattle.section.specs.Reading.{slack, capacity, SectionRoom, RowReserved, withOpen, withPath, withClosed, mainOf, keptSizesOf, pathIn, stateOf, Opened, RowsWithinLimit, PathInside, StateRoom, HoldsState, StepOf}
 
 -- ---- rows that are ready
 
@@ -66,6 +66,13 @@ ready-full σ l e h = record {
 }
 
 -- ---- the rows of the open section counted
+
+-- the same items of the open section, whose rows are at most `most`, or which has no tail
+pub record FlushedIfOver (text ws ws′ : List ℕ) (index used spare at most : ℕ) (s r : OpenSizes) : Type 0 where
+  pub items : itemsOf text ws′ index at r ≡ itemsOf text ws index at s
+  pub still : OpenSection text ws′ index used spare at r
+  pub others : Unchanged (row ws index) (row ws′ index) 0 at
+  pub exact : (endOf at r ≤ most) ⊎ (r .tail ≡ 0)
 
 pub flushed-there : {text ws : List ℕ} {index used spare at most : ℕ} {s : OpenSizes} → OpenSection text ws index used spare at s → endOf at s ≤ most
     → FlushedIfOver text ws ws index used spare at most s s

@@ -48,13 +48,6 @@ pub record RowReserved (ws ws′ : List ℕ) (index used limit place r : ℕ) : 
   pub free : (place < r) ⊎ (r ≡ capacity limit)
   pub spare : UnchangedOutside ws ws′ 0 (index + capacity limit)
 
--- the same items of the open section, whose rows are at most `most`, or which has no tail
-pub record FlushedIfOver (text ws ws′ : List ℕ) (index used spare at most : ℕ) (s r : OpenSizes) : Type 0 where
-  pub items : itemsOf text ws′ index at r ≡ itemsOf text ws index at s
-  pub still : OpenSection text ws′ index used spare at r
-  pub others : Unchanged (row ws index) (row ws′ index) 0 at
-  pub exact : (endOf at r ≤ most) ⊎ (r .tail ≡ 0)
-
 -- ---- states
 
 abbrev pub withOpen : State → ℕ → OpenSizes → State

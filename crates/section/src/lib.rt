@@ -20,7 +20,7 @@ ghost use Rattle.table.specs.Store.{Store};
 ghost use Rattle.table_item.specs.Items.{partIn, PartInside, itemOf, ItemRow};
 ghost use Rattle.table_item.specs.Combining.{combineOf};
 ghost use Rattle.section_tail.specs.Tail.{RowOfLine, OpenSection};
-ghost use Rattle.section.specs.Reading.{slack, capacity, SectionRoom, RowReserved, FlushedIfOver, withOpen, withPath, withClosed, keptSizesOf, stateOf, StateRoom, HoldsState, StepBy, AllInMain};
+ghost use Rattle.section.specs.Reading.{slack, capacity, SectionRoom, RowReserved, withOpen, withPath, withClosed, keptSizesOf, stateOf, StateRoom, HoldsState, StepBy, AllInMain};
 
 // The state between two lines: the number of kept rows, of those in the delta, and of tombstones; the number of rows in
 // use; the sizes of the open section; the last test name; the open section's path, and whether its SF came.
@@ -158,28 +158,8 @@ fn reserve_row(words: &mut [u64], index: usize, used: usize, limit: usize, place
     used
 }
 
-// Flushes the tail where the open section ends past `most`, so that its sizes are exact there.
-fn flush_if_over(
-    text: &[u8],
-    words: &mut [u64],
-    index: usize,
-    used: usize,
-    spare: usize,
-    at: usize,
-    most: usize,
-    sizes: OpenSizes,
-) -> OpenSizes
-    requires { ⌜ OpenSection (now text) (now words) index used spare at sizes × (index + used ≤ spare) × (spare + used + used ≤ length (now words)) ⌝ }
-    ensures { λ r. ⌜ FlushedIfOver (now (text .entry)) (now (words .entry)) (now (words .exit)) index used spare at most sizes r ⌝ }
-{
-    let end = at + sizes.main + sizes.delta + sizes.tail;
-    if end <= most {
-        return sizes;
-    }
-    flush_midway(text, words, index, used, spare, at, sizes)
-}
-
-// FN, FNDA, BRDA and DA: adds the row to the open section, and opens one if none is open.
+// FN, FNDA, BRDA and DA: adds the row to the open section, and opens one if none is open. Where its rows are past the limit, the tail is
+// flushed, and its items are counted.
 pub fn on_item(
     text: &[u8],
     words: &mut [u64],
@@ -214,8 +194,12 @@ pub fn on_item(
         accumulate,
     ) {
         Outcome::Items(next) => {
-            let all = flush_if_over(text, words, index, used, spare, kept + 1, most, next);
-            let total = kept + 1 + all.main + all.delta + all.tail;
+            let end = kept + 1 + next.main + next.delta + next.tail;
+            if end <= most {
+                return Step::Next(with_open(state, used, next));
+            }
+            let all = flush_midway(text, words, index, used, spare, kept + 1, next);
+            let total = kept + 1 + all.main + all.delta;
             if most < total {
                 return Step::Refused(Fault::TooManyEntries);
             }

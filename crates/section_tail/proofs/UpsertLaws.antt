@@ -27,6 +27,7 @@ use Rattle.table_item.specs.SortedItems.{itemFrom, itemsAt, SortedItems, place}
 use Rattle.table_item.proofs.SearchLaws.{found-none, found-last}
 use Rattle.table.proofs.PlaceLaws.{by-eq}
 use Rattle.table.proofs.StoreLaws.{behind-store, behind-rows}
+use Rattle.section_presort.specs.SortKeys.{Rows}
 use Rattle.section_presort.specs.Presorted.{Presorted}
 use Rattle.section_presort.proofs.ComposeLaws.{presorted-items}
 use Rattle.section_upsert.specs.declared.UpsertOutcome.{UpsertOutcome}
@@ -36,7 +37,7 @@ use Rattle.section_upsert.proofs.RangeLaws.{inserted-open, same-items, same-ope
 use Rattle.section_upsert.specs.Upserted.{seen, Upserted}
 use Rattle.section_upsert.proofs.UpsertLaws.{within-fits, parts-length, none-delta, parted-none}
 use Rattle.section_tail.specs.declared.OpenSizes.{OpenSizes}
-use Rattle.section_tail.specs.Tail.{include, includeAll, itemsOf, RowFits, CallsFit, OpenSection, OneUpserted, AllUpserted, TailFlushed, AllFlushed}
+use Rattle.section_tail.specs.Tail.{include, includeAll, itemsOf, withOneMore, RowFits, CallsFit, OpenSection, OneUpserted, AllUpserted, TailFlushed, AllFlushed}
 use Rattle.section_tail.proofs.CallLaws.{key-none, key-itself, included-key-calls, line-included}
 use Rattle.section_tail.proofs.TailLaws.{include-length, included-last, included-sorted, included-keys}
 use Rattle.section_tail.proofs.ItemLaws.{none-included, included-none, held-calls, same-held, all-inner, all-included, fewer-calls, key-split, items-last}
@@ -89,6 +90,40 @@ module _ {text ws ws′ : List ℕ} {index used spare at i : ℕ} (s : OpenSizes
         others = η .others;
         behind = λ k x y. η .behind k (omega arith) y;
       }
+
+-- the greatest row changes its position and is main's last
+module _ {text ws ws′ : List ℕ} {index used spare at i : ℕ} (s : OpenSizes) (π : MainDelta text ws index used spare at (s .main) (s .delta)) (l : s .main + s .delta ≤ i)
+    (h : at + i < used) (ι : ItemRow text (row ws index (at + i))) {r : Row} (e : r ≡ row ws index (at + i))
+    (τ : (s .delta ≡ 0) × (s .main ≢ 0) × (isLess (compareItems (itemFrom text ws index at (s .main - 1)) (itemOf text r)) ≡ true))
+    (σ : Store ws′ index used) (below : Unchanged (row ws index) (row ws′ index) 0 (at + s .main)) (there : row ws′ index (at + s .main) ≡ row ws index (at + i))
+    (behind : Unchanged (row ws index) (row ws′ index) (at + i + 1) used) where
+  grown : SortedItems text ws′ index used at (s .main + 1)
+  grown =
+      inserted-open text ws index used at (s .main) (row ws index (at + i)) false (π .main) (s .main) (omega arith) (found-last (π .main) (τ .1) (rw e at (τ .2)) .is) ws′
+      (record { below = λ j x. below (at + j) (omega arith) (omega arith); here = there; up = λ j x y. absurd (omega arith) }) σ (omega arith) ι
+
+  same-main : itemsAt text ws′ index at (s .main) ≡ itemsAt text ws index at (s .main)
+  same-main = same-items text ws ws′ index at (s .main) (λ k x y. below k (omega arith) y)
+
+  appended : itemsAt text ws′ index at (s .main + 1) ≡ include (itemFrom text ws index at i) (itemsAt text ws index at (s .main))
+  appended =
+      sym (included-sorted (itemsAt text ws′ index at (s .main + 1)) (grown .sorted))
+      ∙ ap (includeAll []) (items-last (itemFrom text ws′ index at) (s .main))
+      ∙ included-last (itemsAt text ws′ index at (s .main)) (itemFrom text ws′ index at (s .main)) []
+      ∙ ap₂ include (ap (itemOf text) there) (ap (includeAll []) same-main ∙ included-sorted (itemsAt text ws index at (s .main)) (π .main .sorted))
+
+  pub one-greater : OneUpserted text ws ws′ index used spare at i s (withOneMore s)
+  one-greater = record {
+    items =
+        none-delta text ws′ index at (s .main + 1) (τ .0) ∙ appended
+        ∙ ap (include (itemFrom text ws index at i)) (sym (none-delta text ws index at (s .main) (τ .0)));
+    still = rw (τ .0) (parted-none grown);
+    most = omega arith;
+    none = refl;
+    calls = refl;
+    others = λ k x y. below k x (omega arith);
+    behind = behind;
+  }
 
 -- ---- all rows
 
@@ -193,6 +228,9 @@ emptied-already κ z = record { items = refl; still = κ; none = z; others = λ 
 module _ {text ws : List ℕ} {index used spare at m : ℕ} {s : OpenSizes} (κ : OpenSection text ws index used spare at s) (q : s .tail ≢ 0) where
   pub tail-inner : m ≤ s .main + s .tail → (k : ℕ) → k < m → ItemRow text (row ws index (at + k))
   tail-inner l k h = all-inner κ (κ .alone q) k (omega arith)
+
+  pub tail-rows : m ≤ s .main + s .tail → Rows text ws index used at m
+  tail-rows l = record { store = κ .parts .main .store; room = omega (arith, κ .room); inner = tail-inner l }
 
   module _ {ws₁ : List ℕ} (ρ : Presorted text ws ws₁ index used at m) where
     pub presorted-inner : m ≤ s .main + s .tail → (k : ℕ) → k < m → ItemRow text (row ws₁ index (at + k))

@@ -61,6 +61,10 @@ moreCalls false calls n = calls
 abbrev pub withTail : OpenSizes → ℕ → ℕ → OpenSizes
 withTail s more calls = record { main = s .main; delta = s .delta; tail = s .tail + more; flushes = s .flushes; calls = calls }
 
+-- the sizes with one more item in main, and no tail
+abbrev pub withOneMore : OpenSizes → OpenSizes
+withOneMore s = record { main = s .main + 1; delta = s .delta; tail = 0; flushes = s .flushes; calls = s .calls }
+
 -- n calls are no more than were counted, unless those did not fit
 abbrev pub CallsWithin : ℕ → ℕ → Type 0
 CallsWithin n counted = counted < u64-max → n ≤ counted

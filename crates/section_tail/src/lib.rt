@@ -22,7 +22,7 @@ ghost use Rattle.model.specs.Report.{compareItems};
 ghost use Rattle.table_item.specs.Items.{itemOf, ItemRow};
 ghost use Rattle.table_item.specs.SortedItems.{itemFrom, itemsAt, SortedItems};
 ghost use Rattle.section_upsert.specs.MainDelta.{MainDelta};
-ghost use Rattle.section_tail.specs.Tail.{moreCalls, withTail, RowFits, RowOfLine, CallsFit, OneUpserted, AllUpserted, OpenSection, TailFlushed, AllFlushed};
+ghost use Rattle.section_tail.specs.Tail.{moreCalls, withTail, withOneMore, RowFits, RowOfLine, CallsFit, OneUpserted, AllUpserted, OpenSection, TailFlushed, AllFlushed};
 ghost use Rattle.section_tail.specs.RowAdded.{RowAdded};
 
 // The sizes of main, delta and tail of the open section; how often its tail was started, plus HINTED where it has hints, which only guides
@@ -53,7 +53,44 @@ const HINTS_START: usize = 512;
 // Added to the number of tails of a section that has hints.
 const HINTED: usize = 16;
 
-// Upserts the i-th row from position `at` on into those before it.
+// Whether the row is greater than all items, which are in main alone. Most rows are, once they are presorted.
+fn is_greatest(
+    text: &[u8],
+    words: &[u64],
+    index: usize,
+    used: usize,
+    at: usize,
+    sizes: OpenSizes,
+    row: Row,
+) -> bool
+    requires { ⌜ SortedItems (now text) (now words) index used at (sizes .main) × ItemRow (now text) row ⌝ }
+    ensures { λ r. ⌜ (r ≡ true → (sizes .delta ≡ 0) × (sizes .main ≢ 0) × (isLess (compareItems (itemFrom (now (text .entry)) (now (words .entry)) index at (sizes .main - 1)) (itemOf (now (text .entry)) row)) ≡ true)) ⌝ }
+{
+    if sizes.delta != 0 {
+        return false;
+    }
+    if sizes.main == 0 {
+        return false;
+    }
+    let last = table::get(words, index, used, at + (sizes.main - 1));
+    comes_before(text, last, row)
+}
+
+// The sizes with one more item in main.
+fn with_one_more(sizes: OpenSizes) -> OpenSizes
+    requires { ⌜ sizes .main + 1 ≤ u64-max ⌝ }
+    ensures { λ r. ⌜ r ≡ withOneMore sizes ⌝ }
+{
+    OpenSizes {
+        main: sizes.main + 1,
+        delta: sizes.delta,
+        tail: 0,
+        flushes: sizes.flushes,
+        calls: sizes.calls,
+    }
+}
+
+// Upserts the i-th row from position `at` on into those before it. The greatest only changes its position.
 fn upsert_next(
     text: &[u8],
     words: &mut [u64],
@@ -70,6 +107,23 @@ fn upsert_next(
     ensures { λ r. ⌜ OneUpserted (now (text .entry)) (now (words .entry)) (now (words .exit)) index used spare at i sizes r ⌝ }
 {
     let row = table::get(words, index, used, at + i);
+    if is_greatest(text, words, index, used, at, sizes, row) {
+        let n = sizes.main;
+        if n < i {
+            table::swap_blocks(
+                words,
+                index,
+                used,
+                at + n,
+                at + n + 1,
+                at + i,
+                at + i + 1,
+                spare,
+            );
+            return with_one_more(sizes);
+        }
+        return with_one_more(sizes);
+    }
     let got = section_upsert::upsert(
         text,
         words,
@@ -172,7 +226,7 @@ fn sorted_prefix_len(
     k
 }
 
-// Flushes the tail: upserts its rows into main and delta.
+// Flushes the tail: upserts its rows into main and delta. The rows of real texts ascend by kind: then they are only sorted by it.
 pub fn flush_tail(
     text: &[u8],
     words: &mut [u64],
@@ -192,7 +246,12 @@ pub fn flush_tail(
     if sizes.tail < sizes.main / PRESORT_RATIO {
         return upsert_all(text, words, index, used, spare, at, sizes.main, m, sizes);
     }
-    section_presort::presort(text, words, index, used, at, m, spare);
+    section_presort::sort_by_kind(text, words, index, used, at, m, spare);
+    let sorted = sorted_prefix_len(text, words, index, used, at, m);
+    if sorted == m {
+        return upsert_all(text, words, index, used, spare, at, sorted, m, sizes);
+    }
+    section_presort::sort_within_kinds(text, words, index, used, at, m, spare);
     let n = sorted_prefix_len(text, words, index, used, at, m);
     upsert_all(text, words, index, used, spare, at, n, m, sizes)
 }

@@ -12,20 +12,20 @@ use Rattle.report_parser.proofs.read_line_at.Tie as tie
 abbrev line : tie.After-known-told2 → tie.After-read-record
 line c = c .before .before .before .before .before .before .before .before .before .before
 
-abbrev cut : tie.After-known-told2 → tie.After-find
+abbrev cut : tie.After-known-told2 → tie.After-first-line-len
 cut c = line c .before .before
 
-abbrev start : tie.After-find → tie.Start
+abbrev start : tie.After-first-line-len → tie.Start
 start f = f .before .before .before .before .before
 
 -- the line ends within the text, as far as `omega` needs it
-record Places (f : tie.After-find) : Type 0 where
-  inside : start f .args .at + f .find .result ≤ length (now (start f .args .text))
+record Places (f : tie.After-first-line-len) : Type 0 where
+  inside : start f .args .at + f .first-line-len .result ≤ length (now (start f .args .text))
   fits : length (now (start f .args .text)) < 2 ^ 63
 
-places : (f : tie.After-find) → Places f
+places : (f : tie.After-first-line-len) → Places f
 places f = record {
-  inside = line-end (now (start f .args .text)) (start f .args .at) (f .find .result) (start f .pre .1 .1) (f .find .ensures .1);
+  inside = line-end (now (start f .args .text)) (start f .args .at) (f .first-line-len .result) (start f .pre .1 .1) (f .first-line-len .ensures .1);
   fits = omega arith;
 }
 
@@ -60,5 +60,5 @@ read-line-at-spec =
     let g = t .before .before .before in
     let r = line c in
     let f = cut c in
-    done-next _ _ _ _ (r .read-record .result) (r .read-record .ensures) _ _ _ _ _ (start f .pre .1 .1) (f .find .ensures .0) (f .find .ensures .1) (g .got .given .0 .0) (g .got .given .1)
+    done-next _ _ _ _ (r .read-record .result) (r .read-record .ensures) _ _ _ _ _ (start f .pre .1 .1) (f .first-line-len .ensures .0) (f .first-line-len .ensures .1) (g .got .given .0 .0) (g .got .given .1)
     (t .step .last .1 .0) (t .step .result) (t .step .ensures) (d .done .given .0 .0) (d .done .given .1)))

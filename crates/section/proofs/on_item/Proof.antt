@@ -7,7 +7,7 @@ use denote.Ref.{now}
 use borrow.Author.Needs.{needs}
 use Rattle.section_tail.specs.Tail.{endOf}
 use Rattle.section.specs.Reading.{capacity}
-use Rattle.section.proofs.StateLaws.{next-as, open-as}
+use Rattle.section.proofs.StateLaws.{next-as, open-as, flushed-there, flushed-emptied}
 use Rattle.section.proofs.ItemLaws.{adding-as, flushed-as, added-none, header-free, header-room, line-open, line-next, line-past, line-refused}
 use Rattle.section.proofs.on_item.Statement.{statement}
 use Rattle.section.proofs.on_item.Tie as tie
@@ -41,8 +41,8 @@ header z = z .before .before .before .before .before .before .before
 abbrev rows : tie.After-add-row → tie.After-reserve-row2
 rows n = n .before .before .before .before .before
 
-abbrev given : tie.After-flush-if-over → tie.After-next
-given f = f .before .before .before
+abbrev given : tie.After-flush-midway → tie.After-next
+given f = f .before .before .before .before .before .before .before
 
 abbrev entered : tie.After-next → tie.After-add-row
 entered m = m .before .before .before .before
@@ -76,8 +76,32 @@ on-item-spec =
       (omega (arith, e, z .reserve-row2 .ensures .most), omega (arith, e, z .reserve-row2 .ensures .most, z .reserve-row2 .kept .0, y .reserve-row .kept .0)),
     ))
     (λ c. search needs)
-    (λ c. let p = places (header (rows (entered (c .before .before)))) in omega arith)
-    (λ c κs. let m = c .before .before in
+    (λ c. let p = places (header (rows (entered (c .before)))) in omega arith)
+    (λ c. let n = entered (c .before .before) in
+    let z = rows n in
+    let p = places (header z) in omega (arith, adding-as (c .before .before .next .given .1) refl (n .add-row .ensures) .still .room, z .reserve-row2 .ensures .most))
+    (λ c. let n = entered (c .before .before .before) in
+    let z = rows n in
+    let p = places (header z) in omega (arith, adding-as (c .before .before .before .next .given .1) refl (n .add-row .ensures) .still .room, z .reserve-row2 .ensures .most))
+    (λ c. let n = entered (c .before .before .before .before) in
+    let z = rows n in
+    let p = places (header z) in omega (arith, adding-as (c .before .before .before .before .next .given .1) refl (n .add-row .ensures) .still .room, z .reserve-row2 .ensures .most))
+    (λ c κs. search needs)
+    (λ c. let n = entered (c .before .before .before .before .before .before) in
+    let z = rows n in
+    n .add-row .kept .1 .0 ∙ z .reserve-row2 .kept .0 ∙ header z .reserve-row .kept .0)
+    (λ c. let m = c .before .before .before .before .before .before in
+    let n = entered m in
+    let e = n .before .before .capacity .ensures in
+    let z = rows n in
+    let y = header z in
+    let s = start y in
+    let α = adding-as (m .next .given .1) e (n .add-row .ensures) in
+    next-as (c .with-open .ensures)
+    (line-next (s .pre .0) (y .reserve-row .ensures) (y .reserve-row .kept .0) (places y .kept) (z .reserve-row2 .ensures) (z .reserve-row2 .kept .0) (s .args .row) (s .args .accumulate)
+    α (flushed-there (α .still) (omega arith)) (omega arith) (n .add-row .kept .1 .0)))
+    (λ c. let p = places (header (rows (entered (c .before .before .before .before .before .before)))) in omega arith)
+    (λ c κs. let m = c .before .before .before .before .before .before in
     let n = entered m in
     let e = n .before .before .capacity .ensures in
     let z = rows n in
@@ -87,19 +111,18 @@ on-item-spec =
       omega (arith, e, z .reserve-row2 .ensures .most),
       omega (arith, e, z .reserve-row2 .ensures .most, n .add-row .kept .1 .0, z .reserve-row2 .kept .0, y .reserve-row .kept .0),
     ))
-    (λ c. search needs)
-    (λ c. search needs)
+    (λ c. let p = places (header (rows (entered (given (c .before .before))))) in omega arith)
+    (λ c. let f = c .before .before .before in
+    let z = rows (entered (given f)) in
+    let p = places (header z) in omega (arith, f .flush-midway .ensures .still .room, z .reserve-row2 .ensures .most))
     (λ c. let f = c .before .before .before .before in
     let z = rows (entered (given f)) in
-    let p = places (header z) in omega (arith, f .flush-if-over .ensures .still .room, z .reserve-row2 .ensures .most))
+    let p = places (header z) in omega (arith, f .flush-midway .ensures .still .room, z .reserve-row2 .ensures .most))
     (λ c. let f = c .before .before .before .before .before in
-    let z = rows (entered (given f)) in
-    let p = places (header z) in omega (arith, f .flush-if-over .ensures .still .room, z .reserve-row2 .ensures .most))
-    (λ c. let f = c .before .before .before .before .before .before in
     let n = entered (given f) in
     let z = rows n in
-    f .flush-if-over .kept .1 .0 ∙ n .add-row .kept .1 .0 ∙ z .reserve-row2 .kept .0 ∙ header z .reserve-row .kept .0)
-    (λ c. let f = c .before .before .before .before .before .before in
+    f .flush-midway .kept .1 .0 ∙ n .add-row .kept .1 .0 ∙ z .reserve-row2 .kept .0 ∙ header z .reserve-row .kept .0)
+    (λ c. let f = c .before .before .before .before .before in
     let m = given f in
     let n = entered m in
     let e = n .before .before .capacity .ensures in
@@ -107,22 +130,23 @@ on-item-spec =
     let y = header z in
     let s = start y in
     line-past (s .pre .0) (y .reserve-row .ensures) (y .reserve-row .kept .0) (places y .kept) (z .reserve-row2 .ensures) (z .reserve-row2 .kept .0) (s .args .row) (s .args .accumulate)
-    (adding-as (m .next .given .1) e (n .add-row .ensures)) (flushed-as e (f .flush-if-over .ensures)) (omega arith))
+    (adding-as (m .next .given .1) e (n .add-row .ensures)) (flushed-as e (flushed-emptied _ (f .flush-midway .ensures))) (omega (arith, f .flush-midway .ensures .none)))
     (λ c κs. search needs)
-    (λ c. let f = c .before .before .before .before .before .before .before in
+    (λ c. let f = c .before .before .before .before .before .before in
     let n = entered (given f) in
     let z = rows n in
-    f .flush-if-over .kept .1 .0 ∙ n .add-row .kept .1 .0 ∙ z .reserve-row2 .kept .0 ∙ header z .reserve-row .kept .0)
-    (λ c. let f = c .before .before .before .before .before .before .before in
+    f .flush-midway .kept .1 .0 ∙ n .add-row .kept .1 .0 ∙ z .reserve-row2 .kept .0 ∙ header z .reserve-row .kept .0)
+    (λ c. let f = c .before .before .before .before .before .before in
     let m = given f in
     let n = entered m in
     let e = n .before .before .capacity .ensures in
     let z = rows n in
     let y = header z in
     let s = start y in
-    next-as (c .with-open .ensures)
+    next-as (c .with-open2 .ensures)
     (line-next (s .pre .0) (y .reserve-row .ensures) (y .reserve-row .kept .0) (places y .kept) (z .reserve-row2 .ensures) (z .reserve-row2 .kept .0) (s .args .row) (s .args .accumulate)
-    (adding-as (m .next .given .1) e (n .add-row .ensures)) (flushed-as e (f .flush-if-over .ensures)) (omega arith) (f .flush-if-over .kept .1 .0 ∙ n .add-row .kept .1 .0)))
+    (adding-as (m .next .given .1) e (n .add-row .ensures)) (flushed-as e (flushed-emptied _ (f .flush-midway .ensures))) (omega (arith, f .flush-midway .ensures .none))
+    (f .flush-midway .kept .1 .0 ∙ n .add-row .kept .1 .0)))
     (λ c. search needs)
     (λ c. search needs)
     (λ c. let m = c .before in
