@@ -292,8 +292,8 @@ fn has_key(
     compare::is_equal(compare_items(text, key, here))
 }
 
-// The key's place among the n items from place `at` on. Most texts are sorted, so that the key comes after the last or is the last: tried
-// first. Then position `hint` is tried.
+// The key's place among the n items from place `at` on. Position `hint` is tried first. Most texts are sorted, so that the key comes after
+// the last or is the last: tried next.
 pub fn find_item(
     text: &[u8],
     words: &[u64],
@@ -307,6 +307,9 @@ pub fn find_item(
     requires { ⌜ SortedItems (now text) (now words) index used at n × ItemInBounds (now text) key ⌝ }
     ensures { λ r. ⌜ FoundPlace (now (text .entry)) (now (words .entry)) index at n (itemOf (now (text .entry)) key) r ⌝ }
 {
+    if has_key(text, words, index, used, at, n, hint, key) {
+        return Found::At(hint);
+    }
     if n == 0 {
         return Found::Insert(0);
     }
@@ -316,9 +319,6 @@ pub fn find_item(
     }
     if compare::is_equal(compare_items(text, key, last)) {
         return Found::At(n - 1);
-    }
-    if has_key(text, words, index, used, at, n, hint, key) {
-        return Found::At(hint);
     }
     let i = lower_bound_item(text, words, index, used, at, n - 1, key);
     let here = table::get(words, index, used, at + i);

@@ -7,23 +7,24 @@ use borrow.Author.Needs.{needs}
 use Rattle.table_item.proofs.find_item.Statement.{statement}
 use Rattle.table_item.proofs.find_item.Tie as tie
 
-abbrev start : tie.Else1 → tie.Start
-start e = e .before .before .before
+abbrev start : tie.Else2 → tie.Start
+start e = e .before .before .before .before .before
 
-abbrev last : tie.Else2 → tie.After-get
+abbrev last : tie.Else3 → tie.After-get
 last e = e .before .before
 
-abbrev start′ : tie.Else3 → tie.Start
-start′ e = start (last (e .before .before .before) .before)
-
 -- there is an item
-abbrev some : tie.Else4 → tie.Else1
-some e = last (e .before .before .before .before .before) .before
+abbrev some : tie.Else4 → tie.Else2
+some e = last (e .before .before .before) .before
 
 pub find-item-spec : {M : Type 1} → statement M
 find-item-spec =
     tie.close
     (tie.spec
+    (λ c κs. search needs)
+    (λ c. let y = c .before in
+    let s = y .before .before .before in
+    found-here (s .args .hint) (s .pre .0) (y .has-key .ensures (c .if1 .taken) .0) (y .has-key .ensures (c .if1 .taken) .1))
     (λ c. found-none (omega arith))
     (λ c. search needs)
     (λ c. search needs)
@@ -40,10 +41,6 @@ find-item-spec =
     (λ c. search needs)
     (λ c. let s = start (last (c .before .before .before) .before) in
     found-here (s .args .n - 1) (s .pre .0) (omega arith) (cc))
-    (λ c κs. let s = start′ c in (s .pre .0, s .pre .1))
-    (λ c. let y = c .before in
-    let s = start′ (y .before) in
-    found-here (s .args .hint) (s .pre .0) (y .has-key .ensures (c .if4 .taken) .0) (y .has-key .ensures (c .if4 .taken) .1))
     (λ c. search needs)
     (λ c κs. let s = start (some c) in
     (open-fewer _ (omega arith) (s .pre .0), s .pre .1))
@@ -51,13 +48,13 @@ find-item-spec =
     (λ c κs. search needs)
     (λ c κs. let n = some (c .before .before) in
     let s = start n in
-    let here = inner-as (c .get2 .ensures) (s .pre .0 .inner (c .before .lower-bound-item .result) (omega (arith, n .if1 .left, c .before .lower-bound-item .ensures .most))) .good in
+    let here = inner-as (c .get2 .ensures) (s .pre .0 .inner (c .before .lower-bound-item .result) (omega (arith, n .if2 .left, c .before .lower-bound-item .ensures .most))) .good in
     search needs)
     (λ c κs. search needs)
     (λ c. let n = some (c .before .before .before .before .before) in
-    found-at (omega (arith, n .if1 .left)) (c .before .before .before .before .lower-bound-item .ensures) (cc))
+    found-at (omega (arith, n .if2 .left)) (c .before .before .before .before .lower-bound-item .ensures) (cc))
     (λ c. let o = c .before .before .before .before .before in
     let n = some o in
-    let e = o .before .before .before .before .before in
-    found-gap (omega (arith, n .if1 .left)) (c .before .before .before .before .lower-bound-item .ensures)
-    (before-as _ _ _ _ _ _ (last e .get .ensures) (e .before .comes-before .ensures) (e .if2 .left)) (cc)))
+    let e = o .before .before .before in
+    found-gap (omega (arith, n .if2 .left)) (c .before .before .before .before .lower-bound-item .ensures)
+    (before-as _ _ _ _ _ _ (last e .get .ensures) (e .before .comes-before .ensures) (e .if3 .left)) (cc)))
