@@ -29,11 +29,11 @@ use Rattle.table_interleave.specs.Interleaved.{Ascending, Interleaved, InsertPo
 use Rattle.table_interleave.proofs.InterleavedLaws.{interleaved-as, interleaved-each, interleaved-pairs}
 use Rattle.table_interleave.proofs.PositionLaws.{interleaved-pass}
 use Rattle.table_tombstone.specs.Live.{isLive}
-use Rattle.table_section.specs.Sections.{entryOf, keyOf, RowInBounds, rowsFrom, SectionsFrom, isPast, PastRow}
-use Rattle.table_section.proofs.RangeLaws.{goes-greater}
+use Rattle.table_section.specs.Sections.{entryOf, keyOf, RowInBounds, rowsFrom, Ordered, SectionsFrom, isPast, PastRow}
+use Rattle.table_section.proofs.RangeLaws.{past-falls, goes-greater}
 use Rattle.table_item.proofs.AllLaws.{all-tabulate}
 use Rattle.table_section.proofs.SpliceLaws.{less-not-greater}
-use Rattle.section_commit.specs.Commit.{mergeSorted, mergeReports, liveEntriesOf, keptAt, InParts, PositionOf, PositionsWritten, SameReport}
+use Rattle.section_commit.specs.Commit.{mergeSorted, mergeReports, liveEntriesOf, keptAt, InParts, PositionOf, Filled, PositionsWritten, SameReport}
 use Rattle.section_commit.proofs.MergeLaws.{pass-merge}
 use Rattle.section_commit.proofs.HeldLaws.{position-as, parts-as, kept-length, live-entries-length, none-delta, kept-main}
 use Rattle.section_commit.proofs.MarkLaws.{markOf, compareMarks, marks-order, Front, live-entries-both}
@@ -60,6 +60,53 @@ position-again text ws index main-size i j {r} {a} {b} p q e c =
 pub position-row : (text : Bytes) (ws : List ℕ) (index main-size j : ℕ) {r : ℕ} {a : Row} → a ≡ rowsFrom ws index main-size j
     → PartitionPoint (PastRow false text (rowsFrom ws index 0) (keyOf text a)) main-size r → PositionOf text ws index main-size j r
 position-row text ws index main-size j {r} p c = subst (λ (a : Row). PartitionPoint (PastRow false text (rowsFrom ws index 0) (keyOf text a)) main-size r) p c
+
+-- between two entries of one section all are of it
+section-between : {text : Bytes} {f : ℕ → Row} {n : ℕ} → Ordered text f n → (j i m : ℕ) → j ≤ i → i ≤ m → m < n → compareSections (keyOf text (f j)) (keyOf text (f m)) ≡ Ordering·eq
+    → compareSections (keyOf text (f j)) (keyOf text (f i)) ≡ Ordering·eq
+section-between {text} {f} {n} σ j i m a b l e = go (compareSections (keyOf text (f j)) (keyOf text (f i))) refl
+  where
+    key : SectionKey
+    key = keyOf text (f j)
+
+    -- the key is past none that is less than the last, and is past none from its own on
+    up-to : isPast true (compareSections key (keyOf text (f i))) ≡ true
+    up-to = past-falls key true σ i m b l (ap (isPast true) e)
+
+    from : isPast false (compareSections key (keyOf text (f i))) ≡ true → ⊥
+    from t = let z : true ≡ false = sym (past-falls key false σ j i a (omega arith) t) ∙ ap (isPast false) (sections-order .same key) in impossible cc
+
+    go : (o : Ordering) → compareSections key (keyOf text (f i)) ≡ o → o ≡ Ordering·eq
+    go Ordering·lt q = let z : false ≡ true = sym (ap (isPast true) q) ∙ up-to in impossible cc
+    go Ordering·eq q = refl
+    go Ordering·gt q = absurd (from (ap (isPast false) q))
+
+-- an entry is of its own section
+pub section-itself : (text : Bytes) (f : ℕ → Row) (j : ℕ) → compareSections (keyOf text (f j)) (keyOf text (f (j + 0))) ≡ Ordering·eq
+section-itself text f j = let z : j + 0 ≡ j = omega arith in rw z (sections-order .same (keyOf text (f j)))
+
+-- two rows that the store handed out
+pub section-as : (text : Bytes) {a b p q : Row} → a ≡ p → b ≡ q → true ≡ isEq (compareSections (keyOf text a) (keyOf text b)) → compareSections (keyOf text p) (keyOf text q) ≡ Ordering·eq
+section-as text {a} {b} e f h = rw (e, f) at (is-eq (compareSections (keyOf text a) (keyOf text b)) (sym h))
+
+-- ---- words filled with a number
+
+pub filled-none : (ws : List ℕ) (at value : ℕ) → Filled ws ws at 0 value
+filled-none ws at value = record { there = λ k h. absurd (omega arith); kept = record { below = λ k l. refl; above = λ k l. refl } }
+
+pub filled-as : {ws₀ ws : List ℕ} {at i n value : ℕ} → Filled ws₀ ws at i value → i ≡ n → Filled ws₀ ws at n value
+filled-as φ e = rw (← e) φ
+
+pub filled-one : {ws₀ ws : List ℕ} {at i value : ℕ} → Filled ws₀ ws at i value → at + i < length ws → Filled ws₀ (set ws (at + i) value) at (i + 1) value
+filled-one {ws₀} {ws} {at} {i} {value} φ l = record {
+  there = λ k h. by-eq k i
+      (λ e. ap (λ (n : ℕ). word (set ws (at + i) value) (at + n)) e ∙ getD-set-same ws (at + i) value 0 l)
+      (λ e. getD-set-other ws (at + i) (at + k) value 0 (omega arith) ∙ φ .there k (omega arith));
+  kept = record {
+    below = λ k h. getD-set-other ws (at + i) k value 0 (omega arith) ∙ φ .kept .below k h;
+    above = λ k h. getD-set-other ws (at + i) k value 0 (omega arith) ∙ φ .kept .above k (omega arith);
+  };
+}
 
 -- ---- the loop: the insert positions of the first j are written
 
@@ -95,22 +142,30 @@ module _ {text ws₀ ws : List ℕ} {index used spare main-size delta-size delet
   pub writing-last : j < delta-size → 0 < j → PositionOf text ws index main-size (j - 1) (word ws (spare + (j - 1)))
   writing-last l z = position-as ws π same-keys later (j - 1) (omega arith) (η .places (j - 1) (omega arith))
 
-  pub writing-next : (r : ℕ) → j < delta-size → spare + delta-size ≤ length ws₀ → PositionOf text ws index main-size j r
-      → WritingPositions text ws₀ (set ws (spare + j) r) index spare main-size delta-size (j + 1)
-  writing-next r l room c = record {
-    size = simp length-set (η .size);
-    most = omega arith;
-    kept = record {
-      below = λ k h. getD-set-other ws (spare + j) k r 0 (omega arith) ∙ η .kept .below k h;
-      above = λ k h. getD-set-other ws (spare + j) k r 0 (omega arith) ∙ η .kept .above k h;
-    };
-    places = λ i h. by-eq i j
-        (λ e. let z : word (set ws (spare + j) r) (spare + i) ≡ r =
-        ap (λ (k : ℕ). word (set ws (spare + j) r) (spare + k)) e ∙ getD-set-same ws (spare + j) r 0 (omega (arith, η .size)) in
-        rw (z, e) (position-as ws₀ writing-parts (λ k p. sym (same-keys k p)) (λ k p q. sym (later k p q)) j l c))
-        (λ e. let z : word (set ws (spare + j) r) (spare + i) ≡ word ws (spare + i) = getD-set-other ws (spare + j) (spare + i) r 0 (omega arith) in
-        rw z (η .places i (omega arith)));
-  }
+  -- entries up to one of the section of the j-th
+  module _ (r rest : ℕ) (c : PositionOf text ws index main-size j r) (l : j + rest < delta-size)
+      (e : compareSections (keyOf text (rowsFrom ws index main-size j)) (keyOf text (rowsFrom ws index main-size (j + rest))) ≡ Ordering·eq) where
+    position-between : (i : ℕ) → j ≤ i → i ≤ j + rest → PositionOf text ws₀ index main-size i r
+    position-between i a b =
+        let k : keyOf text (rowsFrom ws index main-size j) ≡ keyOf text (rowsFrom ws index main-size i)
+        = sections-order .equal (section-between (writing-parts .delta .rows) j i (j + rest) a b l e) in
+        position-as ws₀ writing-parts (λ k p. sym (same-keys k p)) (λ k p q. sym (later k p q)) i (omega arith)
+        (subst (λ (key : SectionKey). PartitionPoint (PastRow false text (rowsFrom ws index 0) key) main-size r) k c)
+
+    pub writing-run : {ws′ : List ℕ} → Filled ws ws′ (spare + j) (rest + 1) r → length ws′ ≡ length ws → WritingPositions text ws₀ ws′ index spare main-size delta-size (j + (rest + 1))
+    writing-run {ws′} φ size = record {
+      size = size ∙ η .size;
+      most = omega arith;
+      kept = record {
+        below = λ k h. φ .kept .below k (omega arith) ∙ η .kept .below k h;
+        above = λ k h. φ .kept .above k (omega arith) ∙ η .kept .above k h;
+      };
+      places = λ i h. by-lt i j
+          (λ x. rw (φ .kept .below (spare + i) (omega arith)) (η .places i x))
+          (λ x. let z : spare + i ≡ spare + j + (i - j) = omega arith in
+          let w : word ws′ (spare + i) ≡ r = ap (word ws′) z ∙ φ .there (i - j) (omega arith) in
+          rw w (position-between i (omega arith) (omega arith)));
+    }
 
 pub writing-done : {text ws₀ ws : List ℕ} {index spare main-size delta-size j : ℕ} → WritingPositions text ws₀ ws index spare main-size delta-size j → delta-size ≤ j
     → PositionsWritten text ws₀ ws index spare main-size delta-size

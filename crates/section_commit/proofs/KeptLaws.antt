@@ -77,8 +77,8 @@ module _ {text ws : List ℕ} {index used main-size delta-size deleted n lo₀ h
 
   -- ---- into the delta, where main has no live entry of the key
 
-  module _ (ws₁ : List ℕ) {lo₁ hi₁ : ℕ} {header : Row} (ρ₁ : IsEqualRange text F delta-size (keyOf text key) lo₁ hi₁) (delta-size-has : lo₀ < hi₀ → lo₁ < hi₁)
-      (placed : header ≡ withPosition key lo₀) (ς : Spliced F (rowsFrom ws₁ index main-size) delta-size delta-size n lo₁ hi₁ header)
+  module _ (ws₁ : List ℕ) {lo₁ hi₁ items : ℕ} {header : Row} (ρ₁ : IsEqualRange text F delta-size (keyOf text key) lo₁ hi₁) (delta-size-has : lo₀ < hi₀ → lo₁ < hi₁)
+      (placed : header ≡ withPosition key lo₀ items) (ς : Spliced F (rowsFrom ws₁ index main-size) delta-size delta-size n lo₁ hi₁ header)
       (below : Unchanged (row ws index) (row ws₁ index) 0 main-size) (σ : Store ws₁ index used) where
     foreign : (i : ℕ) → i < main-size → isLive (E i) ≡ true → compareSections (keyOf text key) (keyOf text (E i)) ≢ Ordering·eq
     foreign i l a q =
@@ -96,16 +96,16 @@ module _ {text ws : List ℕ} {index used main-size delta-size deleted n lo₀ h
     main-none : liveEntriesOf text E main-size ≡ livesLow text E lo₀ ++ livesHigh text E main-size lo₀ hi₀
     main-none = main-parts ∙ ap (λ (l : Report). livesLow text E lo₀ ++ (l ++ livesHigh text E main-size lo₀ hi₀)) none-here
 
-    spliced : Spliced F (rowsFrom ws₁ index main-size) delta-size delta-size n lo₁ hi₁ (withPosition key lo₀)
+    spliced : Spliced F (rowsFrom ws₁ index main-size) delta-size delta-size n lo₁ hi₁ (withPosition key lo₀ items)
     spliced = rw placed at ς
 
-    named : NamesInBounds text (withPosition key lo₀)
+    named : NamesInBounds text (withPosition key lo₀ items)
     named = record { test = ν .test; path = ν .path }
 
     first-live : lo₁ < hi₁ → F lo₁ .tag ≢ tombstone-tag
     first-live h t = let x : true ≡ false = sym (π .live lo₁ (omega (arith, ρ₁ .high .most))) ∙ tag-deleted (F lo₁) t in impossible cc
 
-    header-said : HeaderAs text (withPosition key lo₀) (spellingOf (pathOf text key) (runAt text F lo₁ hi₁)) (rowsFrom ws₁ index main-size lo₁)
+    header-said : HeaderAs text (withPosition key lo₀ items) (spellingOf (pathOf text key) (runAt text F lo₁ hi₁)) (rowsFrom ws₁ index main-size lo₁)
     header-said = header-entry (π .delta .rows) named tag ρ₁ first-live (spliced .header)
 
     pub committed-delta : {r : ℕ} → r ≡ lo₁ + (n + 1) + (delta-size - hi₁) → Committed text ws ws₁ index used (three main-size delta-size deleted) n key (three main-size r deleted)
@@ -205,38 +205,38 @@ module _ {text ws : List ℕ} {index used main-size delta-size deleted n lo₀ h
       new-as header e = ap₂ (λ (k : SectionKey) (l : List Item). map (inSection k) (sectionItem (spellingOf (pathOf text key) (livesIn text E lo₀ hi₀)) ∷ l)) e same-items
 
       -- the section is spliced into the delta
-      module _ (ws₁ : List ℕ) {header : Row} (placed : header ≡ withPosition spelled lo₀)
+      module _ (ws₁ : List ℕ) {items : ℕ} {header : Row} (placed : header ≡ withPosition spelled lo₀ items)
           (ς : Spliced F′ (rowsFrom ws₁ index main-size) delta-size delta-size n place place header) (below : Unchanged (row ws′ index) (row ws₁ index) 0 main-size)
           (σ : Store ws₁ index used) where
         abbrev cached-row : Row
-        cached-row = withPosition spelled lo₀
+        cached-row = withPosition spelled lo₀ items
 
-        spliced₁ : Spliced F′ (rowsFrom ws₁ index main-size) delta-size delta-size n place place (withPosition spelled lo₀)
+        spliced₁ : Spliced F′ (rowsFrom ws₁ index main-size) delta-size delta-size n place place (withPosition spelled lo₀ items)
         spliced₁ = rw placed at ς
 
-        named₁ : NamesInBounds text (withPosition spelled lo₀)
+        named₁ : NamesInBounds text (withPosition spelled lo₀ items)
         named₁ = record { test = spelled-as .whole .named .test; path = spelled-as .whole .named .path }
 
-        run₁ : IsEqualRange text F′ delta-size (keyOf text (withPosition spelled lo₀)) place place
+        run₁ : IsEqualRange text F′ delta-size (keyOf text (withPosition spelled lo₀ items)) place place
         run₁ = record {
-          low = partition-again (withPosition spelled lo₀) F F′ false spelled-key (λ k l. ap (keyOf text) (behind k l)) (ρ₁ .low);
-          high = partition-again (withPosition spelled lo₀) F F′ true spelled-key (λ k l. ap (keyOf text) (behind k l)) (ρ₁ .high);
+          low = partition-again (withPosition spelled lo₀ items) F F′ false spelled-key (λ k l. ap (keyOf text) (behind k l)) (ρ₁ .low);
+          high = partition-again (withPosition spelled lo₀ items) F F′ true spelled-key (λ k l. ap (keyOf text) (behind k l)) (ρ₁ .high);
         }
 
-        header-there : rowsFrom ws₁ index main-size place ≡ withPosition spelled lo₀
+        header-there : rowsFrom ws₁ index main-size place ≡ withPosition spelled lo₀ items
         header-there = spliced₁ .header .new (omega arith)
 
-        header-said₁ : HeaderAs text (withPosition spelled lo₀) (spellingOf (pathOf text key) (livesIn text E lo₀ hi₀)) (rowsFrom ws₁ index main-size place)
+        header-said₁ : HeaderAs text (withPosition spelled lo₀ items) (spellingOf (pathOf text key) (livesIn text E lo₀ hi₀)) (rowsFrom ws₁ index main-size place)
         header-said₁ = rw header-there (record {
           whole = record { named = named₁; good = omega (arith, spelled-tag) };
-          is = ap (inSection (keyOf text (withPosition spelled lo₀))) (section-item text (withPosition spelled lo₀) (omega (arith, spelled-tag)) ∙ spelled-path);
+          is = ap (inSection (keyOf text (withPosition spelled lo₀ items))) (section-item text (withPosition spelled lo₀ items) (omega (arith, spelled-tag)) ∙ spelled-path);
         })
 
-        foreign₁ : (i : ℕ) → i < main-size → isLive (E′ i) ≡ true → compareSections (keyOf text (withPosition spelled lo₀)) (keyOf text (E′ i)) ≢ Ordering·eq
+        foreign₁ : (i : ℕ) → i < main-size → isLive (E′ i) ≡ true → compareSections (keyOf text (withPosition spelled lo₀ items)) (keyOf text (E′ i)) ≢ Ordering·eq
         foreign₁ i l a q = marked-foreign π ρ₀ σ′ β i l a (sym (ap₂ compareSections spelled-key (marked-keys π ρ₀ σ′ β i l)) ∙ q)
 
-        place₁ : PartitionPoint (PastRow false text E′ (keyOf text (withPosition spelled lo₀))) main-size lo₀
-        place₁ = partition-again (withPosition spelled lo₀) E E′ false spelled-key (marked-keys π ρ₀ σ′ β) (ρ₀ .low)
+        place₁ : PartitionPoint (PastRow false text E′ (keyOf text (withPosition spelled lo₀ items))) main-size lo₀
+        place₁ = partition-again (withPosition spelled lo₀ items) E E′ false spelled-key (marked-keys π ρ₀ σ′ β) (ρ₀ .low)
 
         lower-same : lowerAt text F′ place ≡ lowerAt text F place
         lower-same = tabulate-cong (λ k. entryOf text (F′ k)) (λ k. entryOf text (F k)) place
@@ -251,7 +251,7 @@ module _ {text ws : List ℕ} {index used main-size delta-size deleted n lo₀ h
         committed-moved count = rw count (record {
           report =
               delta-report π′ ι′ (ο .room) named₁ spelled-tag foreign₁ place₁ refl run₁ spliced₁ below σ header-said₁
-              ∙ ap₂ mergeReports (marked-live-entries π ρ₀ σ′ β) (ap₂ _++_ lower-same (ap₂ _++_ (new-as (withPosition spelled lo₀) spelled-key) higher-same))
+              ∙ ap₂ mergeReports (marked-live-entries π ρ₀ σ′ β) (ap₂ _++_ lower-same (ap₂ _++_ (new-as (withPosition spelled lo₀ items) spelled-key) higher-same))
               ∙ first-by-second (testOf text key) (pathOf text key) its (livesLow text E lo₀) (livesIn text E lo₀ hi₀) (livesHigh text E main-size lo₀ hi₀)
               (lowerAt text F place) [] (higherAt text F delta-size place place) (low-live-entries ρ₀) (in-live-entries ρ₀) (high-live-entries ρ₀) (lower-all ρ₁) tt (higher-all ρ₁)
               ∙ sym (kept-some (keptAt text ws index main-size delta-size) ∙ ap (replaceSection (testOf text key) (pathOf text key) its) before);

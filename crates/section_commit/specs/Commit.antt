@@ -48,16 +48,16 @@ liveEntriesOf text f n = map (entryOf text) (liveRows f n)
 abbrev pub keptAt : Bytes → List ℕ → ℕ → ℕ → ℕ → Report
 keptAt text ws index main-size delta-size = mergeReports (liveEntriesOf text (rowsFrom ws index 0) main-size) (entriesFrom text ws index main-size delta-size)
 
--- a header row that caches its insert position in main
-abbrev pub withPosition : Row → ℕ → Row
-withPosition r place = record {
+-- a header row that caches its insert position in main, and how many items follow it, of which nothing is promised
+abbrev pub withPosition : Row → ℕ → ℕ → Row
+withPosition r place items = record {
   test = r .test;
   «test_len» = r .«test_len»;
   path = r .path;
   «path_len» = r .«path_len»;
   tag = r .tag;
   k1 = place;
-  k2 = r .k2;
+  k2 = items;
   k3 = r .k3;
   count = r .count;
 }
@@ -89,6 +89,11 @@ abbrev pub reportOf : Bytes → List ℕ → ℕ → KeptSizes → Report
 reportOf text ws index p = keptAt text ws index (p .main) (p .delta)
 
 -- ---- the delta merged
+
+-- the n words from at on are a number, and no other word has changed
+pub record Filled (ws ws′ : List ℕ) (at n value : ℕ) : Type 0 where
+  pub there : (k : ℕ) → k < n → word ws′ (at + k) ≡ value
+  pub kept : UnchangedOutside ws ws′ at (at + n)
 
 -- the words from spare on are the delta's insert positions, and no other word has changed
 pub record PositionsWritten (text ws ws′ : List ℕ) (index spare main-size delta-size : ℕ) : Type 0 where

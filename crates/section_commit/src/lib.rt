@@ -13,14 +13,15 @@ use table_tombstone::mark_deleted;
 ghost use mathlib.Core.Path.{_≡_};
 ghost use mathlib.Core.Logic.{_≢_};
 ghost use mathlib.Core.Bool.{true};
-ghost use Prim.Native.Nat.{_+_, _-_, _≤_, _<_};
+ghost use Prim.Native.Nat.{_+_, _-_, _≤_, _<_, Ordering·eq};
 ghost use lib.ListN.{length};
 ghost use Rattle.table.specs.Rows.{word};
 ghost use Rattle.table.specs.Store.{row, Store};
+ghost use Rattle.model.specs.Report.{compareSections};
 ghost use Rattle.table_tombstone.specs.Live.{isLive};
 ghost use Rattle.table_item.specs.SortedItems.{SortedItems};
 ghost use Rattle.table_section.specs.Sections.{keyOf, NamesInBounds, rowsFrom, IsEqualRange};
-ghost use Rattle.section_commit.specs.Commit.{withPosition, SameNameBytes, KeptSections, PositionOf, PositionsWritten, MergedAndCompacted, SameReport, Committed};
+ghost use Rattle.section_commit.specs.Commit.{withPosition, SameNameBytes, Filled, KeptSections, PositionOf, PositionsWritten, MergedAndCompacted, SameReport, Committed};
 
 // The number of rows in main and in the delta, and how many of main's are tombstones.
 pub struct KeptSizes {
@@ -32,12 +33,13 @@ pub struct KeptSizes {
 // The delta is merged when it has more entries than this.
 pub const DELTA_ENTRIES: usize = 1024;
 
-// A header row that caches its insert position in main.
-fn with_position(key: Row, place: usize) -> Row
-    ensures { λ r. ⌜ r ≡ withPosition key place ⌝ }
+// A header row that caches its insert position in main, and as a hint how many items the section has.
+fn with_position(key: Row, place: usize, n: usize) -> Row
+    ensures { λ r. ⌜ r ≡ withPosition key place n ⌝ }
 {
     let mut header = key;
     header.k1 = place as u64;
+    header.k2 = n as u64;
     header
 }
 
@@ -71,7 +73,47 @@ fn position_of(
     range.lo
 }
 
-// Writes the delta's insert positions to the words from `spare` on.
+// How far behind the delta's j-th entry one of the same section is: as many entries as its header row counts, if that one is. All between are
+// of the section too, and are not read.
+fn section_rest(
+    text: &[u8],
+    words: &[u64],
+    index: usize,
+    used: usize,
+    kept: KeptSizes,
+    j: usize,
+) -> usize
+    requires { ⌜ KeptSections (now text) (now words) index used kept × (j < kept .delta) ⌝ }
+    ensures { λ r. ⌜ (j + r < kept .delta) × (compareSections (keyOf (now (text .entry)) (rowsFrom (now (words .entry)) index (kept .main) j)) (keyOf (now (text .entry)) (rowsFrom (now (words .entry)) index (kept .main) (j + r))) ≡ Ordering·eq) ⌝ }
+{
+    let first = table::get(words, index, used, kept.main + j);
+    if first.tag / 2 != table_item::SECTION {
+        return 0;
+    }
+    let n = first.k2 as usize;
+    if kept.delta - j <= n {
+        return 0;
+    }
+    let last = table::get(words, index, used, kept.main + (j + n));
+    if compare::is_equal(compare_sections(text, first, last)) {
+        return n;
+    }
+    0
+}
+
+// Writes a number to n words.
+fn fill(words: &mut [u64], at: usize, n: usize, value: u64)
+    requires { ⌜ at + n ≤ length (now words) ⌝ }
+    ensures { λ _. ⌜ Filled (now (words .entry)) (now (words .exit)) at n value ⌝ }
+{
+    let mut i = 0;
+    while i < n {
+        words[at + i] = value;
+        i += 1;
+    }
+}
+
+// Writes the delta's insert positions to the words from `spare` on, for many entries of a section at once.
 fn write_positions(
     text: &[u8],
     words: &mut [u64],
@@ -86,8 +128,9 @@ fn write_positions(
     let mut j = 0;
     while j < kept.delta {
         let place = position_of(text, words, index, used, spare, kept, j);
-        words[spare + j] = place as u64;
-        j += 1;
+        let rest = section_rest(text, words, index, used, kept, j);
+        fill(words, spare + j, rest + 1, place as u64);
+        j += rest + 1;
     }
 }
 
@@ -234,7 +277,7 @@ fn commit_delta(
         lo: position,
         hi: position,
     };
-    let header = with_position(spelled, range.lo);
+    let header = with_position(spelled, range.lo, n);
     let grown = splice(
         words,
         index,
@@ -292,7 +335,7 @@ fn commit(
             key,
         );
     }
-    let header = with_position(key, range.lo);
+    let header = with_position(key, range.lo, n);
     let grown = splice(words, index, used, spare, main, delta, among, n, header);
     KeptSizes {
         main: main,

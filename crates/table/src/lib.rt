@@ -21,7 +21,7 @@ pub const TAG_WORD: usize = 4;
 //
 // | kind     | k1                      | k2              | k3              | count | optional   |
 // |----------|-------------------------|-----------------|-----------------|-------|------------|
-// | header   | cached insert position  |                 |                 |       |            |
+// | header   | cached insert position  | items, a hint   |                 |       |            |
 // | function | name, offset            | name, length    | start, end line | calls | end line   |
 // | branch   | line                    | block           | branch          | taken | taken      |
 // | line     | line                    | checksum, offset| checksum, length| runs  | checksum   |

@@ -2,7 +2,7 @@
 -- nothing.
 use Prim.Native.Nat.{_-_}
 use native.Mathlib.Omega.{arith}
-use Rattle.section_commit.proofs.DeltaLaws.{WritingPositions, writing-none, writing-parts, writing-last, writing-next, writing-done}
+use Rattle.section_commit.proofs.DeltaLaws.{WritingPositions, writing-none, writing-parts, writing-last, writing-run, writing-done}
 use borrow.Author.Needs.{needs}
 use Rattle.section_commit.proofs.write_positions.Statement.{statement}
 use Rattle.section_commit.proofs.write_positions.Tie as tie
@@ -28,13 +28,20 @@ write-positions-spec =
       (writing-parts (s .pre .0) (s .pre .1) (l .loop .inv), omega arith, omega (arith, s .pre .2, l .loop .inv .size)),
       writing-last (s .pre .0) (s .pre .1) (l .loop .inv) (omega arith),
     ))
-    (λ c. let l = c .before .before .before .before in omega (arith, start l .pre .2))
-    (λ c. let l = c .before .before .before .before in omega (arith, start l .pre .2, l .loop .inv .size))
-    (λ c. let l = c .before .before .before .before in omega (arith, start l .pre .2, l .loop .inv .size))
-    (λ c. search needs)
-    (λ c. search needs)
-    (λ c. let l = c .before .before .before .before in
+    (λ c κs. let l = c .before .before .before .before .before in
+    let s = start l in (writing-parts (s .pre .0) (s .pre .1) (l .loop .inv), omega arith))
+    (λ c. let l = c .before .before .before .before .before .before .before in omega (arith, start l .pre .2))
+    (λ c. let l = c .before .before .before .before .before .before .before in omega (arith, c .before .section-rest .ensures .0, start l .pre .2))
+    (λ c κs. let l = c .before .before .before .before .before .before .before in omega (arith, c .before .section-rest .ensures .0, start l .pre .2, l .loop .inv .size))
+    (λ c. let l = c .before .before .before .before .before .before .before .before .before .before in omega (arith, c .before .before .before .before .section-rest .ensures .0, start l .pre .2))
+    (λ c. let l = c .before .before .before .before .before .before .before .before .before .before in omega (arith, c .before .before .before .before .section-rest .ensures .0, start l .pre .2))
+    (λ c. omega arith)
+    (λ c. let f = c .before .before in
+    let r = f .before .before in
+    let p = r .before .before in
+    let l = p .before .before .before .before in
     let s = start l in
-    writing-next (s .pre .0) (s .pre .1) (l .loop .inv) (c .position-of .result) (omega arith) (s .pre .2) (c .position-of .ensures))
+    writing-run (s .pre .0) (s .pre .1) (l .loop .inv) (p .position-of .result) (r .section-rest .result) (p .position-of .ensures) (r .section-rest .ensures .0)
+    (r .section-rest .ensures .1) (f .fill .ensures) (f .fill .kept .0))
     (λ c. c .before .before .loop .inv .size)
     (λ c. writing-done (c .before .before .loop .inv) (c .if1 .left)))
