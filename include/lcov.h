@@ -157,6 +157,13 @@ void lcov_half_open(uint32_t a, uint32_t b, uint64_t *answer, size_t answer_len)
 uint32_t lcov_filter(const uint8_t *text, size_t text_len, const uint32_t (*pairs)[2], size_t pairs_len, size_t used, uint64_t *scratch,
                      size_t scratch_len, uint8_t *out, size_t out_len, uint64_t *answer, size_t answer_len);
 
+/* Does the same, but a function that gives no end line ends one before the next greater start of its section, and at 2^32 - 1 where there is
+ * none. So functions that start on one line end together, and a pair of that line alone keeps them all, where lcov_filter keeps the last. It
+ * keeps all that lcov_filter keeps, and the same where all starts of a section differ. */
+uint32_t lcov_filter_distinct_starts(const uint8_t *text, size_t text_len, const uint32_t (*pairs)[2], size_t pairs_len, size_t used,
+                                     uint64_t *scratch, size_t scratch_len, uint8_t *out, size_t out_len, uint64_t *answer,
+                                     size_t answer_len);
+
 /* Compares two paths by their components, as sections are ordered: 0 less, 1 equal, 2 greater. */
 uint32_t lcov_compare_paths(const uint8_t *a, size_t a_len, const uint8_t *b, size_t b_len);
 
@@ -185,6 +192,10 @@ uint32_t lcov_gather_lossy_tagged(const uint8_t *tags, size_t tags_len, const ui
 uint32_t lcov_filter_tagged(const uint8_t *tags, size_t tags_len, const uint8_t *text, size_t text_len, const uint32_t (*pairs)[2],
                             size_t pairs_len, size_t used, uint64_t *scratch, size_t scratch_len, uint8_t *out, size_t out_len,
                             uint64_t *answer, size_t answer_len);
+
+uint32_t lcov_filter_distinct_starts_tagged(const uint8_t *tags, size_t tags_len, const uint8_t *text, size_t text_len,
+                                            const uint32_t (*pairs)[2], size_t pairs_len, size_t used, uint64_t *scratch,
+                                            size_t scratch_len, uint8_t *out, size_t out_len, uint64_t *answer, size_t answer_len);
 
 /* Makes a table of strings, in the order of the kinds. Returns 0, or -1 where one is empty or longer than LCOV_TAG_SLOT bytes; the table then
  * holds anything. What else is wrong in it the calls refuse. */

@@ -17,13 +17,14 @@ use Rattle.table.specs.Places.{tabulate}
 use Rattle.table.specs.Rows.{row-words, word, rowAt}
 use Rattle.model.specs.Bytes.{Bytes}
 use Rattle.model.specs.Limits.{u32-max}
+use Rattle.model.specs.declared.Bound.{Bound}
 use Rattle.model.specs.declared.EndLine.{EndLine}
 use Rattle.model.specs.declared.EndLine.the-variants as El
 use Rattle.model.specs.Parts.{endIn}
 use Rattle.model.specs.Report.{Extent, extentOf, givenStart, endOf}
 use Rattle.model.specs.declared.Range.{Range}
 use Rattle.model.specs.Ranges.{holds}
-use Rattle.model.specs.Filter.{lineOf, isHeld, startLine, hasStart, endBefore, endLine}
+use Rattle.model.specs.Filter.{lineOf, isHeld, startLine, hasStart, bounding, endBefore, endOr, endLine}
 use Rattle.model.specs.Valid.{ItemFits}
 use Rattle.table_item.specs.Items.{startKey, itemOf}
 use Rattle.print_sort.specs.Sorting.{itemsBy}
@@ -32,7 +33,7 @@ use Rattle.print_rows.proofs.LentLaws.{item}
 use Rattle.print_rows.proofs.LentLaws.{start-fits as line-start-fits}
 use Rattle.print_rows.proofs.PassLaws.{part-printable}
 use Rattle.filter.specs.declared.Rule.{Rule}
-use Rattle.filter.specs.declared.Rule.the-variants.{Started, Held, UntilNext}
+use Rattle.filter.specs.declared.Rule.the-variants.{Started, Held, Until}
 use Rattle.filter.specs.Keeping.{keeps}
 
 module _ (text : Bytes) (row : Row) where
@@ -121,14 +122,14 @@ module _ (text ws : List ℕ) (next n : ℕ) where
     end-one = sym (end-first some ∙ ap (λ (k : ℕ). k - 1) (sym start-next))
 
 -- a function's own end goes first
-module _ (row : Row) (ws : List ℕ) (next n : ℕ) (end : EndLine) (own : (text : Bytes) → endIn end ≡ endOf (itemOf text row)) where
-  pub end-own : (line : ℕ) → end ≡ El.Given line → (text : Bytes) → line ≡ endLine (itemOf text row) (itemsBy text ws next n)
-  unfolding endLine endIn
-  end-own line e text = sym (rw (sym (own text) ∙ ap endIn e, endLine))
+module _ (row : Row) (reckoned : ℕ) (end : EndLine) (own : (text : Bytes) → endIn end ≡ endOf (itemOf text row)) where
+  pub end-own : (line : ℕ) → end ≡ El.Given line → (text : Bytes) → line ≡ endOr reckoned (endOf (itemOf text row))
+  unfolding endIn
+  end-own line e text = ap (endOr reckoned) (sym (ap endIn e) ∙ own text)
 
-  pub end-reckoned : (r : ℕ) → end ≡ El.Absent → ((text : Bytes) → r ≡ endBefore (itemsBy text ws next n)) → (text : Bytes) → r ≡ endLine (itemOf text row) (itemsBy text ws next n)
-  unfolding endLine endIn
-  end-reckoned r e h text = h text ∙ sym (rw (sym (own text) ∙ ap endIn e, endLine))
+  pub end-reckoned : end ≡ El.Absent → (text : Bytes) → reckoned ≡ endOr reckoned (endOf (itemOf text row))
+  unfolding endIn
+  end-reckoned e text = ap (endOr reckoned) (sym (ap endIn e) ∙ own text)
 
 -- ---- the first of some rows
 
@@ -154,6 +155,14 @@ module _ (ranges : List Range) (ws : List ℕ) (at n : ℕ) (rule : Rule) (row :
   unfolding isHeld
   stays-held e line h q text = rw (e, ← is) (q ∙ ap (λ (l : ℕ). holds ranges l l) (h text))
 
-  pub stays-until : rule ≡ UntilNext → (start end : ℕ) → ((text : Bytes) → start ≡ startLine (itemOf text row))
-      → ((text : Bytes) → end ≡ endLine (itemOf text row) (itemsBy text ws (at + 1) (n - 1))) → t ≡ holds ranges start end → Stays
-  stays-until e start end h i q text = rw (e, ← is) (q ∙ ap₂ (holds ranges) (h text) (i text))
+  pub stays-until : (bound : Bound) → rule ≡ Until bound → (start reckoned end : ℕ) → ((text : Bytes) → start ≡ startLine (itemOf text row))
+      → ((text : Bytes) → reckoned ≡ endBefore (bounding bound start (itemsBy text ws (at + 1) (n - 1))))
+      → ((text : Bytes) → end ≡ endOr reckoned (endOf (itemOf text row))) → t ≡ holds ranges start end → Stays
+  unfolding endLine
+  stays-until bound e start reckoned end h i o q text =
+      rw (e, ← is)
+      (q
+      ∙ ap₂ (holds ranges) (h text)
+      (o text
+      ∙ ap (λ (k : ℕ). endOr k (endOf (itemOf text row)))
+      (i text ∙ ap (λ (s : ℕ). endBefore (bounding bound s (itemsBy text ws (at + 1) (n - 1)))) (h text))))

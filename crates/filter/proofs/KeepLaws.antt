@@ -23,8 +23,9 @@ use Rattle.print_sort.specs.Sorting.{itemsBy}
 use Rattle.print_report.specs.Printing.{UnchangedBefore}
 use Rattle.print_report.proofs.TableLaws.{spared-none, spared-both}
 use Rattle.filter.specs.declared.Rule.{Rule}
-use Rattle.filter.specs.declared.Rule.the-variants.{Started, Held, UntilNext}
-use Rattle.filter.specs.Keeping.{chosen, keeps, Behind, Chosen}
+use Rattle.filter.specs.declared.Rule.the-variants.{Started, Held, Until}
+use Rattle.filter.specs.declared.Looked.{Looked}
+use Rattle.filter.specs.Keeping.{chosen, keeps, Ahead, Behind, Chosen}
 
 -- ---- rows and numbers where the words before p stay
 
@@ -32,35 +33,37 @@ module _ {ws ws′ : List ℕ} {p : ℕ} (σ : UnchangedBefore ws ws′ p) where
   row-before : (v : ℕ) → v * row-words + row-words ≤ p → rowAt ws′ v ≡ rowAt ws v
   row-before v h = row-cong ws′ ws (v * row-words) (v * row-words) (λ k l. σ .kept (v * row-words + k) (omega arith))
 
-  module _ {text : Bytes} {from n : ℕ} (β : Behind text ws from n) (before : from ≤ p) where
+  -- the n rows whose numbers are at word `from` on are before that word
+  module _ {from n : ℕ} (above : (k : ℕ) → k < n → word ws (from + k) * row-words + row-words ≤ from) (before : from ≤ p) where
     row-of : (i : ℕ) → i < n → rowAt ws′ (word ws (from + i)) ≡ rowAt ws (word ws (from + i))
-    row-of i a = row-before (word ws (from + i)) (omega (arith, β .before i a))
+    row-of i a = row-before (word ws (from + i)) (omega (arith, above i a))
 
-    -- numbers at `to`, each of which is one of those at `from`
-    pub behind-of : (to m : ℕ) → from ≤ to → to + m ≤ length ws
-        → ((k : ℕ) → k < m → (i : ℕ) × (i < n) × (word ws′ (to + k) ≡ word ws (from + i))) → Behind text ws′ to m
-    behind-of to m h room of = record {
-      printable = record {
-        numbered = record {
-          words = omega (arith, σ .words);
-          inside = λ k l. let (i, a, e) = of k l in rw e (omega (arith, σ .words, β .printable .numbered .inside i a));
-        };
-        good = λ k l. let (i, a, e) = of k l in rw (e, row-of i a) (β .printable .good i a);
-        fits = λ k l. let (i, a, e) = of k l in rw (e, row-of i a) (β .printable .fits i a);
+    module _ (text : Bytes) where
+      item-of : (k i : ℕ) → i < n → word ws′ k ≡ word ws (from + i) → itemOf text (rowAt ws′ (word ws′ k)) ≡ itemOf text (rowAt ws (word ws (from + i)))
+      item-of k i a e = ap (λ (v : ℕ). itemOf text (rowAt ws′ v)) e ∙ ap (itemOf text) (row-of i a)
+
+      -- the same numbers from place i on are the same items
+      pub items-of : (to m i : ℕ) → i + m ≤ n → ((k : ℕ) → k < m → word ws′ (to + k) ≡ word ws (from + (i + k)))
+          → itemsBy text ws′ to m ≡ itemsBy text ws (from + i) m
+      items-of to m i h e =
+          tabulate-cong (λ k. itemOf text (rowAt ws′ (word ws′ (to + k)))) (λ k. itemOf text (rowAt ws (word ws (from + i + k)))) m
+          (λ k l. item-of (to + k) (i + k) (omega arith) (e k l)
+          ∙ ap (λ (j : ℕ). itemOf text (rowAt ws (word ws j))) (let z : from + (i + k) ≡ from + i + k = omega arith in z))
+
+  -- numbers at `to`, each of which is one of those at `from`
+  pub behind-of : {text : Bytes} {from n : ℕ} → Behind text ws from n → from ≤ p → (to m : ℕ) → from ≤ to → to + m ≤ length ws
+      → ((k : ℕ) → k < m → (i : ℕ) × (i < n) × (word ws′ (to + k) ≡ word ws (from + i))) → Behind text ws′ to m
+  behind-of β before to m h room of = record {
+    printable = record {
+      numbered = record {
+        words = omega (arith, σ .words);
+        inside = λ k l. let (i, a, e) = of k l in rw e (omega (arith, σ .words, β .printable .numbered .inside i a));
       };
-      before = λ k l. let (i, a, e) = of k l in rw e (omega (arith, β .before i a));
-    }
-
-    item-of : (k i : ℕ) → i < n → word ws′ k ≡ word ws (from + i) → itemOf text (rowAt ws′ (word ws′ k)) ≡ itemOf text (rowAt ws (word ws (from + i)))
-    item-of k i a e = ap (λ (v : ℕ). itemOf text (rowAt ws′ v)) e ∙ ap (itemOf text) (row-of i a)
-
-    -- the same numbers from place i on are the same items
-    pub items-of : (to m i : ℕ) → i + m ≤ n → ((k : ℕ) → k < m → word ws′ (to + k) ≡ word ws (from + (i + k)))
-        → itemsBy text ws′ to m ≡ itemsBy text ws (from + i) m
-    items-of to m i h e =
-        tabulate-cong (λ k. itemOf text (rowAt ws′ (word ws′ (to + k)))) (λ k. itemOf text (rowAt ws (word ws (from + i + k)))) m
-        (λ k l. item-of (to + k) (i + k) (omega arith) (e k l)
-        ∙ ap (λ (j : ℕ). itemOf text (rowAt ws (word ws j))) (let z : from + (i + k) ≡ from + i + k = omega arith in z))
+      good = λ k l. let (i, a, e) = of k l in rw (e, row-of (β .before) before i a) (β .printable .good i a);
+      fits = λ k l. let (i, a, e) = of k l in rw (e, row-of (β .before) before i a) (β .printable .fits i a);
+    };
+    before = λ k l. let (i, a, e) = of k l in rw e (omega (arith, β .before i a));
+  }
 
 -- ---- one more row looked at
 
@@ -69,15 +72,15 @@ chosen-cons : (rule : Rule) (ranges : List Range) (x : Item) (l : List Item)
 unfolding filter heldFunctions
 chosen-cons Started ranges x l = refl
 chosen-cons Held ranges x l = refl
-chosen-cons UntilNext ranges x l = refl
+chosen-cons (Until bound) ranges x l = refl
 
 chosen-none : (rule : Rule) (ranges : List Range) → chosen rule ranges [] ≡ []
 unfolding filter heldFunctions
 chosen-none Started ranges = refl
 chosen-none Held ranges = refl
-chosen-none UntilNext ranges = refl
+chosen-none (Until bound) ranges = refl
 
-items-cons : (text ws : List ℕ) (at n : ℕ) → 0 < n → itemsBy text ws at n ≡ itemOf text (rowAt ws (word ws at)) ∷ itemsBy text ws (at + 1) (n - 1)
+pub items-cons : (text ws : List ℕ) (at n : ℕ) → 0 < n → itemsBy text ws at n ≡ itemOf text (rowAt ws (word ws at)) ∷ itemsBy text ws (at + 1) (n - 1)
 unfolding tabulate
 items-cons text ws at n h =
     ap (itemsBy text ws at) (let e : n ≡ suc (n - 1) = omega arith in e)
@@ -112,6 +115,24 @@ keep-start rule ranges ws numbers n = record {
 }
 
 module _ {rule : Rule} {ranges : List Range} {ws₀ ws : List ℕ} {numbers n i r : ℕ} (κ : Keeping rule ranges ws₀ ws numbers n i r) where
+  -- the items from place j on are as they were
+  rest-same : ((k : ℕ) → k < n → word ws₀ (numbers + k) * row-words + row-words ≤ numbers) → (text : Bytes) (j : ℕ) → i ≤ j → j ≤ n
+      → itemsBy text ws (numbers + j) (n - j) ≡ itemsBy text ws₀ (numbers + j) (n - j)
+  rest-same above text j h l =
+      items-of (κ .spared) above (omega arith) text (numbers + j) (n - j) j (omega arith)
+      (λ k m. let e : numbers + j + k ≡ numbers + (j + k) = omega arith in rw e (κ .rest (j + k) (omega arith) (omega arith)))
+
+  -- what the row looked at last carries, before and after the next one
+  module _ (above : (k : ℕ) → k < n → word ws₀ (numbers + k) * row-words + row-words ≤ numbers) (last : Looked) where
+    pub ahead-here : i ≤ n → ((text : Bytes) → Ahead rule last (itemsBy text ws₀ (numbers + i) (n - i))) → (text : Bytes) → Ahead rule last (itemsBy text ws (numbers + i) (n - i))
+    ahead-here h ahead text = rw (rest-same above text i (omega arith) h) (ahead text)
+
+    pub ahead-next : i < n → ((text : Bytes) → Ahead rule last (itemsBy text ws (numbers + i + 1) (n - i - 1)))
+        → (text : Bytes) → Ahead rule last (itemsBy text ws₀ (numbers + (i + 1)) (n - (i + 1)))
+    ahead-next h ahead text =
+        rw (← (rest-same above text (i + 1) (omega arith) (omega arith)))
+        (rw (let e : numbers + i + 1 ≡ numbers + (i + 1) = omega arith in e, let e : n - i - 1 ≡ n - (i + 1) = omega arith in e) at (ahead text))
+
   module _ {text : Bytes} (β : Behind text ws₀ numbers n) where
     -- those not looked at yet, and those that stay
     pub left-rows : i ≤ n → Behind text ws (numbers + i) (n - i)
@@ -137,13 +158,12 @@ module _ {rule : Rule} {ranges : List Range} {ws₀ ws : List ℕ} {numbers n i 
           (let e : n - i - 1 ≡ n - (i + 1) = omega arith in e)
 
       first-same : itemOf text (rowAt ws (word ws (numbers + i))) ≡ first
-      first-same = item-of (κ .spared) β (omega arith) (numbers + i) i more (κ .rest i (omega arith) more)
+      first-same = item-of (κ .spared) (β .before) (omega arith) text (numbers + i) i more (κ .rest i (omega arith) more)
 
       behind-same : itemsBy text ws (numbers + i + 1) (n - i - 1) ≡ behind
       behind-same =
           ap₂ (itemsBy text ws) (let e : numbers + i + 1 ≡ numbers + (i + 1) = omega arith in e) (let e : n - i - 1 ≡ n - (i + 1) = omega arith in e)
-          ∙ items-of (κ .spared) β (omega arith) (numbers + (i + 1)) (n - (i + 1)) (i + 1) (omega arith)
-          (λ k l. let e : numbers + (i + 1) + k ≡ numbers + (i + 1 + k) = omega arith in rw e (κ .rest (i + 1 + k) (omega arith) (omega arith)))
+          ∙ rest-same (β .before) text (i + 1) (omega arith) (omega arith)
 
       step : (t : Bool) → t ≡ keeps rule ranges (itemOf text (rowAt ws (word ws (numbers + i)))) (itemsBy text ws (numbers + i + 1) (n - i - 1))
           → chosen rule ranges (itemsBy text ws₀ (numbers + i) (n - i)) ≡ if t then first ∷ chosen rule ranges behind else chosen rule ranges behind
@@ -182,14 +202,14 @@ module _ {rule : Rule} {ranges : List Range} {ws₀ ws : List ℕ} {numbers n i 
       module _ (text : Bytes) (β : Behind text ws₀ numbers n) where
         stored-first : itemOf text (rowAt stored (word stored (numbers + r))) ≡ first text β
         stored-first =
-            item-of (spared-both (κ .spared) (stored-spared numbers (omega arith))) β (omega arith) (numbers + r) i more
+            item-of (spared-both (κ .spared) (stored-spared numbers (omega arith))) (β .before) (omega arith) text (numbers + r) i more
             (stored-there ∙ κ .rest i (omega arith) more)
 
         stored-items : itemsBy text stored numbers (r + 1) ≡ itemsBy text ws numbers r ++ first text β ∷ []
         stored-items =
             items-last text stored numbers r
             ∙ ap₂ (λ (l : List Item) (x : Item). l ++ x ∷ [])
-            (items-of (stored-spared numbers (omega arith)) (kept-rows β) (omega arith) numbers r 0 (omega arith)
+            (items-of (stored-spared numbers (omega arith)) (kept-rows β .before) (omega arith) text numbers r 0 (omega arith)
             (λ k l. stored-other (numbers + k) (omega arith) ∙ ap (λ (j : ℕ). word ws (numbers + j)) (let e : k ≡ 0 + k = omega arith in e))
             ∙ ap (λ (j : ℕ). itemsBy text ws j r) (add-zero numbers))
             stored-first

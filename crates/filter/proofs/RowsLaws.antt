@@ -6,6 +6,7 @@ use mathlib.Core.Path.{_≡_, ap, _∙_}
 use mathlib.Core.List.{List}
 use lib.ListN.{length}
 use Rattle.table.specs.Rows.{word, Moved}
+use Rattle.model.specs.declared.Bound.{Bound}
 use Rattle.model.specs.declared.Range.{Range}
 use Rattle.model.specs.Bytes.{Bytes}
 use Rattle.model.specs.Lists.{filter}
@@ -39,7 +40,7 @@ module _ {ws ws′ : List ℕ} {from to n : ℕ} (μ : Moved ws ws′ from to n)
 
   moved-items : {text : Bytes} → Behind text ws from n → itemsBy text ws′ to n ≡ itemsBy text ws from n
   moved-items {text} β =
-      items-of moved-spared β (omega arith) to n 0 (omega arith)
+      items-of moved-spared (β .before) (omega arith) text to n 0 (omega arith)
       (λ k l. moved-word k l ∙ ap (λ (j : ℕ). word ws (from + j)) (let z : k ≡ 0 + k = omega arith in z))
       ∙ ap (λ (j : ℕ). itemsBy text ws j n) (add-zero from)
 
@@ -68,12 +69,12 @@ module _ {text ws ws₁ : List ℕ} {index used from n spare : ℕ} (φ : Functi
         ));
   }
 
-  module _ (ranges : List Range) {ws₂ ws₃ : List ℕ} {s r : ℕ} (χ : Chosen (filter hasStart) ws₁ ws₂ spare n spare s)
-      (ψ : Chosen (heldFunctions ranges) ws₂ ws₃ spare s spare r) where
-    pub functions-held : Holding text ws₃ spare r (functionsLeft ranges (itemsAt text ws index from n))
+  module _ (bound : Bound) (ranges : List Range) {ws₂ ws₃ : List ℕ} {s r : ℕ} (χ : Chosen (filter hasStart) ws₁ ws₂ spare n spare s)
+      (ψ : Chosen (heldFunctions bound ranges) ws₂ ws₃ spare s spare r) where
+    pub functions-held : Holding text ws₃ spare r (functionsLeft bound ranges (itemsAt text ws index from n))
     functions-held = record {
       rows = ψ .rows text (χ .rows text order-behind);
-      are = ψ .are text (χ .rows text order-behind) ∙ ap (heldFunctions ranges) (χ .are text order-behind ∙ ap (filter hasStart) (ρ .sorted));
+      are = ψ .are text (χ .rows text order-behind) ∙ ap (heldFunctions bound ranges) (χ .are text order-behind ∙ ap (filter hasStart) (ρ .sorted));
       few = omega (arith, χ .most, ψ .most, φ .few);
     }
 
@@ -97,7 +98,7 @@ holding-kept : {text ws ws′ : List ℕ} {numbers n p : ℕ} {items : List Item
 holding-kept {text} {ws} {ws′} {numbers} {n} σ h η = record {
   rows = behind-of σ (η .rows) (omega arith) numbers n (omega arith) (η .rows .printable .numbered .words) (λ k l. (k, l, σ .kept (numbers + k) (omega arith)));
   are =
-      items-of σ (η .rows) (omega arith) numbers n 0 (omega arith)
+      items-of σ (η .rows .before) (omega arith) text numbers n 0 (omega arith)
       (λ k l. σ .kept (numbers + k) (omega arith) ∙ ap (λ (j : ℕ). word ws (numbers + j)) (let z : k ≡ 0 + k = omega arith in z))
       ∙ ap (λ (j : ℕ). itemsBy text ws j n) (add-zero numbers) ∙ η .are;
   few = η .few;
@@ -130,8 +131,8 @@ module _ {text ws : List ℕ} {index used n spare : ℕ} (π : PrintableTable te
       π .words,
     )
 
-    module _ (ranges : List Range) {ws₁ : List ℕ} {f : ℕ} (most : f ≤ runs .functions - from) (σ : UnchangedBefore ws ws₁ spare)
-        (η : Holding text ws₁ spare f (functionsLeft ranges (itemsAt text ws index from (runs .functions - from)))) where
+    module _ (bound : Bound) (ranges : List Range) {ws₁ : List ℕ} {f : ℕ} (most : f ≤ runs .functions - from) (σ : UnchangedBefore ws ws₁ spare)
+        (η : Holding text ws₁ spare f (functionsLeft bound ranges (itemsAt text ws index from (runs .functions - from)))) where
       pub branches-ready : Behind text ws₁ (index + runs .functions) (runs .branches - runs .functions)
       branches-ready = index-behind (printable-kept π σ .table) (runs .functions) (runs .branches) (ρ .branches .least) (ρ .branches .most)
 
@@ -153,7 +154,7 @@ module _ {text ws : List ℕ} {index used n spare : ℕ} (π : PrintableTable te
 
         pub rows-kept : {ws₃ : List ℕ} {l : ℕ}
             → Chosen (filter (isHeld ranges)) ws₂ ws₃ (index + runs .branches) (runs .lines - runs .branches) (spare + f + b) l
-            → KeptRows ranges text ws ws₃ index from spare runs (record { functions = f; branches = b; lines = l })
+            → KeptRows bound ranges text ws ws₃ index from spare runs (record { functions = f; branches = b; lines = l })
         rows-kept ψ = record {
           functions = holding-kept (spared-both (χ .spared) (spared-less (spare + f) (omega arith) (ψ .spared))) (omega arith) η;
           branches = holding-kept (ψ .spared) (omega arith)

@@ -8,6 +8,7 @@ use Rattle.ordmap.proofs.Results.{impossible}
 use Rattle.table.specs.declared.Row.{Row}
 use Rattle.table.specs.Store.{row}
 use Rattle.model.specs.declared.Kind.{Kind}
+use Rattle.model.specs.declared.Bound.{Bound}
 use Rattle.model.specs.declared.Range.{Range}
 use Rattle.model.specs.Order.{if_then_else_}
 use Rattle.model.specs.Bytes.{Bytes}
@@ -78,10 +79,10 @@ excludes-back {a} {b} x i h = go (a i) refl
 
 -- ---- what is left of a section's items
 
-module _ (ranges : List Range) (its fs bs ls : List Item) (F : filter isFunction its ≡ fs) (B : filter isBranch its ≡ bs)
+module _ (bound : Bound) (ranges : List Range) (its fs bs ls : List Item) (F : filter isFunction its ≡ fs) (B : filter isBranch its ≡ bs)
     (L : filter isLine its ≡ ls) where
   abbrev functions : List Item
-  functions = sort compareItems (functionsLeft ranges fs)
+  functions = sort compareItems (functionsLeft bound ranges fs)
 
   abbrev branches : List Item
   branches = filter (isHeld ranges) bs
@@ -89,7 +90,7 @@ module _ (ranges : List Range) (its fs bs ls : List Item) (F : filter isFunction
   abbrev lines : List Item
   lines = filter (isHeld ranges) ls
 
-  filter-is : filterItems ranges its ≡ functions ++ branches ++ lines
+  filter-is : filterItems bound ranges its ≡ functions ++ branches ++ lines
   unfolding filterItems functionsOf
   filter-is = rw (F, B, L)
 
@@ -98,8 +99,8 @@ module _ (ranges : List Range) (its fs bs ls : List Item) (F : filter isFunction
 
   all-functions : All (λ i. isFunction i ≡ true) functions
   all-functions =
-      all-sort (λ i. isFunction i ≡ true) compareItems (functionsLeft ranges fs)
-      (all-held (λ i. isFunction i ≡ true) ranges (filter hasStart (sort comparePrinted fs))
+      all-sort (λ i. isFunction i ≡ true) compareItems (functionsLeft bound ranges fs)
+      (all-held (λ i. isFunction i ≡ true) bound ranges (filter hasStart (sort comparePrinted fs))
       (all-select (λ i. isFunction i ≡ true) hasStart (sort comparePrinted fs) (all-sort (λ i. isFunction i ≡ true) comparePrinted fs all-fs)))
 
   all-branches : All (λ i. isBranch i ≡ true) branches
@@ -114,12 +115,12 @@ module _ (ranges : List Range) (its fs bs ls : List Item) (F : filter isFunction
   kind-out : (test kind : Item → Bool) → Excludes kind test → (l : List Item) → All (λ i. kind i ≡ true) l → filter test l ≡ []
   kind-out test kind x l h = select-none test l (all-map (λ i. kind i ≡ true) (λ i. test i ≡ false) x l h)
 
-  select-parts : (test : Item → Bool) → filter test (filterItems ranges its) ≡ filter test functions ++ filter test branches ++ filter test lines
+  select-parts : (test : Item → Bool) → filter test (filterItems bound ranges its) ≡ filter test functions ++ filter test branches ++ filter test lines
   select-parts test =
       ap (filter test) filter-is ∙ select-append test (functions ++ branches) lines
       ∙ ap (λ (l : List Item). l ++ filter test lines) (select-append test functions branches)
 
-  functions-left : filter isFunction (filterItems ranges its) ≡ functions
+  functions-left : filter isFunction (filterItems bound ranges its) ≡ functions
   functions-left =
       select-parts isFunction
       ∙ rw (
@@ -128,7 +129,7 @@ module _ (ranges : List Range) (its fs bs ls : List Item) (F : filter isFunction
         kind-out isFunction isLine (excludes-back function-line) lines all-lines,
       ) (append-nil (functions ++ []) ∙ append-nil functions)
 
-  branches-left : filter isBranch (filterItems ranges its) ≡ branches
+  branches-left : filter isBranch (filterItems bound ranges its) ≡ branches
   branches-left =
       select-parts isBranch
       ∙ rw (
@@ -137,7 +138,7 @@ module _ (ranges : List Range) (its fs bs ls : List Item) (F : filter isFunction
         kind-out isBranch isLine (excludes-back branch-line) lines all-lines,
       ) (append-nil branches)
 
-  lines-left : filter isLine (filterItems ranges its) ≡ lines
+  lines-left : filter isLine (filterItems bound ranges its) ≡ lines
   lines-left =
       select-parts isLine
       ∙ rw (
@@ -146,27 +147,27 @@ module _ (ranges : List Range) (its fs bs ls : List Item) (F : filter isFunction
         kind-in isLine lines all-lines,
       ) refl
 
-  left-again : sort comparePrinted functions ≡ functionsLeft ranges fs
-  left-again = printed-again ranges fs all-fs
+  left-again : sort comparePrinted functions ≡ functionsLeft bound ranges fs
+  left-again = printed-again bound ranges fs all-fs
 
-module _ (tag : Kind → Bytes) (ranges : List Range) (its fs bs ls : List Item) (F : filter isFunction its ≡ fs) (B : filter isBranch its ≡ bs)
+module _ (tag : Kind → Bytes) (bound : Bound) (ranges : List Range) (its fs bs ls : List Item) (F : filter isFunction its ≡ fs) (B : filter isBranch its ≡ bs)
     (L : filter isLine its ≡ ls) where
   -- THE LINES OF A FILTERED SECTION: the functions left in printing order, the branches and lines that are held
   filtered-lines : (s : Section) → s .items ≡ its → (rest : List Section)
-      → printSections tag (filterSection ranges s ∷ rest)
-      ≡ sectionLines tag (s .test) (s .spelling) (sort compareItems (functionsLeft ranges fs)) (filter (isHeld ranges) bs) (filter (isHeld ranges) ls) (printSections tag rest)
+      → printSections tag (filterSection bound ranges s ∷ rest)
+      ≡ sectionLines tag (s .test) (s .spelling) (sort compareItems (functionsLeft bound ranges fs)) (filter (isHeld ranges) bs) (filter (isHeld ranges) ls) (printSections tag rest)
   unfolding filterSection
   filtered-lines s e rest =
-      lines-of tag (filterSection ranges s) (sort compareItems (functionsLeft ranges fs)) (filter (isHeld ranges) bs) (filter (isHeld ranges) ls) rest
-      (ap (λ (l : List Item). filter isFunction (filterItems ranges l)) e ∙ functions-left ranges its fs bs ls F B L)
-      (ap (λ (l : List Item). filter isBranch (filterItems ranges l)) e ∙ branches-left ranges its fs bs ls F B L)
-      (ap (λ (l : List Item). filter isLine (filterItems ranges l)) e ∙ lines-left ranges its fs bs ls F B L)
+      lines-of tag (filterSection bound ranges s) (sort compareItems (functionsLeft bound ranges fs)) (filter (isHeld ranges) bs) (filter (isHeld ranges) ls) rest
+      (ap (λ (l : List Item). filter isFunction (filterItems bound ranges l)) e ∙ functions-left bound ranges its fs bs ls F B L)
+      (ap (λ (l : List Item). filter isBranch (filterItems bound ranges l)) e ∙ branches-left bound ranges its fs bs ls F B L)
+      (ap (λ (l : List Item). filter isLine (filterItems bound ranges l)) e ∙ lines-left bound ranges its fs bs ls F B L)
 
 -- ---- the section at a place
 
 module _ {text ws ws′ : List ℕ} {index used n lo spare : ℕ} {header : Row} {r : KindRanges} {kept : Kept} (π : PrintableTable text ws index used n spare)
-    (more : lo < n) (kind : kindOf (row ws index lo) ≡ 0) (is : header ≡ row ws index lo) (ρ : AreKindRanges ws index n (lo + 1) r) (ranges : List Range)
-    (κ : KeptRows ranges text ws ws′ index (lo + 1) spare r kept) where
+    (more : lo < n) (kind : kindOf (row ws index lo) ≡ 0) (is : header ≡ row ws index lo) (ρ : AreKindRanges ws index n (lo + 1) r) (bound : Bound) (ranges : List Range)
+    (κ : KeptRows bound ranges text ws ws′ index (lo + 1) spare r kept) where
   pub section-ready : SectionPrintable text ws′ header spare kept
   section-ready = record {
     named = rw is (π .table .whole lo more .named);
@@ -177,8 +178,8 @@ module _ {text ws ws′ : List ℕ} {index used n lo spare : ℕ} {header : Row}
   }
 
 module _ (tag : Kind → Bytes) {text ws ws′ : List ℕ} {index used n lo spare : ℕ} {header : Row} {r : KindRanges} {kept : Kept} (π : PrintableTable text ws index used n spare)
-    (more : lo < n) (kind : kindOf (row ws index lo) ≡ 0) (is : header ≡ row ws index lo) (ρ : AreKindRanges ws index n (lo + 1) r) (ranges : List Range)
-    (κ : KeptRows ranges text ws ws′ index (lo + 1) spare r kept) where
+    (more : lo < n) (kind : kindOf (row ws index lo) ≡ 0) (is : header ≡ row ws index lo) (ρ : AreKindRanges ws index n (lo + 1) r) (bound : Bound) (ranges : List Range)
+    (κ : KeptRows bound ranges text ws ws′ index (lo + 1) spare r kept) where
   abbrev fs : List Item
   fs = itemsAt text ws index (lo + 1) (r .functions - (lo + 1))
 
@@ -192,20 +193,20 @@ module _ (tag : Kind → Bytes) {text ws ws′ : List ℕ} {index used n lo spar
   end = printRecords tag (endOfRecord ∷ [])
 
   abbrev rest : Bytes
-  rest = filteredFrom tag ranges text index n ws (r .lines)
+  rest = filteredFrom tag bound ranges text index n ws (r .lines)
 
-  lines-of-items : filteredFrom tag ranges text index n ws lo
+  lines-of-items : filteredFrom tag bound ranges text index n ws lo
       ≡ headLines tag text header
-      ++ (functionLines tag (functionsLeft ranges fs)
+      ++ (functionLines tag (functionsLeft bound ranges fs)
       ++ (groupLines tag branch-kind (filter (isHeld ranges) bs) ++ (groupLines tag line-kind (filter (isHeld ranges) ls) ++ (end ++ rest))))
   lines-of-items =
-      ap (λ (l : List Section). printSections tag (map (filterSection ranges) l))
+      ap (λ (l : List Section). printSections tag (map (filterSection bound ranges) l))
       (sections-at (π .table) kind more (ρ .functions) (ρ .branches) (ρ .lines))
-      ∙ filtered-lines tag ranges its fs bs ls F B L (sectionAt (π .table) kind more (ρ .functions) (ρ .branches) (ρ .lines)) refl
-      (map (filterSection ranges) (sections (entriesFrom text ws index n (r .lines))))
+      ∙ filtered-lines tag bound ranges its fs bs ls F B L (sectionAt (π .table) kind more (ρ .functions) (ρ .branches) (ρ .lines)) refl
+      (map (filterSection bound ranges) (sections (entriesFrom text ws index n (r .lines))))
       ∙ ap₂ (λ (o : Row) (l : List Item). headLines tag text o ++ (functionLines tag l
       ++ (groupLines tag branch-kind (filter (isHeld ranges) bs) ++ (groupLines tag line-kind (filter (isHeld ranges) ls) ++ (end ++ rest)))))
-      (sym is) (left-again ranges its fs bs ls F B L)
+      (sym is) (left-again bound ranges its fs bs ls F B L)
     where
       its : List Item
       its = items (π .table) kind more (ρ .functions) (ρ .branches) (ρ .lines)
@@ -224,23 +225,23 @@ module _ (tag : Kind → Bytes) {text ws ws′ : List ℕ} {index used n lo spar
 
   kept-is : keptLines tag text ws′ header spare kept
       ≡ headLines tag text header
-      ++ (functionLines tag (functionsLeft ranges fs)
+      ++ (functionLines tag (functionsLeft bound ranges fs)
       ++ (groupLines tag branch-kind (filter (isHeld ranges) bs) ++ (groupLines tag line-kind (filter (isHeld ranges) ls) ++ end)))
   kept-is = rw (κ .functions .are, κ .branches .are, κ .lines .are)
 
-  pub section-first : filteredFrom tag ranges text index n ws lo ≡ keptLines tag text ws′ header spare kept ++ rest
+  pub section-first : filteredFrom tag bound ranges text index n ws lo ≡ keptLines tag text ws′ header spare kept ++ rest
   section-first =
       lines-of-items
-      ∙ regroup (headLines tag text header) (functionLines tag (functionsLeft ranges fs)) (groupLines tag branch-kind (filter (isHeld ranges) bs))
+      ∙ regroup (headLines tag text header) (functionLines tag (functionsLeft bound ranges fs)) (groupLines tag branch-kind (filter (isHeld ranges) bs))
       (groupLines tag line-kind (filter (isHeld ranges) ls)) end rest
       ∙ ap (λ (t : Bytes). t ++ rest) (sym kept-is)
 
-  pub section-room : (write : Bool) (out : Bytes) (at : ℕ) → RoomFor write out at (filteredFrom tag ranges text index n ws lo)
+  pub section-room : (write : Bool) (out : Bytes) (at : ℕ) → RoomFor write out at (filteredFrom tag bound ranges text index n ws lo)
       → RoomFor write out at (keptLines tag text ws′ header spare kept)
   section-room write out at h = room-first write out at (keptLines tag text ws′ header spare kept) rest (rw section-first at h)
 
   pub section-done : {write : Bool} {out out′ : Bytes} {at e : ℕ} → Emitted write out out′ at (keptLines tag text ws′ header spare kept) e
-      → SectionPrinted (filteredFrom tag ranges text index n) write ws ws′ out out′ index n lo spare at (record { next = r .lines; at = e })
+      → SectionPrinted (filteredFrom tag bound ranges text index n) write ws ws′ out out′ index n lo spare at (record { next = r .lines; at = e })
   section-done ε = record {
     lines = keptLines tag text ws′ header spare kept;
     first = section-first;
@@ -253,10 +254,10 @@ module _ (tag : Kind → Bytes) {text ws ws′ : List ℕ} {index used n lo spar
 
 -- ---- all sections
 
-pub filtered-prints : (tag : Kind → Bytes) (ranges : List Range) {text ws : List ℕ} {index used n spare : ℕ} → PrintableTable text ws index used n spare
-    → Prints (filteredFrom tag ranges text index n) ws n spare
+pub filtered-prints : (tag : Kind → Bytes) (bound : Bound) (ranges : List Range) {text ws : List ℕ} {index used n spare : ℕ} → PrintableTable text ws index used n spare
+    → Prints (filteredFrom tag bound ranges text index n) ws n spare
 unfolding printSections printRecords sections concatMap
-filtered-prints tag ranges π = record {
-  same = λ ws′ σ lo. ap (λ (e : Report). printSections tag (map (filterSection ranges) (sections e))) (entries-kept π σ lo);
-  none = λ lo h. ap (λ (e : Report). printSections tag (map (filterSection ranges) (sections e))) (entries-none π lo h);
+filtered-prints tag bound ranges π = record {
+  same = λ ws′ σ lo. ap (λ (e : Report). printSections tag (map (filterSection bound ranges) (sections e))) (entries-kept π σ lo);
+  none = λ lo h. ap (λ (e : Report). printSections tag (map (filterSection bound ranges) (sections e))) (entries-none π lo h);
 }

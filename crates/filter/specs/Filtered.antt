@@ -3,6 +3,7 @@ use Prim.Native.Nat.{ℕ, _+_, _-_, _≤_}
 use mathlib.Core.Path.{_≡_}
 use mathlib.Core.List.{List, [], _∷_, _++_, map}
 use Rattle.table.specs.declared.Row.{Row}
+use Rattle.model.specs.declared.Bound.{Bound}
 use Rattle.model.specs.declared.Kind.{Kind}
 use Rattle.model.specs.declared.Range.{Range}
 use Rattle.model.specs.Bytes.{Bytes}
@@ -23,8 +24,8 @@ use Rattle.filter.specs.declared.Kept.{Kept}
 use Rattle.filter.specs.Keeping.{Behind}
 
 -- what the filtered sections of the entries from a place on print
-abbrev pub filteredFrom : (tag : Kind → Bytes) → List Range → Bytes → ℕ → ℕ → List ℕ → ℕ → Bytes
-filteredFrom tag ranges text index n ws lo = printSections tag (map (filterSection ranges) (sections (entriesFrom text ws index n lo)))
+abbrev pub filteredFrom : (tag : Kind → Bytes) → Bound → List Range → Bytes → ℕ → ℕ → List ℕ → ℕ → Bytes
+filteredFrom tag bound ranges text index n ws lo = printSections tag (map (filterSection bound ranges) (sections (entriesFrom text ws index n lo)))
 
 -- the n rows whose numbers are at word `numbers` on are the items
 pub record Holding (text ws : List ℕ) (numbers n : ℕ) (items : List Item) : Type 0 where
@@ -33,13 +34,13 @@ pub record Holding (text ws : List ℕ) (numbers n : ℕ) (items : List Item) : 
   pub few : n ≤ max-entries
 
 -- the functions that stay, in printing order
-abbrev pub functionsLeft : List Range → List Item → List Item
-functionsLeft ranges items = heldFunctions ranges (filter hasStart (sort comparePrinted items))
+abbrev pub functionsLeft : Bound → List Range → List Item → List Item
+functionsLeft bound ranges items = heldFunctions bound ranges (filter hasStart (sort comparePrinted items))
 
 -- what stays of the ranges of a section's functions, branches and lines: numbers in the spare words, one range behind
 -- the other
-pub record KeptRows (ranges : List Range) (text ws ws′ : List ℕ) (index from spare : ℕ) (runs : KindRanges) (r : Kept) : Type 0 where
-  pub functions : Holding text ws′ spare (r .functions) (functionsLeft ranges (itemsAt text ws index from (runs .functions - from)))
+pub record KeptRows (bound : Bound) (ranges : List Range) (text ws ws′ : List ℕ) (index from spare : ℕ) (runs : KindRanges) (r : Kept) : Type 0 where
+  pub functions : Holding text ws′ spare (r .functions) (functionsLeft bound ranges (itemsAt text ws index from (runs .functions - from)))
   pub branches : Holding text ws′ (spare + r .functions) (r .branches)
       (filter (isHeld ranges) (itemsAt text ws index (runs .functions) (runs .branches - runs .functions)))
   pub lines : Holding text ws′ (spare + r .functions + r .branches) (r .lines)

@@ -1,5 +1,6 @@
 // A filtered report printed: `LineNum::apply` (SPEC 8.5). Rows and index stay: of each section, the row numbers of what stays
 // are put into the spare words, and the section is printed from there.
+use model::Bound;
 use model::EndLine;
 use model::WriteAnswer;
 use print_report::KindRanges;
@@ -13,12 +14,14 @@ ghost use lib.ListN.{length, take};
 ghost use Rattle.table.specs.Rows.{word, rowAt};
 ghost use Rattle.table.specs.Store.{row};
 ghost use Rattle.model.specs.Calls.{writeAnswer};
-ghost use Rattle.model.specs.Filter.{lineOf, isHeld, startLine, hasStart, endBefore, endLine, filterSection};
+ghost use Rattle.model.specs.declared.Bound.the-variants.{GreaterStart};
+ghost use Rattle.model.specs.Filter.{lineOf, isHeld, startLine, hasStart, endBefore, bounding, endOr, filterSection};
 ghost use Rattle.model.specs.Limits.{max-entries};
 ghost use Rattle.model.specs.Lists.{filter};
 ghost use Rattle.model.specs.Output.{written, outputAfter};
 ghost use Rattle.model.specs.Printing.{sections, printSections};
 ghost use Rattle.model.specs.Ranges.{wellFormedRanges};
+ghost use Rattle.model.specs.Report.{endOf};
 ghost use Rattle.model.specs.TagTable.{tagsOf, areTags};
 ghost use Rattle.model.specs.Valid.{ItemFits};
 ghost use Rattle.table_item.specs.Items.{kindOf, itemOf};
@@ -29,15 +32,22 @@ ghost use Rattle.print_sort.specs.Sorting.{itemsBy};
 ghost use Rattle.print_rows.specs.Emit.{RoomFor, Emitted, Printable};
 ghost use Rattle.print_report.specs.Printing.{PrintableTable, UnchangedBefore, AreKindRanges, FunctionRows, SectionPrinted, RequiredLength};
 ghost use Rattle.line_num_pairs.specs.Pairs.{rangesIn};
-ghost use Rattle.filter.specs.Keeping.{chosen, keeps, Behind, Chosen};
+ghost use Rattle.filter.specs.Keeping.{chosen, keeps, Ahead, Behind, Chosen};
 ghost use Rattle.filter.specs.Filtered.{filteredFrom, Holding, functionsLeft, KeptRows, SectionPrintable, keptLines};
 
 // What a row must meet to stay: a function that has a start; a branch or line whose line is held; a function whose range, up to its end
-// or the next one's start, queries yes.
+// or the start that bounds it, queries yes.
 enum Rule {
     Started,
     Held,
-    UntilNext,
+    Until(Bound),
+}
+
+// A row that was looked at: whether it stays, and of a function its start, and where it ends if it gives no end.
+struct Looked {
+    stays: bool,
+    start: u32,
+    end: u32,
 }
 
 fn has_start(row: Row) -> bool
@@ -68,8 +78,8 @@ fn line_of(row: Row) -> u32
     row.k1 as u32
 }
 
-// "a function ends one before the next start (0 stays 0), the last at 2^32 − 1": the end of the function before the n
-// whose row numbers are at word `next` on.
+// "a function ends one before the next start (0 stays 0), the last at 2^32 − 1": the end of the function that the first of n
+// bounds, whose row numbers are at word `next` on.
 fn end_before(words: &[u64], next: usize, n: usize) -> u32
     requires { ⌜ ((text : List ℕ) × Printable text (now words) next n) ⌝ }
     ensures { λ r. ⌜ ((text : List ℕ) → r ≡ endBefore (itemsBy text (now (words .entry)) next n)) ⌝ }
@@ -85,35 +95,95 @@ fn end_before(words: &[u64], next: usize, n: usize) -> u32
     start - 1
 }
 
-// The end of a function: as FN says, or else as the n rows behind it say, whose numbers are at word `next` on.
-fn end_of(words: &[u64], row: Row, next: usize, n: usize) -> u32
+// Of the n rows whose numbers are at word `next` on, how many come before the first with a start greater than `start`.
+fn skip_starts(words: &[u64], next: usize, n: usize, start: u32) -> usize
     requires { ⌜ ((text : List ℕ) × Printable text (now words) next n) ⌝ }
-    ensures { λ r. ⌜ ((text : List ℕ) → r ≡ endLine (itemOf text row) (itemsBy text (now (words .entry)) next n)) ⌝ }
+    ensures most { λ r. ⌜ r ≤ n ⌝ }
+    ensures first { λ r. ⌜ ((text : List ℕ) → endBefore (bounding GreaterStart start (itemsBy text (now (words .entry)) next n)) ≡ endBefore (itemsBy text (now (words .entry)) (next + r) (n - r))) ⌝ }
 {
-    let reckoned = end_before(words, next, n);
+    let mut i = 0;
+    while i < n {
+        let j = words[next + i] as usize;
+        if start < start_line(table::read_row(words, j)) {
+            return i;
+        }
+        i += 1;
+    }
+    n
+}
+
+// The end of a function with the start `start` that gives no end: as the n rows behind it say, whose numbers are at word `next` on.
+// Functions of one start are neighbours and have one end, so that of the row looked at last is used again: the rows behind are walked
+// once for all of them.
+fn reckon_end(words: &[u64], start: u32, next: usize, n: usize, bound: Bound, last: Looked) -> u32
+    requires { ⌜ ((text : List ℕ) × Printable text (now words) next n) ⌝ }
+    requires { ⌜ ((text : List ℕ) → bound ≡ GreaterStart → last .start ≡ start → last .end ≡ endBefore (bounding GreaterStart start (itemsBy text (now words) next n))) ⌝ }
+    ensures { λ r. ⌜ ((text : List ℕ) → r ≡ endBefore (bounding bound start (itemsBy text (now (words .entry)) next n))) ⌝ }
+{
+    match bound {
+        Bound::NextStart => end_before(words, next, n),
+        Bound::GreaterStart => {
+            if start == last.start {
+                return last.end;
+            }
+            let skipped = skip_starts(words, next, n, start);
+            end_before(words, next + skipped, n - skipped)
+        }
+    }
+}
+
+// The end of a function: as FN says, or else as reckoned.
+fn end_of(row: Row, reckoned: u32) -> u32
+    ensures { λ r. ⌜ ((text : List ℕ) → r ≡ endOr reckoned (endOf (itemOf text row))) ⌝ }
+{
     match table_item::end_line(row) {
         EndLine::Given(line) => line,
         EndLine::Absent => reckoned,
     }
 }
 
-// Whether the first of the n rows whose numbers are at word `at` on stays.
-fn stays(words: &[u64], pairs: &[[u32; 2]], count: usize, at: usize, n: usize, rule: Rule) -> bool
+// Whether the first of the n rows whose numbers are at word `at` on stays, and what the next row is to know of it. `last` is the row
+// before it.
+fn look(
+    words: &[u64],
+    pairs: &[[u32; 2]],
+    count: usize,
+    at: usize,
+    n: usize,
+    rule: Rule,
+    last: Looked,
+) -> Looked
     requires { ⌜ ((text : List ℕ) × Printable text (now words) at n) ⌝ }
+    requires { ⌜ ((text : List ℕ) → Ahead rule last (itemsBy text (now words) at n)) ⌝ }
     requires { ⌜ (0 < n) × (wellFormedRanges (rangesIn (now pairs)) count ≡ true) ⌝ }
-    ensures { λ r. ⌜ ((text : List ℕ) → r ≡ keeps rule (take count (rangesIn (now (pairs .entry)))) (itemOf text (rowAt (now (words .entry)) (word (now (words .entry)) at))) (itemsBy text (now (words .entry)) (at + 1) (n - 1))) ⌝ }
+    ensures { λ r. ⌜ ((text : List ℕ) → r .stays ≡ keeps rule (take count (rangesIn (now (pairs .entry)))) (itemOf text (rowAt (now (words .entry)) (word (now (words .entry)) at))) (itemsBy text (now (words .entry)) (at + 1) (n - 1))) ⌝ }
+    ensures { λ r. ⌜ ((text : List ℕ) → Ahead rule r (itemsBy text (now (words .entry)) (at + 1) (n - 1))) ⌝ }
 {
     let j = words[at] as usize;
     let row = table::read_row(words, j);
     match rule {
-        Rule::Started => has_start(row),
+        Rule::Started => Looked {
+            stays: has_start(row),
+            start: last.start,
+            end: last.end,
+        },
         Rule::Held => {
             let line = line_of(row);
-            line_num_pairs::holds_at(pairs, count, line, line)
+            Looked {
+                stays: line_num_pairs::holds_at(pairs, count, line, line),
+                start: last.start,
+                end: last.end,
+            }
         }
-        Rule::UntilNext => {
-            let end = end_of(words, row, at + 1, n - 1);
-            line_num_pairs::holds_at(pairs, count, start_line(row), end)
+        Rule::Until(bound) => {
+            let start = start_line(row);
+            let reckoned = reckon_end(words, start, at + 1, n - 1, bound, last);
+            let end = end_of(row, reckoned);
+            Looked {
+                stays: line_num_pairs::holds_at(pairs, count, start, end),
+                start,
+                end: reckoned,
+            }
         }
     }
 }
@@ -133,8 +203,15 @@ fn keep(
 {
     let mut kept = 0;
     let mut i = 0;
+    // before the first row: no start bounds a function that starts at 2^32 − 1
+    let mut last = Looked {
+        stays: false,
+        start: u32::MAX,
+        end: u32::MAX,
+    };
     while i < n {
-        if stays(words, pairs, count, numbers + i, n - i, rule) {
+        last = look(words, pairs, count, numbers + i, n - i, rule, last);
+        if last.stays {
             words[numbers + kept] = words[numbers + i];
             kept += 1;
             i += 1;
@@ -162,12 +239,13 @@ fn keep_held(
     keep(words, pairs, count, to, n, Rule::Held)
 }
 
-// "Functions without a start go. In printing order, a function ends one before the next start".
+// "Functions without a start go. In printing order, a function ends one before the next start", or the next greater one.
 fn keep_functions(
     text: &[u8],
     words: &mut [u64],
     pairs: &[[u32; 2]],
     count: usize,
+    bound: Bound,
     index: usize,
     used: usize,
     from: usize,
@@ -176,12 +254,12 @@ fn keep_functions(
 ) -> usize
     requires { ⌜ FunctionRows (now text) (now words) index used from n spare × (wellFormedRanges (rangesIn (now pairs)) count ≡ true) ⌝ }
     ensures most { λ r. ⌜ r ≤ n ⌝ }
-    ensures rows { λ r. ⌜ Holding (now (text .entry)) (now (words .exit)) spare r (functionsLeft (take count (rangesIn (now (pairs .entry)))) (itemsAt (now (text .entry)) (now (words .entry)) index from n)) ⌝ }
+    ensures rows { λ r. ⌜ Holding (now (text .entry)) (now (words .exit)) spare r (functionsLeft bound (take count (rangesIn (now (pairs .entry)))) (itemsAt (now (text .entry)) (now (words .entry)) index from n)) ⌝ }
     ensures spared { λ _. ⌜ UnchangedBefore (now (words .entry)) (now (words .exit)) spare ⌝ }
 {
     print_sort::sort_functions(text, words, index, used, from, n, spare);
     let started = keep(words, pairs, count, spare, n, Rule::Started);
-    keep(words, pairs, count, spare, started, Rule::UntilNext)
+    keep(words, pairs, count, spare, started, Rule::Until(bound))
 }
 
 // How many functions, branches and lines stay.
@@ -198,6 +276,7 @@ fn keep_rows(
     words: &mut [u64],
     pairs: &[[u32; 2]],
     count: usize,
+    bound: Bound,
     index: usize,
     used: usize,
     n: usize,
@@ -206,7 +285,7 @@ fn keep_rows(
     spare: usize,
 ) -> Kept
     requires { ⌜ PrintableTable (now text) (now words) index used n spare × AreKindRanges (now words) index n from runs × (wellFormedRanges (rangesIn (now pairs)) count ≡ true) ⌝ }
-    ensures { λ r. ⌜ KeptRows (take count (rangesIn (now (pairs .entry)))) (now (text .entry)) (now (words .entry)) (now (words .exit)) index from spare runs r ⌝ }
+    ensures { λ r. ⌜ KeptRows bound (take count (rangesIn (now (pairs .entry)))) (now (text .entry)) (now (words .entry)) (now (words .exit)) index from spare runs r ⌝ }
 {
     let f = runs.functions;
     let b = runs.branches;
@@ -216,6 +295,7 @@ fn keep_rows(
         words,
         pairs,
         count,
+        bound,
         index,
         used,
         from,
@@ -289,6 +369,7 @@ fn filter_section(
     words: &mut [u64],
     pairs: &[[u32; 2]],
     count: usize,
+    bound: Bound,
     index: usize,
     used: usize,
     n: usize,
@@ -300,8 +381,8 @@ fn filter_section(
 ) -> Printed
     requires { ⌜ areTags (now tags) ≡ true ⌝ }
     requires { ⌜ PrintableTable (now text) (now words) index used n spare × (lo < n) × (kindOf (row (now words) index lo) ≡ 0) ⌝ }
-    requires { ⌜ (wellFormedRanges (rangesIn (now pairs)) count ≡ true) × RoomFor write (now out) at (filteredFrom (tagsOf (now tags)) (take count (rangesIn (now pairs))) (now text) index n (now words) lo) ⌝ }
-    ensures { λ r. ⌜ SectionPrinted (filteredFrom (tagsOf (now (tags .entry))) (take count (rangesIn (now (pairs .entry)))) (now (text .entry)) index n) write (now (words .entry)) (now (words .exit)) (now (out .entry)) (now (out .exit)) index n lo spare at r ⌝ }
+    requires { ⌜ (wellFormedRanges (rangesIn (now pairs)) count ≡ true) × RoomFor write (now out) at (filteredFrom (tagsOf (now tags)) bound (take count (rangesIn (now pairs))) (now text) index n (now words) lo) ⌝ }
+    ensures { λ r. ⌜ SectionPrinted (filteredFrom (tagsOf (now (tags .entry))) bound (take count (rangesIn (now (pairs .entry)))) (now (text .entry)) index n) write (now (words .entry)) (now (words .exit)) (now (out .entry)) (now (out .exit)) index n lo spare at r ⌝ }
 {
     let header = table::get(words, index, used, lo);
     let runs = print_report::find_kind_ranges(words, index, used, n, lo + 1);
@@ -311,6 +392,7 @@ fn filter_section(
         words,
         pairs,
         count,
+        bound,
         index,
         used,
         n,
@@ -329,6 +411,7 @@ fn filter_sections(
     words: &mut [u64],
     pairs: &[[u32; 2]],
     count: usize,
+    bound: Bound,
     index: usize,
     used: usize,
     n: usize,
@@ -338,8 +421,8 @@ fn filter_sections(
 ) -> usize
     requires { ⌜ areTags (now tags) ≡ true ⌝ }
     requires { ⌜ PrintableTable (now text) (now words) index used n spare ⌝ }
-    requires { ⌜ (wellFormedRanges (rangesIn (now pairs)) count ≡ true) × RoomFor write (now out) 0 (filteredFrom (tagsOf (now tags)) (take count (rangesIn (now pairs))) (now text) index n (now words) 0) ⌝ }
-    ensures { λ r. ⌜ Emitted write (now (out .entry)) (now (out .exit)) 0 (filteredFrom (tagsOf (now (tags .entry))) (take count (rangesIn (now (pairs .entry)))) (now (text .entry)) index n (now (words .entry)) 0) r ⌝ }
+    requires { ⌜ (wellFormedRanges (rangesIn (now pairs)) count ≡ true) × RoomFor write (now out) 0 (filteredFrom (tagsOf (now tags)) bound (take count (rangesIn (now pairs))) (now text) index n (now words) 0) ⌝ }
+    ensures { λ r. ⌜ Emitted write (now (out .entry)) (now (out .exit)) 0 (filteredFrom (tagsOf (now (tags .entry))) bound (take count (rangesIn (now (pairs .entry)))) (now (text .entry)) index n (now (words .entry)) 0) r ⌝ }
     ensures { λ _. ⌜ UnchangedBefore (now (words .entry)) (now (words .exit)) spare ⌝ }
 {
     let mut lo = 0;
@@ -351,6 +434,7 @@ fn filter_sections(
             words,
             pairs,
             count,
+            bound,
             index,
             used,
             n,
@@ -373,6 +457,7 @@ fn required_len(
     words: &mut [u64],
     pairs: &[[u32; 2]],
     count: usize,
+    bound: Bound,
     index: usize,
     used: usize,
     n: usize,
@@ -381,7 +466,7 @@ fn required_len(
 ) -> usize
     requires { ⌜ areTags (now tags) ≡ true ⌝ }
     requires { ⌜ PrintableTable (now text) (now words) index used n spare × (wellFormedRanges (rangesIn (now pairs)) count ≡ true) ⌝ }
-    ensures { λ r. ⌜ RequiredLength (now (out .entry)) (now (out .exit)) (filteredFrom (tagsOf (now (tags .entry))) (take count (rangesIn (now (pairs .entry)))) (now (text .entry)) index n (now (words .entry)) 0) r ⌝ }
+    ensures { λ r. ⌜ RequiredLength (now (out .entry)) (now (out .exit)) (filteredFrom (tagsOf (now (tags .entry))) bound (take count (rangesIn (now (pairs .entry)))) (now (text .entry)) index n (now (words .entry)) 0) r ⌝ }
     ensures { λ _. ⌜ UnchangedBefore (now (words .entry)) (now (words .exit)) spare ⌝ }
 {
     if print_bound::surely_fits(tags, words, index, used, n, out.len()) {
@@ -393,6 +478,7 @@ fn required_len(
         words,
         pairs,
         count,
+        bound,
         index,
         used,
         n,
@@ -409,6 +495,7 @@ pub fn print_filtered(
     words: &mut [u64],
     pairs: &[[u32; 2]],
     count: usize,
+    bound: Bound,
     index: usize,
     used: usize,
     n: usize,
@@ -418,10 +505,22 @@ pub fn print_filtered(
     requires { ⌜ areTags (now tags) ≡ true ⌝ }
     requires { ⌜ Table (now text) (now words) index used n × (n ≤ max-entries) × (wellFormedRanges (rangesIn (now pairs)) count ≡ true) ⌝ }
     requires { ⌜ (index + used ≤ spare) × (spare + n + n ≤ length (now words)) ⌝ }
-    ensures { λ r. ⌜ r ≡ writeAnswer (written (length (now (out .entry))) (printSections (tagsOf (now (tags .entry))) (map (filterSection (take count (rangesIn (now (pairs .entry))))) (sections (entriesAt (now (text .entry)) (now (words .entry)) index n))))) ⌝ }
-    ensures { λ _. ⌜ now (out .exit) ≡ outputAfter (written (length (now (out .entry))) (printSections (tagsOf (now (tags .entry))) (map (filterSection (take count (rangesIn (now (pairs .entry))))) (sections (entriesAt (now (text .entry)) (now (words .entry)) index n))))) (now (out .entry)) ⌝ }
+    ensures { λ r. ⌜ r ≡ writeAnswer (written (length (now (out .entry))) (printSections (tagsOf (now (tags .entry))) (map (filterSection bound (take count (rangesIn (now (pairs .entry))))) (sections (entriesAt (now (text .entry)) (now (words .entry)) index n))))) ⌝ }
+    ensures { λ _. ⌜ now (out .exit) ≡ outputAfter (written (length (now (out .entry))) (printSections (tagsOf (now (tags .entry))) (map (filterSection bound (take count (rangesIn (now (pairs .entry))))) (sections (entriesAt (now (text .entry)) (now (words .entry)) index n))))) (now (out .entry)) ⌝ }
 {
-    let needed = required_len(tags, text, words, pairs, count, index, used, n, spare, out);
+    let needed = required_len(
+        tags,
+        text,
+        words,
+        pairs,
+        count,
+        bound,
+        index,
+        used,
+        n,
+        spare,
+        out,
+    );
     if out.len() < needed {
         return print_report::too_short(needed);
     }
@@ -431,6 +530,7 @@ pub fn print_filtered(
         words,
         pairs,
         count,
+        bound,
         index,
         used,
         n,

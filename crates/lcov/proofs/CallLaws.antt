@@ -12,6 +12,7 @@ use Rattle.model.specs.declared.LineAnswer.{LineAnswer}
 use Rattle.model.specs.declared.LineAnswer.the-variants as A
 use Rattle.model.specs.declared.Record.{Record as LentRecord}
 use Rattle.model.specs.declared.Mode.{Mode}
+use Rattle.model.specs.declared.Bound.{Bound}
 use Rattle.model.specs.declared.Range.{Range}
 use Rattle.model.specs.declared.Refusal.{Refusal}
 use Rattle.model.specs.declared.WriteAnswer.{WriteAnswer}
@@ -181,17 +182,17 @@ module _ (tag : Kind → Bytes) (text : Bytes) (words limit : ℕ) (is : limit �
 
 -- ---- one text filtered
 
-module _ (tag : Kind → Bytes) (text : Bytes) (slice : List Range) (used words : ℕ) (out : Bytes) where
+module _ (tag : Kind → Bytes) (bound : Bound) (text : Bytes) (slice : List Range) (used words : ℕ) (out : Bytes) where
   pub filter-means : wellFormedRanges slice used ≡ true
-      → filterText tag text slice used words (length out)
-      ≡ readThen tag (λ report. printSections tag (map (filterSection (take used slice)) (sections report))) text words out
+      → filterText tag bound text slice used words (length out)
+      ≡ readThen tag (λ report. printSections tag (map (filterSection bound (take used slice)) (sections report))) text words out
   unfolding filterText
   filter-means well = rw well
 
   pub filter-bad : (r : Refusal) → wellFormedRanges slice used ≡ false → r ≡ unplaced MalformedRanges
-      → Told (filterText tag text slice used words (length out)) out out (W.Refused r)
+      → Told (filterText tag bound text slice used words (length out)) out out (W.Refused r)
   unfolding filterText
-  filter-bad r bad e = told-refused (filterText tag text slice used words (length out)) r out (rw (bad, e))
+  filter-bad r bad e = told-refused (filterText tag bound text slice used words (length out)) r out (rw (bad, e))
 
 -- ---- a lent table of tags
 

@@ -1,5 +1,6 @@
-// The calls that read texts (SPEC 1.6): a bundle gathered, checked or lossy, one text read, and one filtered, each printed to the output;
-// beside them the calls for one line, for range lists, and for paths and bytes. This is the public surface.
+// The calls that read texts (SPEC 1.6): a bundle gathered, checked or lossy, one text read, and one filtered, with two rules for where a
+// function ends, each printed to the output; beside them the calls for one line, for range lists, and for paths and bytes. This is the public
+// surface.
 // The scratch is lent; "After a call the scratch is free to hold anything, and no call reads what it held."
 mod lines;
 
@@ -23,6 +24,7 @@ pub use lines::read_line_tagged;
 pub use lines::read_record;
 pub use lines::read_record_tagged;
 use merge::Joined;
+use model::Bound;
 use model::Fault;
 use model::Mode;
 use model::Refusal;
@@ -35,6 +37,7 @@ ghost use mathlib.Core.List.{[]};
 ghost use mathlib.Core.Bool.{true};
 ghost use Prim.Native.Nat.{_+_, _*_, _≤_, _<_};
 ghost use lib.ListN.{length};
+ghost use Rattle.model.specs.declared.Bound.the-variants.{NextStart, GreaterStart};
 ghost use Rattle.model.specs.declared.Mode.the-variants.{Checked, Lossy};
 ghost use Rattle.model.specs.Limits.{max-texts, max-entries};
 ghost use Rattle.model.specs.Answer.{accepted, inText};
@@ -288,11 +291,12 @@ fn filter(
     text: &[u8],
     pairs: &[[u32; 2]],
     used: usize,
+    bound: Bound,
     scratch: &mut [u64],
     out: &mut [u8],
 ) -> WriteAnswer
     requires { ⌜ areTags (now tags) ≡ true ⌝ }
-    ensures { λ r. ⌜ WriteCall (filterText (tagsOf (now (tags .entry))) (now (text .entry)) (rangesIn (now (pairs .entry))) used (length (now (scratch .entry))) (length (now (out .entry)))) (now (out .entry)) (now (out .exit)) r ⌝ }
+    ensures { λ r. ⌜ WriteCall (filterText (tagsOf (now (tags .entry))) bound (now (text .entry)) (rangesIn (now (pairs .entry))) used (length (now (scratch .entry))) (length (now (out .entry)))) (now (out .entry)) (now (out .exit)) r ⌝ }
 {
     if line_num_pairs::is_well_formed(pairs, used) {
         let limit = entry_limit(scratch.len());
@@ -309,6 +313,7 @@ fn filter(
                     scratch,
                     pairs,
                     used,
+                    bound,
                     index,
                     rows,
                     kept,
@@ -405,9 +410,9 @@ pub fn filter_text(
     scratch: &mut [u64],
     out: &mut [u8],
 ) -> WriteAnswer
-    ensures { λ r. ⌜ WriteCall (filterText defaultTag (now (text .entry)) (rangesIn (now (pairs .entry))) used (length (now (scratch .entry))) (length (now (out .entry)))) (now (out .entry)) (now (out .exit)) r ⌝ }
+    ensures { λ r. ⌜ WriteCall (filterText defaultTag NextStart (now (text .entry)) (rangesIn (now (pairs .entry))) used (length (now (scratch .entry))) (length (now (out .entry)))) (now (out .entry)) (now (out .exit)) r ⌝ }
 {
-    filter(b"", text, pairs, used, scratch, out)
+    filter(b"", text, pairs, used, Bound::NextStart, scratch, out)
 }
 
 // The same under the tags of a lent table.
@@ -419,10 +424,40 @@ pub fn filter_text_tagged(
     scratch: &mut [u64],
     out: &mut [u8],
 ) -> WriteAnswer
-    ensures { λ r. ⌜ WriteCall (tagged (now (tags .entry)) (λ tag. filterText tag (now (text .entry)) (rangesIn (now (pairs .entry))) used (length (now (scratch .entry))) (length (now (out .entry))))) (now (out .entry)) (now (out .exit)) r ⌝ }
+    ensures { λ r. ⌜ WriteCall (tagged (now (tags .entry)) (λ tag. filterText tag NextStart (now (text .entry)) (rangesIn (now (pairs .entry))) used (length (now (scratch .entry))) (length (now (out .entry))))) (now (out .entry)) (now (out .exit)) r ⌝ }
 {
     match tag_table::load(tags) {
         Loading::Refused(fault) => refused_tags(fault),
-        Loading::Loaded => filter(tags, text, pairs, used, scratch, out),
+        Loading::Loaded => filter(tags, text, pairs, used, Bound::NextStart, scratch, out),
+    }
+}
+
+// The same, where a function ends one before the next greater start: functions that start on one line end together.
+pub fn filter_text_distinct_starts(
+    text: &[u8],
+    pairs: &[[u32; 2]],
+    used: usize,
+    scratch: &mut [u64],
+    out: &mut [u8],
+) -> WriteAnswer
+    ensures { λ r. ⌜ WriteCall (filterText defaultTag GreaterStart (now (text .entry)) (rangesIn (now (pairs .entry))) used (length (now (scratch .entry))) (length (now (out .entry)))) (now (out .entry)) (now (out .exit)) r ⌝ }
+{
+    filter(b"", text, pairs, used, Bound::GreaterStart, scratch, out)
+}
+
+// The same under the tags of a lent table.
+pub fn filter_text_distinct_starts_tagged(
+    tags: &[u8],
+    text: &[u8],
+    pairs: &[[u32; 2]],
+    used: usize,
+    scratch: &mut [u64],
+    out: &mut [u8],
+) -> WriteAnswer
+    ensures { λ r. ⌜ WriteCall (tagged (now (tags .entry)) (λ tag. filterText tag GreaterStart (now (text .entry)) (rangesIn (now (pairs .entry))) used (length (now (scratch .entry))) (length (now (out .entry))))) (now (out .entry)) (now (out .exit)) r ⌝ }
+{
+    match tag_table::load(tags) {
+        Loading::Refused(fault) => refused_tags(fault),
+        Loading::Loaded => filter(tags, text, pairs, used, Bound::GreaterStart, scratch, out),
     }
 }

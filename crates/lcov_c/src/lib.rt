@@ -1,6 +1,7 @@
 // The C calling form: numbers and slices, a slice as a pointer and a length. include/lcov.h declares these calls for C.
 ghost use mathlib.Core.Path.{_≡_};
 ghost use lib.ListN.{length};
+ghost use Rattle.model.specs.declared.Bound.the-variants.{NextStart, GreaterStart};
 ghost use Rattle.model.specs.declared.Mode.the-variants.{Checked, Lossy};
 ghost use Rattle.model.specs.Limits.{program-words};
 ghost use mathlib.Core.Bool.{true};
@@ -255,7 +256,7 @@ pub extern "C" fn lcov_filter(
     out: &mut [u8],
     answer: &mut [u64],
 ) -> u32
-    ensures { λ r. ⌜ AnswerStored (filterText defaultTag (now (text .entry)) (rangesIn (now (pairs .entry))) used (length (now (scratch .entry))) (length (now (out .entry)))) (now (answer .entry)) (now (answer .exit)) (now (out .entry)) (now (out .exit)) r ⌝ }
+    ensures { λ r. ⌜ AnswerStored (filterText defaultTag NextStart (now (text .entry)) (rangesIn (now (pairs .entry))) used (length (now (scratch .entry))) (length (now (out .entry)))) (now (answer .entry)) (now (answer .exit)) (now (out .entry)) (now (out .exit)) r ⌝ }
 {
     let got = lcov::filter_text(text, pairs, used, scratch, out);
     lcov_c_words::store_answer(got, answer)
@@ -272,9 +273,42 @@ pub extern "C" fn lcov_filter_tagged(
     out: &mut [u8],
     answer: &mut [u64],
 ) -> u32
-    ensures { λ r. ⌜ AnswerStored (tagged (now (tags .entry)) (λ tag. filterText tag (now (text .entry)) (rangesIn (now (pairs .entry))) used (length (now (scratch .entry))) (length (now (out .entry))))) (now (answer .entry)) (now (answer .exit)) (now (out .entry)) (now (out .exit)) r ⌝ }
+    ensures { λ r. ⌜ AnswerStored (tagged (now (tags .entry)) (λ tag. filterText tag NextStart (now (text .entry)) (rangesIn (now (pairs .entry))) used (length (now (scratch .entry))) (length (now (out .entry))))) (now (answer .entry)) (now (answer .exit)) (now (out .entry)) (now (out .exit)) r ⌝ }
 {
     let got = lcov::filter_text_tagged(tags, text, pairs, used, scratch, out);
+    lcov_c_words::store_answer(got, answer)
+}
+
+// The same as `lcov_filter`, where a function ends one before the next greater start.
+#[no_mangle]
+pub extern "C" fn lcov_filter_distinct_starts(
+    text: &[u8],
+    pairs: &[[u32; 2]],
+    used: usize,
+    scratch: &mut [u64],
+    out: &mut [u8],
+    answer: &mut [u64],
+) -> u32
+    ensures { λ r. ⌜ AnswerStored (filterText defaultTag GreaterStart (now (text .entry)) (rangesIn (now (pairs .entry))) used (length (now (scratch .entry))) (length (now (out .entry)))) (now (answer .entry)) (now (answer .exit)) (now (out .entry)) (now (out .exit)) r ⌝ }
+{
+    let got = lcov::filter_text_distinct_starts(text, pairs, used, scratch, out);
+    lcov_c_words::store_answer(got, answer)
+}
+
+// The same under the tags of a lent table.
+#[no_mangle]
+pub extern "C" fn lcov_filter_distinct_starts_tagged(
+    tags: &[u8],
+    text: &[u8],
+    pairs: &[[u32; 2]],
+    used: usize,
+    scratch: &mut [u64],
+    out: &mut [u8],
+    answer: &mut [u64],
+) -> u32
+    ensures { λ r. ⌜ AnswerStored (tagged (now (tags .entry)) (λ tag. filterText tag GreaterStart (now (text .entry)) (rangesIn (now (pairs .entry))) used (length (now (scratch .entry))) (length (now (out .entry))))) (now (answer .entry)) (now (answer .exit)) (now (out .entry)) (now (out .exit)) r ⌝ }
+{
+    let got = lcov::filter_text_distinct_starts_tagged(tags, text, pairs, used, scratch, out);
     lcov_c_words::store_answer(got, answer)
 }
 

@@ -29,3 +29,5 @@ pub mod Examples
 pub mod Regroup
 pub mod OneText
 pub mod Groups
+pub mod FilterLaws
+pub mod Filters

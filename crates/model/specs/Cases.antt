@@ -17,6 +17,7 @@ use Rattle.model.specs.Reading.{readText}
 use Rattle.model.specs.Gather.{gatherProgram}
 use Rattle.model.specs.Ranges.{halfOpen, insertRange, holds}
 use Rattle.model.specs.Filter.{filterText}
+use Rattle.model.specs.declared.Bound.the-variants.{NextStart, GreaterStart}
 use Rattle.model.specs.Compute.{open-all}
 
 -- a refusal's number, line and field; text and needed length are 0
@@ -25,6 +26,14 @@ atLine number line field = number ∷ 0 ∷ line ∷ field ∷ 0 ∷ []
 
 abbrev pub range : ℕ → ℕ → Range
 range start end = record { start = start; end = end }
+
+-- the text of case (k): two functions on one line
+abbrev pub twoTemplates : Bytes
+twoTemplates = ascii "SF:a\nFN:3,f\nFN:3,g\nend_of_record\n"
+
+-- and three, with a fourth behind
+abbrev pub threeTemplates : Bytes
+threeTemplates = ascii "SF:a\nFN:3,f\nFN:3,g\nFN:3,h\nFN:7,i\nend_of_record\n"
 
 -- the seven lines of case (l)
 abbrev pub sampleText : Bytes
@@ -62,9 +71,16 @@ pub record Cases : Type 0 where
       (insertRange (range 3 4) (insertRange (range 1 2) []) ≡ range 1 4 ∷ [])
       × (insertRange (range 4 5) (insertRange (range 1 2) []) ≡ range 1 2 ∷ range 4 5 ∷ [])
   pub j : (holds (insertRange (halfOpen 0 0) []) 0 0 ≡ true) × (insertRange (halfOpen 5 5) [] ≡ [])
+  -- in both filters; and of starts 3, 3, 3 and 7 the first three end at 6 in the second
   pub k :
-      filterText defaultTag (ascii "SF:a\nFN:3,f\nFN:3,g\nend_of_record\n") (range 3 3 ∷ []) 1 8_192 65_536
-      ≡ accepted (ascii "TN:\nSF:a\nFN:3,g\nFNDA:0,g\nFNF:1\nFNH:0\nend_of_record\n")
+      (filterText defaultTag NextStart twoTemplates (range 3 3 ∷ []) 1 8_192 65_536
+      ≡ accepted (ascii "TN:\nSF:a\nFN:3,g\nFNDA:0,g\nFNF:1\nFNH:0\nend_of_record\n"))
+      × (filterText defaultTag GreaterStart twoTemplates (range 3 3 ∷ []) 1 8_192 65_536
+      ≡ accepted (ascii "TN:\nSF:a\nFN:3,f\nFN:3,g\nFNDA:0,f\nFNDA:0,g\nFNF:2\nFNH:0\nend_of_record\n"))
+      × (filterText defaultTag GreaterStart threeTemplates (range 6 6 ∷ []) 1 8_192 65_536
+      ≡ accepted (ascii "TN:\nSF:a\nFN:3,f\nFN:3,g\nFN:3,h\nFNDA:0,f\nFNDA:0,g\nFNDA:0,h\nFNF:3\nFNH:0\nend_of_record\n"))
+      × (filterText defaultTag GreaterStart threeTemplates (range 7 7 ∷ []) 1 8_192 65_536
+      ≡ accepted (ascii "TN:\nSF:a\nFN:7,i\nFNDA:0,i\nFNF:1\nFNH:0\nend_of_record\n"))
   pub l :
       (length sampleText ≡ 56)
       × (gatherProgram sampleBundle
@@ -84,6 +100,6 @@ cases =
       h = (refl, refl, refl);
       i = (refl, refl);
       j = (refl, refl);
-      k = refl;
+      k = (refl, refl, refl, refl);
       l = (refl, refl);
     }

@@ -20,6 +20,7 @@ pub mod Gather
 pub mod Joined
 pub mod Ranges
 pub mod Filter
+pub mod Filters
 pub mod Calls
 pub mod Compute
 pub mod Cases

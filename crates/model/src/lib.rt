@@ -132,6 +132,12 @@ pub enum Mode {
     Lossy,
 }
 
+// Which start bounds a function that gives no end: that of the next function in printing order, or the next greater one.
+pub enum Bound {
+    NextStart,
+    GreaterStart,
+}
+
 // A range of lines, both ends in it.
 pub struct Range {
     pub start: u32,

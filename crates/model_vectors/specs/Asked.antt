@@ -17,6 +17,7 @@ use Rattle.model.specs.Line.{readLine, printRecord}
 use Rattle.model.specs.Gather.{readAndPrint, gather}
 use Rattle.model.specs.Ranges.{insertCall, sliceAfter, queryCall}
 use Rattle.model.specs.Filter.{filterText}
+use Rattle.model.specs.declared.Bound.the-variants.{NextStart}
 use Rattle.model.specs.Compute.{open-all}
 
 -- ---- questions and answers
@@ -147,7 +148,7 @@ abbrev pub Filtered : Type 0
 Filtered = (Bytes × List Range) × Told Bytes
 
 abbrev pub askFilter : Bytes × List Range → Told Bytes
-askFilter q = withValues (filterText defaultTag (q .0) (q .1) (length (q .1)) words room)
+askFilter q = withValues (filterText defaultTag NextStart (q .0) (q .1) (length (q .1)) words room)
 
 -- ---- computing
 

@@ -8,6 +8,8 @@ use mathlib.Core.List.{List, [], _∷_, _++_}
 use mathlib.Core.Option.{none, some}
 use lib.Dec.{eqb}
 use lib.ListN.{length, replicate, drop}
+use Rattle.model.specs.declared.Bound.{Bound}
+use Rattle.model.specs.declared.Bound.the-variants.{NextStart, GreaterStart}
 use Rattle.model.specs.declared.Kind.{Kind}
 use Rattle.model.specs.declared.Mode.{Mode}
 use Rattle.model.specs.declared.Mode.the-variants.{Checked, Lossy}
@@ -274,11 +276,18 @@ pub record Tables : Type 0 where
       × (under (tableOf (house (ascii "F") (ascii "FND"))) (ascii "FNDA:1,f") ≡ line (ascii "FNDA:1,f"))
   -- before anything else is looked at
   pub first : (withValues (tagged [] (λ tag. gather tag Checked (0 ∷ 0 ∷ 0 ∷ []) 8_192 65_536)) ≡ refuses 21 0 0)
-      × (withValues (tagged (tableOf (house (ascii "A") (ascii "A"))) (λ tag. filterText tag [] [] 1 8_192 65_536)) ≡ refuses 22 0 0)
+      × (withValues (tagged (tableOf (house (ascii "A") (ascii "A"))) (λ tag. filterText tag NextStart [] [] 1 8_192 65_536)) ≡ refuses 22 0 0)
   -- the needed length has the table's tags
   pub needed : withValues (tagged (tableOf (house (ascii "sixteen bytes ..") (ascii "SF"))) (λ tag. printLine tag [] (Lent.TestName (part 0 0)) 17)) ≡ needs 18
 
--- ---- ranges and the filter
+-- ---- ranges and the filters
+
+-- a text by one range
+abbrev pub filtered : Bound → Bytes → Range → Told Bytes
+filtered bound bytes r = withValues (filterText defaultTag bound bytes (r ∷ []) 1 8_192 65_536)
+
+abbrev pub InBoth : (Bound → Type 0) → Type 0
+InBoth claim = claim NextStart × claim GreaterStart
 
 pub record Ranges : Type 0 where
   -- a dropped range: the pairs past the used ones are zeroed; 18 is tried first
@@ -294,21 +303,23 @@ pub record Ranges : Type 0 where
   pub backwards : (withValues (queryCall pairs 3 2 1) ≡ gives true) × (withValues (queryCall pairs 3 6 4) ≡ gives false)
   -- half-open ranges end at 0 where b is 0
   pub half-open : (halfOpen 0 0 ≡ range 0 0) × (halfOpen 3 0 ≡ range 3 0)
-  -- the filter tries 18, then the text, then 14
-  pub filter-order :
-      (withValues (filterText defaultTag (ascii "X") (range 2 1 ∷ []) 1 8_192 0) ≡ refuses 18 0 0)
-      × (withValues (filterText defaultTag (ascii "X") [] 0 8_192 0) ≡ refuses 1 1 0)
-      × (withValues (filterText defaultTag (section (ascii "a") (ascii "1,1")) [] 0 8_192 0) ≡ needs 23)
+  -- both filters try 18, then the text, then 14
+  pub filter-order : InBoth (λ bound. (withValues (filterText defaultTag bound (ascii "X") (range 2 1 ∷ []) 1 8_192 0) ≡ refuses 18 0 0)
+      × (withValues (filterText defaultTag bound (ascii "X") [] 0 8_192 0) ≡ refuses 1 1 0)
+      × (withValues (filterText defaultTag bound (section (ascii "a") (ascii "1,1")) [] 0 8_192 0) ≡ needs 23))
   -- functions without a start line are removed before end lines are computed
-  pub startless :
-      withValues (filterText defaultTag (ascii "FN:3,f\nFNDA:1,g\nend_of_record\n") (range 9 9 ∷ []) 1 8_192 65_536)
-      ≡ gives (ascii "TN:\nSF:\nFN:3,f\nFNDA:0,f\nFNF:1\nFNH:0\nend_of_record\n")
+  pub startless : InBoth (λ bound. filtered bound (ascii "FN:3,f\nFNDA:1,g\nend_of_record\n") (range 9 9)
+      ≡ gives (ascii "TN:\nSF:\nFN:3,f\nFNDA:0,f\nFNF:1\nFNH:0\nend_of_record\n"))
   -- a start line bounds the function before it; a function's own end line stands in place of that bound
-  pub own-end :
-      (withValues (filterText defaultTag (ascii "FN:3,f\nFN:5,6,g\nend_of_record\n") (range 7 7 ∷ []) 1 8_192 65_536)
-      ≡ gives (ascii "TN:\nSF:\nend_of_record\n"))
-      × (withValues (filterText defaultTag (ascii "FN:3,20,f\nFN:9,g\nend_of_record\n") (range 9 9 ∷ []) 1 8_192 65_536)
-      ≡ gives (ascii "TN:\nSF:\nFN:3,20,f\nFN:9,g\nFNDA:0,f\nFNDA:0,g\nFNF:2\nFNH:0\nend_of_record\n"))
+  pub own-end : InBoth (λ bound. (filtered bound (ascii "FN:3,f\nFN:5,6,g\nend_of_record\n") (range 7 7) ≡ gives (ascii "TN:\nSF:\nend_of_record\n"))
+      × (filtered bound (ascii "FN:3,20,f\nFN:9,g\nend_of_record\n") (range 9 9)
+      ≡ gives (ascii "TN:\nSF:\nFN:3,20,f\nFN:9,g\nFNDA:0,f\nFNDA:0,g\nFNF:2\nFNH:0\nend_of_record\n")))
+  -- with an end line of its own, a function of that start still ends there
+  pub one-start-own : filtered GreaterStart (ascii "FN:3,a\nFN:3,5,b\nFN:7,d\nend_of_record\n") (range 6 6)
+      ≡ gives (ascii "TN:\nSF:\nFN:3,a\nFNDA:0,a\nFNF:1\nFNH:0\nend_of_record\n")
+  -- the starts of another section bound nothing
+  pub one-section : filtered GreaterStart (ascii "SF:a\nFN:3,f\nend_of_record\nSF:b\nFN:7,g\nend_of_record\n") (range 9 9)
+      ≡ gives (ascii "TN:\nSF:a\nFN:3,f\nFNDA:0,f\nFNF:1\nFNH:0\nend_of_record\nTN:\nSF:b\nFN:7,g\nFNDA:0,g\nFNF:1\nFNH:0\nend_of_record\n")
 
 -- ---- the proof
 
@@ -375,9 +386,11 @@ ranges =
       gap = refl;
       backwards = (refl, refl);
       half-open = (refl, refl);
-      filter-order = (refl, refl, refl);
-      startless = refl;
-      own-end = (refl, refl);
+      filter-order = ((refl, refl, refl), (refl, refl, refl));
+      startless = (refl, refl);
+      own-end = ((refl, refl), (refl, refl));
+      one-start-own = refl;
+      one-section = refl;
     }
 
 pub tables : Tables

@@ -1,4 +1,4 @@
-// Writes what ranges and the filter answer: SPEC 11.1's cases (i), (j) and (k), and a call for each refusal that no line, text or bundle
+// Writes what ranges and the filters answer: SPEC 11.1's cases (i), (j) and (k), and a call for each refusal that no line, text or bundle
 // gives: 15, 17 and 18.
 use model::InsertAnswer;
 use model::Part;
@@ -57,18 +57,49 @@ fn case_j() {
     query(&none, used, 5, 5);
 }
 
-fn filter(pairs: &[[u32; 2]], used: usize, text: &[u8]) {
-    let mut scratch = [0u64; 256];
-    let mut out = [0u8; 64];
-    match lcov::filter_text(text, pairs, used, &mut scratch, &mut out) {
-        WriteAnswer::Written(n) => program_io::write_first(&out, n),
+fn show_written(answer: WriteAnswer, out: &[u8]) {
+    match answer {
+        WriteAnswer::Written(n) => program_io::write_first(out, n),
         WriteAnswer::Refused(refusal) => program_io::show_refusal(refusal),
     }
 }
 
-// f and g start at 3, range 3–3: g stays, f goes.
+fn filter(pairs: &[[u32; 2]], used: usize, text: &[u8]) {
+    let mut scratch = [0u64; 256];
+    let mut out = [0u8; 96];
+    show_written(
+        lcov::filter_text(text, pairs, used, &mut scratch, &mut out),
+        &out,
+    );
+}
+
+fn filter_distinct_starts(pairs: &[[u32; 2]], used: usize, text: &[u8]) {
+    let mut scratch = [0u64; 256];
+    let mut out = [0u8; 96];
+    show_written(
+        lcov::filter_text_distinct_starts(text, pairs, used, &mut scratch, &mut out),
+        &out,
+    );
+}
+
+// f and g start at 3, range 3–3: g stays, f goes. Where functions of one start end together, both stay.
 fn case_k() {
     filter(&[[3u32, 3]], 1, b"SF:a\nFN:3,f\nFN:3,g\nend_of_record\n");
+    filter_distinct_starts(&[[3u32, 3]], 1, b"SF:a\nFN:3,f\nFN:3,g\nend_of_record\n");
+}
+
+// Starts 3, 3, 3 and 7: the three end at 6.
+fn templates() {
+    filter_distinct_starts(
+        &[[6u32, 6]],
+        1,
+        b"FN:3,a\nFN:3,b\nFN:3,c\nFN:7,d\nend_of_record\n",
+    );
+    filter_distinct_starts(
+        &[[7u32, 7]],
+        1,
+        b"FN:3,a\nFN:3,b\nFN:3,c\nFN:7,d\nend_of_record\n",
+    );
 }
 
 // An emptied section, an output that is too short, a refused text, and a list that is refused before the text is.
@@ -102,16 +133,17 @@ fn ill_formed() {
 fn part_outside() {
     let mut out = [0u8; 16];
     let name = Part { start: 3, len: 2 };
-    match lcov::print_line(b"TN:a", Record::TestName(name), &mut out) {
-        WriteAnswer::Written(n) => program_io::write_first(&out, n),
-        WriteAnswer::Refused(refusal) => program_io::show_refusal(refusal),
-    }
+    show_written(
+        lcov::print_line(b"TN:a", Record::TestName(name), &mut out),
+        &out,
+    );
 }
 
 fn main() {
     case_i();
     case_j();
     case_k();
+    templates();
     filters();
     full();
     ill_formed();

@@ -1,5 +1,5 @@
+-- `filter::end_of` meets its contract. Assumes nothing.
 use borrow.Author.Needs.{needs}
-use denote.Ref.{now}
 use Rattle.filter.proofs.ItemLaws.{end-own, end-reckoned}
 use Rattle.filter.proofs.end_of.Statement.{statement}
 use Rattle.filter.proofs.end_of.Tie as tie
@@ -9,12 +9,11 @@ end-of-spec =
     tie.close
     (tie.spec
     (λ c κs. search needs)
-    (λ c κs. search needs)
     (λ c. search needs)
     (λ c. search needs)
     (λ c. let e = c .before .before .before in
-    let s = e .before .before .before .args in
-    end-own (s .row) (now (s .words)) (s .next) (s .n) (e .end-line .result) (e .end-line .ensures) _ (c .before .line .given .1))
+    let s = e .before .args in
+    end-own (s .row) (s .reckoned) (e .end-line .result) (e .end-line .ensures) _ (c .before .line .given .1))
     (λ c. let e = c .before .before in
-    let s = e .before .before .before .args in
-    end-reckoned (s .row) (now (s .words)) (s .next) (s .n) (e .end-line .result) (e .end-line .ensures) _ (c .enum-told .given .1) (e .before .end-before .ensures)))
+    let s = e .before .args in
+    end-reckoned (s .row) (s .reckoned) (e .end-line .result) (e .end-line .ensures) (c .enum-told .given .1)))

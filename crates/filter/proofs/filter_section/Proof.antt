@@ -34,9 +34,9 @@ filter-section-spec =
     let s = start f in (
       s .pre .0,
       (
-        section-ready (s .pre .1 .0 .0) (s .pre .1 .0 .1) (s .pre .1 .0 .2) (f .before .before .get .ensures) (f .find-kind-ranges .ensures) (ranges s)
+        section-ready (s .pre .1 .0 .0) (s .pre .1 .0 .1) (s .pre .1 .0 .2) (f .before .before .get .ensures) (f .find-kind-ranges .ensures) (s .args .bound) (ranges s)
             (k .keep-rows .ensures),
-        section-room _ (s .pre .1 .0 .0) (s .pre .1 .0 .1) (s .pre .1 .0 .2) (f .before .before .get .ensures) (f .find-kind-ranges .ensures) (ranges s)
+        section-room _ (s .pre .1 .0 .0) (s .pre .1 .0 .1) (s .pre .1 .0 .2) (f .before .before .get .ensures) (f .find-kind-ranges .ensures) (s .args .bound) (ranges s)
             (k .keep-rows .ensures)
             (s .args .write) (now (s .args .out)) (s .args .at) (s .pre .1 .1 .1),
       ),
@@ -47,6 +47,6 @@ filter-section-spec =
     let k = p .before .before .before .before .before in
     let f = found k in
     let s = start f in
-    section-done _ (s .pre .1 .0 .0) (s .pre .1 .0 .1) (s .pre .1 .0 .2) (f .before .before .get .ensures) (f .find-kind-ranges .ensures) (ranges s)
+    section-done _ (s .pre .1 .0 .0) (s .pre .1 .0 .1) (s .pre .1 .0 .2) (f .before .before .get .ensures) (f .find-kind-ranges .ensures) (s .args .bound) (ranges s)
     (k .keep-rows .ensures)
     (p .print-kept .ensures)))

@@ -15,11 +15,11 @@ use Rattle.filter.proofs.filter_sections.Statement.{statement}
 use Rattle.filter.proofs.filter_sections.Tie as tie
 
 abbrev Inv-loop : tie.InvT-loop
-Inv-loop tags text words₀ pairs count index used n spare out₀ write lo₀ at₀ words out lo at =
-    Looping (filteredFrom (tagsOf tags) (take count (rangesIn pairs)) text index n) write words₀ words out₀ out index n spare lo at
+Inv-loop tags text words₀ pairs count bound index used n spare out₀ write lo₀ at₀ words out lo at =
+    Looping (filteredFrom (tagsOf tags) bound (take count (rangesIn pairs)) text index n) write words₀ words out₀ out index n spare lo at
 
 abbrev μ-loop : tie.MeasureT-loop
-μ-loop tags text words₀ pairs count index used n spare out₀ write lo₀ at₀ words out lo at = n - lo
+μ-loop tags text words₀ pairs count bound index used n spare out₀ write lo₀ at₀ words out lo at = n - lo
 
 abbrev start : tie.At-loop Inv-loop μ-loop → tie.Start Inv-loop μ-loop
 start l = l .before .before .before .before .before
@@ -37,17 +37,17 @@ filter-sections-spec =
     (λ c κs. let l = c .before .before .before in
     let s = start l in
     let π = s .pre .1 .0 in
-    let δ = filtered-prints _ (ranges s) π in
+    let δ = filtered-prints _ (s .args .bound) (ranges s) π in
     let Λ = l .loop .inv in
     (s .pre .0, ((printable-kept π (Λ .spared), omega arith, loop-header π δ Λ (omega arith)), (s .pre .1 .1 .0, loop-room π δ Λ))))
     (λ c. let p = c .before .before .before .before .filter-section .ensures in omega (arith, p .more, p .most))
     (λ c. let p = c .before .before .before .before in
     let l = p .before .before .before .before in
     let s = start l in
-    loop-next (s .pre .1 .0) (filtered-prints _ (ranges s) (s .pre .1 .0)) (l .loop .inv) (p .filter-section .ensures)
-    (p .filter-section .kept .1 .1 .1 .1 .1 .1 .1 .1 .1 .1 .0))
+    loop-next (s .pre .1 .0) (filtered-prints _ (s .args .bound) (ranges s) (s .pre .1 .0)) (l .loop .inv) (p .filter-section .ensures)
+    (p .filter-section .kept .1 .1 .1 .1 .1 .1 .1 .1 .1 .1 .1 .0))
     (λ c. c .before .loop .inv .spared .words)
     (λ c. c .before .loop .inv .size)
     (λ c. let l = c .before in
     let s = start l in
-    (loop-done (s .pre .1 .0) (filtered-prints _ (ranges s) (s .pre .1 .0)) (l .loop .inv) (omega arith), l .loop .inv .spared)))
+    (loop-done (s .pre .1 .0) (filtered-prints _ (s .args .bound) (ranges s) (s .pre .1 .0)) (l .loop .inv) (omega arith), l .loop .inv .spared)))

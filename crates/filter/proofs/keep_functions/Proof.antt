@@ -39,7 +39,7 @@ keep-functions-spec =
     let ranges = take (s .args .count) (rangesIn (now (s .args .pairs))) in (
       omega (arith, k .keep .ensures .most, u .keep2 .ensures .most),
       (
-        functions-held (s .pre .0) (f .sort-functions .ensures) (f .sort-functions .kept .1 .0) ranges (k .keep .ensures) (u .keep2 .ensures),
-        functions-spared (s .pre .0) (f .sort-functions .ensures) (f .sort-functions .kept .1 .0) ranges (k .keep .ensures) (u .keep2 .ensures),
+        functions-held (s .pre .0) (f .sort-functions .ensures) (f .sort-functions .kept .1 .0) (s .args .bound) ranges (k .keep .ensures) (u .keep2 .ensures),
+        functions-spared (s .pre .0) (f .sort-functions .ensures) (f .sort-functions .kept .1 .0) (s .args .bound) ranges (k .keep .ensures) (u .keep2 .ensures),
       ),
     )))

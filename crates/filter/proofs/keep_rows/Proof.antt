@@ -34,8 +34,8 @@ keep-rows-spec =
     (λ c κs. let f = c .before .before .before in
     let s = start f in
     let ε = f .keep-functions .ensures in
-    let room = branches-room (s .pre .0) (s .pre .1) (ranges s) (ε .0) (ε .1 .1) (ε .1 .0) in
-    ((now (s .args .text), branches-ready (s .pre .0) (s .pre .1) (ranges s) (ε .0) (ε .1 .1) (ε .1 .0)), (room .0, room .1, s .pre .2)))
+    let room = branches-room (s .pre .0) (s .pre .1) (s .args .bound) (ranges s) (ε .0) (ε .1 .1) (ε .1 .0) in
+    ((now (s .args .text), branches-ready (s .pre .0) (s .pre .1) (s .args .bound) (ranges s) (ε .0) (ε .1 .1) (ε .1 .0)), (room .0, room .1, s .pre .2)))
     (λ c. let b = c .before .before in
     let f = named b in
     let s = start f in omega (arith, f .keep-functions .ensures .0, b .keep-held .ensures .most, runs-places (s .pre .0) (s .pre .1)))
@@ -44,8 +44,8 @@ keep-rows-spec =
     let f = named b in
     let s = start f in
     let ε = f .keep-functions .ensures in
-    let room = lines-room (s .pre .0) (s .pre .1) (ranges s) (ε .0) (ε .1 .1) (ε .1 .0) (b .keep-held .ensures) in (
-      (now (s .args .text), lines-ready (s .pre .0) (s .pre .1) (ranges s) (ε .0) (ε .1 .1) (ε .1 .0) (b .keep-held .ensures)),
+    let room = lines-room (s .pre .0) (s .pre .1) (s .args .bound) (ranges s) (ε .0) (ε .1 .1) (ε .1 .0) (b .keep-held .ensures) in (
+      (now (s .args .text), lines-ready (s .pre .0) (s .pre .1) (s .args .bound) (ranges s) (ε .0) (ε .1 .1) (ε .1 .0) (b .keep-held .ensures)),
       (room .0, room .1, s .pre .2),
     ))
     (λ c. search needs)
@@ -54,4 +54,4 @@ keep-rows-spec =
     let f = named b in
     let s = start f in
     let ε = f .keep-functions .ensures in
-    rows-kept (s .pre .0) (s .pre .1) (ranges s) (ε .0) (ε .1 .1) (ε .1 .0) (b .keep-held .ensures) (l .keep-held2 .ensures)))
+    rows-kept (s .pre .0) (s .pre .1) (s .args .bound) (ranges s) (ε .0) (ε .1 .1) (ε .1 .0) (b .keep-held .ensures) (l .keep-held2 .ensures)))

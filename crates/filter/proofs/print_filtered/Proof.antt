@@ -32,13 +32,13 @@ start m = m .before .before .before .before .before .before .before
 
 -- what the length promises
 abbrev measured : (m : tie.After-required-len) → let a = start m .args in
-    Measured (filteredFrom (tagsOf (now (a .tags))) (ranges (start m)) (now (a .text)) (a .index) (a .n))
-    (printSections (tagsOf (now (a .tags))) (map (filterSection (ranges (start m))) (sections (entriesAt (now (a .text)) (now (a .words)) (a .index) (a .n)))))
-    (now (a .words)) (m .required-len .last .1 .1 .0) (now (a .out)) (m .required-len .last .1 .1 .1 .1 .1 .1 .1 .1 .1 .0) (a .n) (a .spare)
+    Measured (filteredFrom (tagsOf (now (a .tags))) (a .bound) (ranges (start m)) (now (a .text)) (a .index) (a .n))
+    (printSections (tagsOf (now (a .tags))) (map (filterSection (a .bound) (ranges (start m))) (sections (entriesAt (now (a .text)) (now (a .words)) (a .index) (a .n)))))
+    (now (a .words)) (m .required-len .last .1 .1 .0) (now (a .out)) (m .required-len .last .1 .1 .1 .1 .1 .1 .1 .1 .1 .1 .0) (a .n) (a .spare)
     (m .required-len .result)
 measured m = let a = start m .args in record {
-  prints = filtered-prints _ (ranges (start m)) (spacious (start m));
-  is = ap (λ (r : Report). printSections (tagsOf (now (a .tags))) (map (filterSection (ranges (start m))) (sections r)))
+  prints = filtered-prints _ (a .bound) (ranges (start m)) (spacious (start m));
+  is = ap (λ (r : Report). printSections (tagsOf (now (a .tags))) (map (filterSection (a .bound) (ranges (start m))) (sections r)))
       (entries-all (now (a .text)) (now (a .words)) (a .index) (a .n));
   spared = m .required-len .ensures .1;
   enough = m .required-len .ensures .0;

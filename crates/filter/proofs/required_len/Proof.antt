@@ -24,7 +24,7 @@ abbrev ranges : tie.Start → List Range
 ranges s = take (s .args .count) (rangesIn (now (s .args .pairs)))
 
 abbrev printed : tie.Start → Bytes
-printed s = filteredFrom (tagsOf (now (s .args .tags))) (ranges s) (now (s .args .text)) (s .args .index) (s .args .n) (now (s .args .words)) 0
+printed s = filteredFrom (tagsOf (now (s .args .tags))) (s .args .bound) (ranges s) (now (s .args .text)) (s .args .index) (s .args .n) (now (s .args .words)) 0
 
 few : (b : tie.After-surely-fits) → length (now (start b .args .out)) * 1 < 2 ^ 63
 few b = omega arith
@@ -38,7 +38,7 @@ required-len-spec =
     (λ c. let b = c .before in
     let s = start b in (
       fits-required _ (now (s .args .text)) (now (s .args .words)) (now (s .args .out)) (printed s)
-          (s .args .index) (s .args .n) (b .surely-fits .result) (c .if1 .taken) (b .surely-fits .ensures) (filtered-most _ (ranges s) (s .pre .1 .0)),
+          (s .args .index) (s .args .n) (b .surely-fits .result) (c .if1 .taken) (b .surely-fits .ensures) (filtered-most _ (s .args .bound) (ranges s) (s .pre .1 .0)),
       spared-none,
     ))
     (λ c κs. let s = start (c .before .before .before) in (s .pre .0, (s .pre .1 .0, (s .pre .1 .1, tt))))

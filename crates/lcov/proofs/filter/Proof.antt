@@ -35,7 +35,7 @@ well l = sym (l .before .before .is-well-formed .ensures) ∙ l .before .if1 .ta
 
 -- what is printed of a report
 abbrev printed : tie.Start → Report → Bytes
-printed s report = printSections (tagsOf (now (s .args .tags))) (map (filterSection (take (s .args .used) (rangesIn (now (s .args .pairs))))) (sections report))
+printed s report = printSections (tagsOf (now (s .args .tags))) (map (filterSection (s .args .bound) (take (s .args .used) (rangesIn (now (s .args .pairs))))) (sections report))
 
 pub filter-spec : {M : Type 1} → statement M
 filter-spec =
@@ -52,7 +52,7 @@ filter-spec =
     let s = start (l .before .before) in
     let a = s .args in
     called (reading-refused _ _ _ _ (l .entry-limit .ensures) _ _ _ (r .read-lines .ensures) (printed s) (now (a .out)) _
-    (filter-means _ (now (a .text)) (rangesIn (now (a .pairs))) (a .used) (length (now (a .scratch))) (now (a .out)) (well l)) _
+    (filter-means _ (a .bound) (now (a .text)) (rangesIn (now (a .pairs))) (a .used) (length (now (a .scratch))) (now (a .out)) (well l)) _
     (c .before .refusal .given .1)))
     (λ c. search needs)
     (λ c κs. search (limit-few, needs))
@@ -72,10 +72,10 @@ filter-spec =
     let s = start (l .before .before) in
     let a = s .args in
     called (reading-printed _ _ _ _ (l .entry-limit .ensures) _ _ _ (r .read-lines .ensures) (printed s) (now (a .out)) _
-    (filter-means _ (now (a .text)) (rangesIn (now (a .pairs))) (a .used) (length (now (a .scratch))) (now (a .out)) (well l)) _ _
+    (filter-means _ (a .bound) (now (a .text)) (rangesIn (now (a .pairs))) (a .used) (length (now (a .scratch))) (now (a .out)) (well l)) _ _
     (k .kept .given .1) _ _ (p .print-filtered .ensures)))
     (λ c κs. search needs)
     (λ c. let e = c .before in
     let a = start (e .before) .args in
-    called (filter-bad _ (now (a .text)) (rangesIn (now (a .pairs))) (a .used) (length (now (a .scratch))) (now (a .out)) _
+    called (filter-bad _ (a .bound) (now (a .text)) (rangesIn (now (a .pairs))) (a .used) (length (now (a .scratch))) (now (a .out)) _
     (sym (e .before .is-well-formed .ensures) ∙ e .if1 .left) (c .unplaced .ensures))))

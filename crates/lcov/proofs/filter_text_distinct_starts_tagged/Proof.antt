@@ -1,0 +1,18 @@
+use borrow.Author.Needs.{needs}
+use Rattle.lcov.proofs.CallLaws.{tags-are, tags-refused, tags-called}
+use Rattle.lcov.proofs.filter_text_distinct_starts_tagged.Statement.{statement}
+use Rattle.lcov.proofs.filter_text_distinct_starts_tagged.Tie as tie
+
+pub filter-text-distinct-starts-tagged-spec : {M : Type 1} → statement M
+filter-text-distinct-starts-tagged-spec =
+    tie.close
+    (tie.spec
+    (λ c κs. search needs)
+    (λ c. search needs)
+    (λ c κs. search needs)
+    (λ c. search needs)
+    (λ c κs. search (tags-are, needs))
+    (λ c. search (tags-refused, needs))
+    (λ c. search needs)
+    (λ c. search needs)
+    (λ c. search (tags-called, needs)))
