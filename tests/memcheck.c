@@ -140,6 +140,11 @@ static uint32_t filter(struct lent *lent)
     return lcov_filter(TEXT, CONST_LIST, SCRATCH, OUT, ANSWER);
 }
 
+static uint32_t filter_distinct_starts(struct lent *lent)
+{
+    return lcov_filter_distinct_starts(TEXT, CONST_LIST, SCRATCH, OUT, ANSWER);
+}
+
 static uint32_t insert_range(struct lent *lent)
 {
     return lcov_insert_range(LIST, lent->in.start, lent->in.end, ANSWER);
@@ -191,6 +196,11 @@ static uint32_t filter_tagged(struct lent *lent)
     return lcov_filter_tagged(TABLE, TEXT, CONST_LIST, SCRATCH, OUT, ANSWER);
 }
 
+static uint32_t filter_distinct_starts_tagged(struct lent *lent)
+{
+    return lcov_filter_distinct_starts_tagged(TABLE, TEXT, CONST_LIST, SCRATCH, OUT, ANSWER);
+}
+
 enum {
     READ_LINE,
     PRINT_LINE,
@@ -200,6 +210,7 @@ enum {
     GATHER_WITH,
     GATHER_LOSSY,
     FILTER,
+    FILTER_DISTINCT_STARTS,
     INSERT_RANGE,
     QUERY_RANGE,
     HALF_OPEN,
@@ -210,6 +221,7 @@ enum {
     GATHER_TAGGED,
     GATHER_LOSSY_TAGGED,
     FILTER_TAGGED,
+    FILTER_DISTINCT_STARTS_TAGGED,
 };
 
 #define BIT(number) (1u << (number))
@@ -230,6 +242,7 @@ static const struct call CALLS[] = {
     [GATHER_WITH] = { "gather_with", gather_with, true, true, true, false, OF_CHECKED },
     [GATHER_LOSSY] = { "gather_lossy", gather_lossy, true, true, true, false, OF_LOSSY },
     [FILTER] = { "filter", filter, true, true, true, false, OF_FILTER },
+    [FILTER_DISTINCT_STARTS] = { "filter_distinct_starts", filter_distinct_starts, true, true, true, false, OF_FILTER },
     [INSERT_RANGE] = { "insert_range", insert_range, false, false, true, true, BIT(0) | BIT(15) | BIT(18) },
     [QUERY_RANGE] = { "query_range", query_range, false, false, true, false, BIT(0) | BIT(18) },
     [HALF_OPEN] = { "half_open", half_open, false, false, true, false, BIT(0) },
@@ -240,6 +253,8 @@ static const struct call CALLS[] = {
     [GATHER_TAGGED] = { "gather_tagged", gather_tagged, true, true, true, false, OF_CHECKED | OF_TAGS },
     [GATHER_LOSSY_TAGGED] = { "gather_lossy_tagged", gather_lossy_tagged, true, true, true, false, OF_LOSSY | OF_TAGS },
     [FILTER_TAGGED] = { "filter_tagged", filter_tagged, true, true, true, false, OF_FILTER | OF_TAGS },
+    [FILTER_DISTINCT_STARTS_TAGGED] = { "filter_distinct_starts_tagged", filter_distinct_starts_tagged, true, true, true, false,
+                                        OF_FILTER | OF_TAGS },
 };
 
 static uint32_t met[COUNT(CALLS)];
@@ -461,8 +476,10 @@ static void ask_text(struct text text, struct text tags)
     struct input in = { .bytes = text, .tags = tags, .list = some_list(), .has_largest = one_in(40) };
     ask_report(READ_TEXT, &in);
     ask_report(FILTER, &in);
+    ask_report(FILTER_DISTINCT_STARTS, &in);
     ask_report(READ_TEXT_TAGGED, &in);
     ask_report(FILTER_TAGGED, &in);
+    ask_report(FILTER_DISTINCT_STARTS_TAGGED, &in);
     free_input(&in);
 }
 
@@ -515,6 +532,51 @@ static void ask_faults(void)
     size_t start = 0;
     ask_bundle(bundle_of(&many, &start, &many.len, 1), default_tags());
     free(many.bytes);
+}
+
+/* Functions of one section, a line, and what a range of that line alone keeps by lcov_filter and by lcov_filter_distinct_starts: SPEC 11.1,
+ * case (k), and starts 3, 3, 3, 7. */
+#define THREE_AND_SEVEN "FN:3,f\nFN:3,g\nFN:3,h\nFN:7,i\n"
+#define SEVENTH "FN:7,i\nFNDA:0,i\nFNF:1\nFNH:0\n"
+static const struct starts {
+    const char *functions;
+    uint32_t line;
+    const char *by_all, *by_distinct;
+} STARTS[] = {
+    { "FN:3,f\nFN:3,g\n", 3, "FN:3,g\nFNDA:0,g\nFNF:1\nFNH:0\n", "FN:3,f\nFN:3,g\nFNDA:0,f\nFNDA:0,g\nFNF:2\nFNH:0\n" },
+    { THREE_AND_SEVEN, 6, "FN:3,h\nFNDA:0,h\nFNF:1\nFNH:0\n",
+      "FN:3,f\nFN:3,g\nFN:3,h\nFNDA:0,f\nFNDA:0,g\nFNDA:0,h\nFNF:3\nFNH:0\n" },
+    { THREE_AND_SEVEN, 7, SEVENTH, SEVENTH },
+};
+
+static void ask_kept(size_t place, const struct input *in, const char *kept)
+{
+    const struct call *call = &CALLS[place];
+    if (!chosen[place])
+        return;
+    struct text printed = { NULL, 0 };
+    put(&printed, "TN:\nSF:a\n%send_of_record\n", kept);
+    struct lent lent = lend(in, (struct room){ enough_words(in), printed.len, LCOV_ANSWER_WORDS }, false);
+    bool is_answered = call->run(&lent) == 0 && lent.answer[0] == printed.len;
+    expect(is_answered && memcmp(lent.out, printed.bytes, printed.len) == 0, call->name, "other functions are kept");
+    calls++;
+    give_back(&lent);
+    free(printed.bytes);
+}
+
+static void ask_starts(void)
+{
+    for (size_t k = 0; k < COUNT(STARTS); k++) {
+        const struct starts *starts = &STARTS[k];
+        struct input in = { .tags = default_tags(), .list = { block(sizeof *in.list.pairs), 1, 1 } };
+        put(&in.bytes, "SF:a\n%send_of_record\n", starts->functions);
+        in.list.pairs[0][0] = in.list.pairs[0][1] = starts->line;
+        ask_kept(FILTER, &in, starts->by_all);
+        ask_kept(FILTER_DISTINCT_STARTS, &in, starts->by_distinct);
+        ask_kept(FILTER_TAGGED, &in, starts->by_all);
+        ask_kept(FILTER_DISTINCT_STARTS_TAGGED, &in, starts->by_distinct);
+        free_input(&in);
+    }
 }
 
 static void ask_texts(void)
@@ -657,6 +719,7 @@ int main(int argc, char **argv)
 
     ask_nothing();
     ask_faults();
+    ask_starts();
     ask_lines();
     ask_numbers();
     ask_lists();

@@ -1,6 +1,6 @@
 //! A build of the port behind the interface.
 
-use crate::interface::{Gatherer, HalfOpen, Lent, Numbers, Port, Ranges, Tagged};
+use crate::interface::{Filter, Gatherer, HalfOpen, Lent, Numbers, Port, Ranges, Starts, Tagged};
 use crate::ranges::List;
 use lcov_sys::Calls;
 
@@ -46,10 +46,18 @@ impl Gatherer for Build {
             .gather_lossy(bundle, lent.scratch, lent.out, lent.answer)
     }
 
-    fn filter_text(&self, text: &[u8], list: &List, lent: Lent) -> u32 {
-        let List { pairs, used } = list;
-        self.0
-            .filter(text, pairs, *used, lent.scratch, lent.out, lent.answer)
+    fn filter_text(&self, asked: Filter, lent: Lent) -> u32 {
+        let Filter { starts, text, list } = asked;
+        let Lent {
+            scratch,
+            out,
+            answer,
+        } = lent;
+        let filter = match starts {
+            Starts::All => Calls::filter,
+            Starts::Distinct => Calls::filter_distinct_starts,
+        };
+        filter(&self.0, text, &list.pairs, list.used, scratch, out, answer)
     }
 }
 
@@ -83,15 +91,27 @@ impl Tagged for Build {
             .gather_lossy_tagged(tags, bundle, lent.scratch, lent.out, lent.answer)
     }
 
-    fn filter_text_tagged(&self, tags: &[u8], text: &[u8], list: &List, lent: Lent) -> u32 {
-        let List { pairs, used } = list;
+    fn filter_text_tagged(&self, tags: &[u8], asked: Filter, lent: Lent) -> u32 {
+        let Filter { starts, text, list } = asked;
         let Lent {
             scratch,
             out,
             answer,
         } = lent;
-        self.0
-            .filter_tagged(tags, text, pairs, *used, scratch, out, answer)
+        let filter = match starts {
+            Starts::All => Calls::filter_tagged,
+            Starts::Distinct => Calls::filter_distinct_starts_tagged,
+        };
+        filter(
+            &self.0,
+            tags,
+            text,
+            &list.pairs,
+            list.used,
+            scratch,
+            out,
+            answer,
+        )
     }
 }
 

@@ -33,6 +33,9 @@ pub enum Basis {
     /// An FN has an end line, which the Rust takes for a part of the name. It is asked about the same without end lines, and these are put in
     /// by what SPEC says of them.
     Ends,
+    /// A filter by distinct starts keeps other functions than the Rust's. The Rust is asked for its own filter, and the reference that agrees
+    /// with it there answers by distinct starts.
+    Starts,
 }
 
 pub struct Expected {

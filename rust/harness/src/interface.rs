@@ -28,6 +28,27 @@ pub struct Lent<'a> {
     pub answer: &'a mut [u64],
 }
 
+/// Which starts end the functions before them that give no end line (SPEC 8.5).
+#[derive(Debug, Clone, Copy, PartialEq, Eq)]
+pub enum Starts {
+    /// The next one, also where it is equal. This is the Rust's rule.
+    All,
+    /// The next greater one.
+    Distinct,
+}
+
+impl Starts {
+    pub const BOTH: [Starts; 2] = [Starts::All, Starts::Distinct];
+}
+
+/// What a filter is asked: of a text, what the list holds.
+#[derive(Clone, Copy)]
+pub struct Filter<'a> {
+    pub starts: Starts,
+    pub text: &'a [u8],
+    pub list: &'a List,
+}
+
 /// The calls on texts and bundles. They print a report to `out`, and leave it alone where they refuse; the scratch is free afterwards.
 pub trait Gatherer {
     fn read_text(&self, text: &[u8], lent: Lent) -> u32;
@@ -40,8 +61,7 @@ pub trait Gatherer {
 
     fn gather_lossy(&self, bundle: &[u8], lent: Lent) -> u32;
 
-    /// Reads a text and keeps what the list holds.
-    fn filter_text(&self, text: &[u8], list: &List, lent: Lent) -> u32;
+    fn filter_text(&self, asked: Filter, lent: Lent) -> u32;
 }
 
 /// The calls that take a table of tags, each as the call without one.
@@ -63,7 +83,7 @@ pub trait Tagged: Port + Gatherer {
 
     fn gather_lossy_tagged(&self, tags: &[u8], bundle: &[u8], lent: Lent) -> u32;
 
-    fn filter_text_tagged(&self, tags: &[u8], text: &[u8], list: &List, lent: Lent) -> u32;
+    fn filter_text_tagged(&self, tags: &[u8], asked: Filter, lent: Lent) -> u32;
 }
 
 /// The calls on lists of ranges.

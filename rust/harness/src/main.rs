@@ -1,5 +1,6 @@
 //! Compares the port with the unchanged Rust on lines, paths, ranges, texts, filters and bundles, and with what include/lcov.h says on
-//! single number fields. Where an FN has an end line, the Rust is asked about the same without end lines, and these are put in here. What takes
+//! single number fields. Where an FN has an end line, the Rust is asked about the same without end lines, and these are put in here. The filter by
+//! distinct starts is compared with a reference that agrees with the Rust by all starts, and with the port's other filter. What takes
 //! a table of tags is compared with the port's own calls without one, on the same in default tags.
 //!
 //!     harness [--seed N] [--minutes M | [--lines N] [--numbers N] [--ranges N] [--reports N] [--tables N]]
@@ -30,9 +31,9 @@ struct Round {
     numbers: u64,
     /// Lists, each filled by a dozen inserts with queries between them.
     ranges: u64,
-    /// Half of them texts, each filtered too, half bundles, each asked checked and lossy.
+    /// Half of them texts, each filtered too, half bundles, each asked checked and lossy. Texts with many equal starts are filtered besides.
     reports: u64,
-    /// Tables of tags, each with lines, a text, which is filtered too, and a bundle.
+    /// Tables of tags, each with lines, a text, which is filtered too, one with many equal starts, filtered alone, and a bundle.
     tables: u64,
 }
 
@@ -160,6 +161,7 @@ impl Run {
             reports.text(&reports::systematic::ascending(entries));
         }
         reports::systematic::replaced(self.seed, &mut |text| reports.text(text));
+        reports::systematic::starts(&mut |text, list| reports.filter(text, list));
         self.recorded_with_tables();
     }
 
@@ -266,6 +268,10 @@ const ORDERS_ONE_IN: usize = 20;
 /// Of how many questions one is a text with a long section.
 const LONG_ONE_IN: usize = 1000;
 
+/// Of how many texts one with many equal starts follows, and the lists by which that is filtered.
+const CROWDED_ONE_IN: usize = 2;
+const LISTS_OF_CROWDED: usize = 3;
+
 /// A text, read and filtered, and a bundle.
 fn random_reports(comparison: &mut reports::compare::Comparison<Build>, rng: &mut Rng) {
     let habit = reports::random::Habit::random(rng);
@@ -273,6 +279,13 @@ fn random_reports(comparison: &mut reports::compare::Comparison<Build>, rng: &mu
     comparison.text(&text);
     comparison.filter(&text, &reports::random::lines_kept(rng));
     comparison.bundle(&reports::random::bundle(rng));
+    if rng.one_in(CROWDED_ONE_IN) {
+        let habit = reports::random::Habit::crowded(rng);
+        let text = reports::random::text(rng, habit);
+        for _ in 0..LISTS_OF_CROWDED {
+            comparison.filter(&text, &reports::random::lines_at_starts(rng));
+        }
+    }
     if rng.one_in(LONG_ONE_IN) {
         comparison.long_text(&reports::long::text(rng));
     }
@@ -299,6 +312,9 @@ fn random_table(comparison: &mut tagged::Comparison<Build>, rng: &mut Rng) {
     let habit = reports::random::Habit::random(rng);
     let text = reports::random::text(rng, habit);
     comparison.text(&table, &text);
+    let habit = reports::random::Habit::crowded(rng);
+    let crowded = reports::random::text(rng, habit);
     comparison.filter(&table, &text, &reports::random::lines_kept(rng));
+    comparison.filter(&table, &crowded, &reports::random::lines_at_starts(rng));
     comparison.bundle(&table, &reports::random::bundle(rng));
 }

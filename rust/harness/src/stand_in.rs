@@ -1,7 +1,7 @@
 //! What the tests' stand-ins for a port share. A stand-in answers as expected, save for one thing that is wrong.
 
 use crate::expected::{printing, Answer};
-use crate::interface::{NEEDED, OUTPUT_TOO_SHORT, WORDS};
+use crate::interface::{Filter, Starts, NEEDED, OUTPUT_TOO_SHORT, WORDS};
 
 /// What a port could do wrong.
 #[derive(Debug, Clone, Copy, PartialEq)]
@@ -50,6 +50,8 @@ pub enum Wrong {
     CheckedIsLossy,
     InnerLimit,
     FilterKeepsAll,
+    AlwaysAllStarts,
+    AlwaysDistinctStarts,
 
     // with tables of tags
     SlotsCompared,
@@ -79,6 +81,16 @@ impl Wrong {
             Wrong::NeededLength,
             Wrong::ExactFitRefused,
         ])
+    }
+
+    /// The filter that is made where this one is asked for.
+    pub fn filter(self, asked: Filter) -> Filter {
+        let starts = match self {
+            Wrong::AlwaysAllStarts => Starts::All,
+            Wrong::AlwaysDistinctStarts => Starts::Distinct,
+            _ => asked.starts,
+        };
+        Filter { starts, ..asked }
     }
 
     /// Prints what is told, and answers.

@@ -86,6 +86,16 @@ calls! {
         answer: &mut [u64]
     ) -> u32;
 
+    /// As [`filter`], but a function that gives no end line ends one before the next greater start.
+    fn filter_distinct_starts = lcov_filter_distinct_starts(
+        text: &[u8],
+        pairs: &[[u32; 2]],
+        used: usize,
+        scratch: &mut [u64],
+        out: &mut [u8],
+        answer: &mut [u64]
+    ) -> u32;
+
     /// Puts a range, from start to end, among the first `used` pairs. The first word is the new number of pairs. Refuses with 15 and 18.
     fn insert_range = lcov_insert_range(pairs: &mut [[u32; 2]], used: usize, start: u32, end: u32, answer: &mut [u64]) -> u32;
 
@@ -131,6 +141,17 @@ calls! {
 
     /// As [`filter`].
     fn filter_tagged = lcov_filter_tagged(
+        tags: &[u8],
+        text: &[u8],
+        pairs: &[[u32; 2]],
+        used: usize,
+        scratch: &mut [u64],
+        out: &mut [u8],
+        answer: &mut [u64]
+    ) -> u32;
+
+    /// As [`filter_distinct_starts`].
+    fn filter_distinct_starts_tagged = lcov_filter_distinct_starts_tagged(
         tags: &[u8],
         text: &[u8],
         pairs: &[[u32; 2]],

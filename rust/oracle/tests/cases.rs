@@ -125,6 +125,17 @@ fn case_k_of_two_starts_on_a_line_the_later_stays() {
     assert_eq!(oracle::filter(text, &[(3, 3)]).map(string).unwrap(), left);
 }
 
+/// Those of one start but the last end before it, whatever start comes then.
+#[test]
+fn of_three_starts_on_a_line_the_last_goes_on() {
+    let text = b"FN:3,f\nFN:3,g\nFN:3,h\nFN:7,i\nend_of_record\n";
+    for (line, left) in [(6, "FN:3,h\nFNDA:0,h\n"), (7, "FN:7,i\nFNDA:0,i\n")] {
+        let left = format!("TN:\nSF:\n{left}FNF:1\nFNH:0\nend_of_record\n");
+        let filtered = oracle::filter(text, &[(line, line)]);
+        assert_eq!(filtered.map(string).unwrap(), left);
+    }
+}
+
 #[test]
 fn case_l_a_text_gathered_with_itself() {
     let text = "TN:a\nSF:m.c\nFN:3,f\nFNDA:2,f\nDA:3,2\nDA:4,0\nend_of_record\n";

@@ -1,6 +1,7 @@
 //! The comparison: each question is asked with several lengths of scratch, output and answer, and all that the port hands back or leaves
 //! alone is held against what is expected.
 
+use super::beside::{misfit, starts_differ};
 use super::expected::{may_refuse, Expected, Told};
 use super::tally::Tally;
 use super::Asked;
@@ -8,7 +9,9 @@ use crate::compare::{shown, BYTES_PAST, MOST_WORDS, THOROUGH_AT_MOST};
 use crate::differences::{Difference, Differences};
 use crate::expected::{printing, refused, Answer};
 use crate::guarded::{self, Left, LentScratch};
-use crate::interface::{Gatherer, INNER_WORDS, MAX_ENTRIES, WORDS, WORDS_PER_ENTRY, WRITTEN};
+use crate::interface::{
+    Filter, Gatherer, Starts, INNER_WORDS, MAX_ENTRIES, WORDS, WORDS_PER_ENTRY, WRITTEN,
+};
 use crate::ranges::List;
 use crate::tally::NUMBERS;
 use crate::Rng;
@@ -26,6 +29,15 @@ struct Lengths {
 }
 
 impl Lengths {
+    /// Enough for any answer.
+    fn ample(asked: Asked) -> Self {
+        Lengths {
+            scratch: Scratch::Words(words_for(asked.bytes().len())),
+            room: 2 * asked.bytes().len() * 64,
+            words: WORDS,
+        }
+    }
+
     fn shown(self) -> String {
         format!(
             "{}, output of {} bytes, answer of {} words",
@@ -95,8 +107,13 @@ impl<P: Gatherer> Comparison<P> {
         self.usual_lengths(asked, &expected);
     }
 
+    /// By all starts and by distinct ones, each for itself and both beside each other.
     pub fn filter(&mut self, text: &[u8], list: &List) {
-        self.ask(Asked::Filter(text, list));
+        let filters = Starts::BOTH.map(|starts| Filter { starts, text, list });
+        for filter in filters {
+            self.ask(Asked::Filter(filter));
+        }
+        self.beside_each_other(text, filters);
     }
 
     pub fn bundle(&mut self, bundle: &[u8]) {
@@ -214,22 +231,48 @@ impl<P: Gatherer> Comparison<P> {
     /// The Rust can't be asked: still no number comes that the call does not have, no refused call writes, and what is written reads
     /// back as itself.
     fn without_the_rust(&mut self, asked: Asked) {
-        let lengths = Lengths {
-            scratch: Scratch::Words(words_for(asked.bytes().len())),
-            room: 2 * asked.bytes().len() * 64,
-            words: WORDS,
-        };
-        let left = self.asked_with(asked, lengths);
-        self.tally
-            .count_call(asked, left.number.min(NUMBERS as u32 - 1));
+        let lengths = Lengths::ample(asked);
+        let left = self.asked_amply(asked);
         if left.number == 0 {
-            let len = left.answer.word(WRITTEN) as usize;
-            let printed = left.out.all()[..len].to_vec();
+            let printed = printed(&left).to_vec();
             self.reading_back(asked, &printed, asked.bytes().len());
         } else if !may_refuse(asked, left.number) || !left.out.holds(&[]) {
             let wanted = "a refusal of the call, nothing written".to_owned();
             self.differ(asked, lengths, wanted, &left);
         }
+    }
+
+    /// The two filters have the same refusals, and what they print fits.
+    fn beside_each_other(&mut self, text: &[u8], filters: [Filter; 2]) {
+        let asked = filters.map(Asked::Filter);
+        let [all, distinct] = asked.map(|asked| self.asked_amply(asked));
+        let wrong = if all.number == 0 && distinct.number == 0 {
+            self.misfit(text, &all, &distinct)
+        } else {
+            self.tally.beside.refused += 1;
+            (!is_same_answer(&all, &distinct)).then_some("the same refusal")
+        };
+        if let Some(wrong) = wrong {
+            let wanted = format!("{wrong}: {} {}", all.number, shown(printed(&all)));
+            self.differ(asked[1], Lengths::ample(asked[1]), wanted, &distinct);
+        }
+    }
+
+    fn misfit(&mut self, text: &[u8], all: &Left, distinct: &Left) -> Option<&'static str> {
+        let read = self.asked_amply(Asked::Text(text));
+        let counts = &mut self.tally.beside;
+        *match starts_differ(printed(&read)) {
+            true => &mut counts.same,
+            false => &mut counts.equal_starts,
+        } += 1;
+        misfit(printed(&read), printed(all), printed(distinct))
+    }
+
+    fn asked_amply(&mut self, asked: Asked) -> Left {
+        let left = self.asked_with(asked, Lengths::ample(asked));
+        self.tally
+            .count_call(asked, left.number.min(NUMBERS as u32 - 1));
+        left
     }
 
     fn asked_with(&mut self, asked: Asked, lengths: Lengths) -> Left {
@@ -242,7 +285,7 @@ impl<P: Gatherer> Comparison<P> {
         self.scratch.call(slices, &mut self.rng, |lent| {
             match (asked, lengths.scratch) {
                 (Asked::Text(text), _) => port.read_text(text, lent),
-                (Asked::Filter(text, list), _) => port.filter_text(text, list, lent),
+                (Asked::Filter(filter), _) => port.filter_text(filter, lent),
                 (Asked::Bundle(Mode::Checked, bundle), Scratch::Inside) => {
                     port.gather(bundle, lent.out, lent.answer)
                 }
@@ -255,7 +298,9 @@ impl<P: Gatherer> Comparison<P> {
     fn differ(&mut self, asked: Asked, lengths: Lengths, wanted: String, left: &Left) {
         let call = match asked {
             Asked::Text(_) => "read text".to_owned(),
-            Asked::Filter(_, list) => format!("filter by {list:?} text"),
+            Asked::Filter(Filter { starts, list, .. }) => {
+                format!("filter by {list:?} and {starts:?} starts text")
+            }
             Asked::Bundle(Mode::Checked, _) => "gather".to_owned(),
             Asked::Bundle(Mode::Lossy, _) => "gather lossy".to_owned(),
         };
@@ -269,6 +314,18 @@ impl<P: Gatherer> Comparison<P> {
                 left.scratch_kept
             ),
         });
+    }
+}
+
+fn is_same_answer(a: &Left, b: &Left) -> bool {
+    a.number == b.number && (0..WORDS).all(|place| a.answer.word(place) == b.answer.word(place))
+}
+
+/// What a call wrote; nothing where it refused.
+fn printed(left: &Left) -> &[u8] {
+    match left.number {
+        0 => &left.out.all()[..left.answer.word(WRITTEN) as usize],
+        _ => &[],
     }
 }
 
@@ -353,11 +410,11 @@ mod tests {
             self.tell_bundle(Mode::Lossy, bundle, lent)
         }
 
-        fn filter_text(&self, text: &[u8], list: &List, mut lent: Lent) -> u32 {
-            let asked = if self.0 == Wrong::FilterKeepsAll && list.held().is_some() {
-                Asked::Text(text)
+        fn filter_text(&self, asked: Filter, mut lent: Lent) -> u32 {
+            let asked = if self.0 == Wrong::FilterKeepsAll && asked.list.held().is_some() {
+                Asked::Text(asked.text)
             } else {
-                Asked::Filter(text, list)
+                Asked::Filter(self.0.filter(asked))
             };
             self.tell(asked, &mut lent)
         }
@@ -379,6 +436,7 @@ mod tests {
             "SF:a\nBRDA:1,0,0,+1\nend_of_record\n",
             "SF:a\nFN:1,2,f\nend_of_record\n",
             "SF:a\nFN:2,1,f\nend_of_record\n",
+            "SF:a\nFN:2,f\nFN:2,g\nend_of_record\n",
         ];
         let wide = crate::reports::systematic::ascending(256);
         let mut comparison = Comparison::new(StandIn(wrong), 1);
@@ -389,6 +447,7 @@ mod tests {
             }
             comparison.filter(texts[0].as_bytes(), &line_two(1));
             comparison.filter(texts[0].as_bytes(), &line_two(2));
+            comparison.filter(texts[6].as_bytes(), &line_two(1));
             comparison.bundle(&bundles::of(&texts[..2]));
             comparison.bundle(&bundles::of(&[texts[0], texts[0]]));
             comparison.bundle(b"");
@@ -415,6 +474,8 @@ mod tests {
             Wrong::CheckedIsLossy,
             Wrong::InnerLimit,
             Wrong::FilterKeepsAll,
+            Wrong::AlwaysAllStarts,
+            Wrong::AlwaysDistinctStarts,
             Wrong::PlusTaken,
             Wrong::EndIsName,
         ];
@@ -424,6 +485,17 @@ mod tests {
                 "{wrong:?} is not seen"
             );
         }
+    }
+
+    #[test]
+    fn what_the_filters_answer_is_counted() {
+        let comparison = compared(Wrong::Nothing);
+        let counts = &comparison.tally.beside;
+        assert!(counts.refused > 0 && counts.same > 0 && counts.equal_starts > 0);
+        assert!(comparison
+            .tally
+            .to_string()
+            .contains("distinct starts, 0 answered"));
     }
 
     /// The starts agree, so that the end lines alone tell.

@@ -1,5 +1,6 @@
 //! What a reading, a filter or a gather must answer: the Rust's answer, and where SPEC 9.1 added a number, the count's. Where an FN has an
-//! end line, the Rust answers to the texts without end lines, and the count has these.
+//! end line, the Rust answers to the texts without end lines, and the count has these. Of a filter by distinct starts, which the Rust lacks,
+//! the count answers; by all starts, the count and the Rust agree on the same text and list.
 
 use super::reference::{
     self, Entries, Sections, SECOND_PATH, SUM_OF_CALLS, SUM_OF_RUNS, TOO_MANY_ENTRIES,
@@ -7,6 +8,7 @@ use super::reference::{
 use super::{bundles, Asked};
 use crate::ends::{self, END_BEFORE_START, END_FIELD, NUMBER_TOO_LARGE};
 use crate::expected::Basis;
+use crate::interface::Filter;
 use crate::plus::SIGNED_NUMBER;
 use crate::ranges::expected::told;
 use oracle::{Fault, Mode, Refusal};
@@ -66,8 +68,8 @@ impl Expected {
 /// A number where the bundle or the list of ranges is not well formed.
 fn texts_of(asked: Asked<'_>) -> Result<Vec<&[u8]>, u32> {
     match asked {
-        Asked::Filter(_, list) if list.held().is_none() => Err(RANGES_NOT_WELL_FORMED),
-        Asked::Text(text) | Asked::Filter(text, _) => Ok(vec![text]),
+        Asked::Filter(filter) if filter.list.held().is_none() => Err(RANGES_NOT_WELL_FORMED),
+        Asked::Text(_) | Asked::Filter(_) => Ok(vec![asked.bytes()]),
         Asked::Bundle(_, bundle) => bundles::decoded(bundle).ok_or(NOT_WELL_FORMED),
     }
 }
@@ -75,15 +77,16 @@ fn texts_of(asked: Asked<'_>) -> Result<Vec<&[u8]>, u32> {
 /// What the count keeps before the filter.
 fn kept(asked: Asked, texts: &[&[u8]], entries: &mut Entries) -> reference::Told {
     match asked {
-        Asked::Text(text) | Asked::Filter(text, _) => reference::read(text, entries),
+        Asked::Text(_) | Asked::Filter(_) => reference::read(asked.bytes(), entries),
         Asked::Bundle(mode, _) => reference::gather(mode, texts, entries),
     }
 }
 
 /// Filtered where that is asked, and printed.
 fn finished(asked: Asked, mut sections: Sections) -> Vec<u8> {
-    if let Asked::Filter(_, list) = asked {
-        reference::filter(&mut sections, &list.pairs[..list.used]);
+    if let Asked::Filter(Filter { starts, list, .. }) = asked {
+        let end_of = reference::end_by(starts);
+        reference::filter(&mut sections, &list.pairs[..list.used], end_of);
     }
     reference::printed(sections)
 }
@@ -105,10 +108,21 @@ fn settled(asked: Asked, texts: &[&[u8]], counted: reference::Told) -> (Told, Ba
             (Err(refusal), basis)
         }
         counted => {
-            let rust = rust(asked, &plain);
+            let asked_there = asked.of_the_rust();
+            let rust = rust(asked_there, &plain);
             let without = counted.clone().map(reference::without_ends);
-            assert_agreed(without.map(|sections| finished(asked, sections)), rust);
-            (counted.map(|sections| finished(asked, sections)), basis)
+            assert_agreed(
+                without.map(|sections| finished(asked_there, sections)),
+                rust,
+            );
+            let by_all = counted.clone();
+            let by_all = by_all.map(|sections| finished(asked_there, sections));
+            let told = counted.map(|sections| finished(asked, sections));
+            let basis = match told == by_all {
+                true => basis,
+                false => Basis::Starts,
+            };
+            (told, basis)
         }
     }
 }
@@ -116,7 +130,9 @@ fn settled(asked: Asked, texts: &[&[u8]], counted: reference::Told) -> (Told, Ba
 fn rust(asked: Asked, texts: &[&[u8]]) -> Result<Vec<u8>, Fault> {
     match asked {
         Asked::Text(_) => oracle::read_text(texts[0]).map(oracle::print_report),
-        Asked::Filter(_, list) => oracle::filter(texts[0], &told(&list.pairs[..list.used])),
+        Asked::Filter(Filter { list, .. }) => {
+            oracle::filter(texts[0], &told(&list.pairs[..list.used]))
+        }
         Asked::Bundle(mode, _) => oracle::gather(mode, texts),
     }
 }
@@ -186,6 +202,7 @@ pub fn may_refuse(asked: Asked, number: u32) -> bool {
 #[cfg(test)]
 mod tests {
     use super::*;
+    use crate::interface::Starts;
     use crate::ranges::List;
 
     const MAX: &[u8] = b"FNDA:18446744073709551615,f\nDA:1,18446744073709551615\nend_of_record\n";
@@ -353,6 +370,11 @@ mod tests {
         assert_eq!(starts(Some(gathered(Mode::Lossy, &differ))), "FN:2,9,f");
     }
 
+    fn filter<'a>(starts: Starts, text: &'a str, list: &'a List) -> Asked<'a> {
+        let text = text.as_bytes();
+        Asked::Filter(Filter { starts, text, list })
+    }
+
     #[test]
     fn the_filter_uses_the_end_line() {
         for (lines, range, expected) in [
@@ -369,8 +391,83 @@ mod tests {
                 used: 1,
             };
             let text = text_of(lines);
-            let told = starts(Expected::of(Asked::Filter(text.as_bytes(), &list)));
-            assert_eq!(told, expected, "{lines}");
+            let asked = filter(Starts::All, &text, &list);
+            assert_eq!(starts(Expected::of(asked)), expected, "{lines}");
+        }
+    }
+
+    /// What stays by all starts, and by distinct ones.
+    #[test]
+    fn the_filter_by_distinct_starts() {
+        let three = "FN:3,f FN:3,g FN:3,h";
+        for (lines, range, all, distinct) in [
+            ("FN:3,f FN:3,g", [3, 3], "FN:3,g", "FN:3,f FN:3,g"),
+            ("FN:3,f FN:3,g FN:3,h FN:7,i", [6, 6], "FN:3,h", three),
+            ("FN:3,f FN:3,g FN:3,h FN:7,i", [7, 7], "FN:7,i", "FN:7,i"),
+            ("FN:3,f FN:3,g FN:3,h FN:7,i", [2, 2], "", ""),
+            // a function with an end line of its own ends those before it, and not itself
+            ("FN:3,f FN:3,9,g FN:5,6,h", [7, 7], "FN:3,9,g", "FN:3,9,g"),
+            ("FN:3,f FN:3,3,g", [9, 9], "", "FN:3,f"),
+            ("FN:3,3,f FN:3,g", [9, 9], "FN:3,g", "FN:3,g"),
+            // without a start there is nothing to end
+            ("FN:3,f FNDA:1,g", [9, 9], "FN:3,f", "FN:3,f"),
+            (
+                "FN:0,f FN:0,g FN:1,h",
+                [0, 0],
+                "FN:0,f FN:0,g",
+                "FN:0,f FN:0,g",
+            ),
+            ("FN:0,f FN:0,g", [1, 1], "FN:0,g", "FN:0,f FN:0,g"),
+            (
+                "FN:4294967295,f FN:4294967295,g",
+                [u32::MAX, u32::MAX],
+                "FN:4294967295,g",
+                "FN:4294967295,f FN:4294967295,g",
+            ),
+        ] {
+            let list = List {
+                pairs: vec![range],
+                used: 1,
+            };
+            let text = text_of(lines);
+            let told = Starts::BOTH.map(|by| starts(Expected::of(filter(by, &text, &list))));
+            assert_eq!(told, [all, distinct], "{lines}");
+        }
+    }
+
+    /// Starts of another section end nothing.
+    #[test]
+    fn starts_are_those_of_one_section() {
+        let text = "SF:a\nFN:3,f\nend_of_record\nSF:b\nFN:5,g\nend_of_record\n";
+        let list = List {
+            pairs: vec![[6, 6]],
+            used: 1,
+        };
+        for by in Starts::BOTH {
+            let expected = Expected::of(filter(by, text, &list));
+            assert_eq!(starts(expected), "FN:3,f FN:5,g");
+        }
+    }
+
+    #[test]
+    fn other_functions_by_distinct_starts_are_kept_apart() {
+        let basis = |by, lines: &str| {
+            let list = List {
+                pairs: vec![[3, 3]],
+                used: 1,
+            };
+            let text = text_of(lines);
+            Expected::of(filter(by, &text, &list)).unwrap().basis
+        };
+        for (lines, bases) in [
+            ("FN:3,f FN:3,g", [Basis::Rust, Basis::Starts]),
+            ("FN:3,f FN:4,g", [Basis::Rust; 2]),
+            ("FN:4,f FN:4,g", [Basis::Rust; 2]),
+            ("FN:3,3,f FN:3,g", [Basis::Ends; 2]),
+            ("FN:3,f FN:3,3,g", [Basis::Ends, Basis::Starts]),
+            ("DA:+1,1", [Basis::Refusal; 2]),
+        ] {
+            assert_eq!(Starts::BOTH.map(|by| basis(by, lines)), bases, "{lines}");
         }
     }
 

@@ -21,6 +21,8 @@ const LARGE: [&str; 5] = [
     "9223372036854775807",
     "1",
 ];
+/// Few, so that many functions share one; the ends of what a start may be among them.
+const CROWDED: [usize; 7] = [3, 7, 0, 4, u32::MAX as usize, 1, u32::MAX as usize - 1];
 /// What stands between FN's first two commas and is no end line.
 const NO_ENDS: [&str; 6] = ["", "+2", " 2", "2x", "4294967296x", "-"];
 const CHECKSUMS: [&str; 4] = ["c1", "c2", "", "-"];
@@ -41,6 +43,8 @@ pub struct Habit {
     agreeing: bool,
     /// Many FN have an end line.
     ends: bool,
+    /// Most items are functions, and many start on one line.
+    crowded: bool,
     /// Lines and branches have any number, so that there are many of them.
     spread: bool,
     sections: usize,
@@ -58,12 +62,24 @@ impl Habit {
             large: rng.one_in(4),
             agreeing: !rng.one_in(3),
             ends: rng.one_in(ENDS_ONE_IN),
+            crowded: false,
             spread,
             sections: 1 + rng.below(3),
             items: if spread { 24 } else { 10 },
             tests: 1 + rng.below(TESTS.len()),
             paths: 1 + rng.below(PATHS.len()),
             names: 1 + rng.below(NAMES.len()),
+        }
+    }
+
+    /// For a filter: of functions that start on one line.
+    pub fn crowded(rng: &mut Rng) -> Self {
+        Habit {
+            ends: rng.one_in(3),
+            crowded: true,
+            spread: true,
+            items: 6 + rng.below(24),
+            ..Habit::random(rng)
         }
     }
 }
@@ -123,12 +139,15 @@ fn source_file(rng: &mut Rng, habit: Habit) -> String {
 }
 
 /// The first ones come more often than the others.
-fn few(rng: &mut Rng, among: &[&'static str]) -> &'static str {
+fn few<T: Copy>(rng: &mut Rng, among: &[T]) -> T {
     let past = 1 + rng.below(among.len());
     among[rng.below(past)]
 }
 
 fn item(rng: &mut Rng, habit: Habit) -> String {
+    if habit.crowded && rng.one_in(2) {
+        return function(rng, habit);
+    }
     match rng.below(12) {
         0..3 => function(rng, habit),
         3..5 => calls(rng, habit),
@@ -149,7 +168,9 @@ fn name(rng: &mut Rng, habit: Habit) -> String {
 fn function(rng: &mut Rng, habit: Habit) -> String {
     let name = name(rng, habit);
     // of few starts, so that some are those of other names
-    let start = if habit.agreeing && !rng.one_in(40) {
+    let start = if habit.crowded {
+        few(rng, &CROWDED)
+    } else if habit.agreeing && !rng.one_in(40) {
         name.len() % 3
     } else {
         rng.below(3)
@@ -171,7 +192,7 @@ fn end_line(rng: &mut Rng, start: usize) -> String {
         3 => format!("{:030}{}", 0, start + 1),
         // the name begins as an end line does
         4 => format!("{},{start}", start + 3),
-        _ => (start + rng.below(4)).to_string(),
+        _ => (start + rng.below(4)).min(u32::MAX as usize).to_string(),
     };
     format!("{end},")
 }
@@ -303,18 +324,37 @@ pub fn lines_kept(rng: &mut Rng) -> List {
     let mut list = ranges::random::empty_list(rng);
     for _ in 0..rng.below(4) {
         let (start, end) = ranges::random::range(rng);
-        let (answer, pairs) = ranges::expected::insert(&list, start, end);
-        if answer.number == 0 {
-            list = List {
-                pairs,
-                used: answer.words[0] as usize,
-            };
-        }
+        put(&mut list, start, end);
     }
     if rng.one_in(12) {
         ranges::random::damage(rng, &mut list);
     }
     list
+}
+
+/// For a text with many equal starts: a line or two beside one of these, or any ranges.
+pub fn lines_at_starts(rng: &mut Rng) -> List {
+    if rng.one_in(3) {
+        return lines_kept(rng);
+    }
+    let mut list = List::of_room(2);
+    for _ in 0..1 + rng.below(2) {
+        let start = few(rng, &CROWDED) + rng.below(3);
+        let start = start.saturating_sub(1).min(u32::MAX as usize) as u32;
+        put(&mut list, start, start.saturating_add(rng.below(2) as u32));
+    }
+    list
+}
+
+/// Inserts a range, unless the list is full.
+fn put(list: &mut List, start: u32, end: u32) {
+    let (answer, pairs) = ranges::expected::insert(list, start, end);
+    if answer.number == 0 {
+        *list = List {
+            pairs,
+            used: answer.words[0] as usize,
+        };
+    }
 }
 
 // ---- bundles
@@ -425,9 +465,10 @@ mod tests {
     use super::*;
     use crate::ends::{taken_out, END_BEFORE_START};
     use crate::expected::Basis;
+    use crate::interface::{Filter, Starts};
     use crate::plus::SIGNED_NUMBER;
     use crate::reports::expected::{Expected, NOT_WELL_FORMED, RANGES_NOT_WELL_FORMED};
-    use crate::reports::reference::SECOND_PATH;
+    use crate::reports::reference::{self, EndOf, Entries, SECOND_PATH};
     use crate::reports::Asked;
     use oracle::Mode;
     use std::collections::HashSet;
@@ -463,7 +504,7 @@ mod tests {
             match Expected::of(Asked::Text(&text)).map(|expected| expected.basis) {
                 Some(Basis::Refusal) => counts[0] += 1,
                 Some(Basis::Ends) => counts[1] += 1,
-                Some(Basis::Rust) | None => {}
+                Some(Basis::Rust | Basis::Starts) | None => {}
             }
         }
         for apart in counts {
@@ -471,20 +512,26 @@ mod tests {
         }
     }
 
+    fn filter<'a>(starts: Starts, text: &'a [u8], list: &'a List) -> Asked<'a> {
+        Asked::Filter(Filter { starts, text, list })
+    }
+
     #[test]
     fn filters_meet_every_refusal_of_a_filter() {
-        let met = numbers(|rng| {
-            let habit = Habit::random(rng);
-            let text = text(rng, habit);
-            Expected::of(Asked::Filter(&text, &lines_kept(rng)))
-        });
         let others = [
             RANGES_NOT_WELL_FORMED,
             SIGNED_NUMBER,
             END_BEFORE_START,
             SECOND_PATH,
         ];
-        assert_eq!(met, HashSet::from_iter((0..=9).chain(others)));
+        for habit in [Habit::random, Habit::crowded] {
+            let met = numbers(|rng| {
+                let habit = habit(rng);
+                let text = text(rng, habit);
+                Expected::of(filter(Starts::Distinct, &text, &lines_kept(rng)))
+            });
+            assert_eq!(met, HashSet::from_iter((0..=9).chain(others)));
+        }
     }
 
     #[test]
@@ -526,7 +573,8 @@ mod tests {
         for _ in 0..20_000 {
             let habit = Habit::random(&mut rng);
             let (text, list) = (text(&mut rng, habit), lines_kept(&mut rng));
-            let told = Expected::of(Asked::Filter(&text, &list)).map(|expected| expected.told);
+            let asked = filter(Starts::All, &text, &list);
+            let told = Expected::of(asked).map(|expected| expected.told);
             let pairs = list.held().map(ranges::expected::told);
             if let (Some(Ok(own)), Some(pairs)) = (told, pairs) {
                 let reckoned = oracle::filter(&taken_out(&text), &pairs).unwrap();
@@ -535,6 +583,48 @@ mod tests {
             }
         }
         assert!(counts.iter().all(|&count| count > 20), "{counts:?}");
+    }
+
+    /// The end at the next greater start itself, and that of a filter which looks no further than the next function but one.
+    const WRONG_ENDS: [EndOf; 2] = [
+        |start, behind| {
+            let next = behind.iter().find(|&&next| next > start);
+            next.copied().unwrap_or(u32::MAX)
+        },
+        |start, behind| {
+            let next = behind.iter().take(2).find(|&&next| next > start);
+            next.map_or(u32::MAX, |next| next - 1)
+        },
+    ];
+
+    /// Other functions stay by another rule: that of all starts, or a wrong one.
+    #[test]
+    fn rules_differ_on_crowded_texts() {
+        let mut rng = Rng::new(5);
+        let [all, distinct] = Starts::BOTH.map(reference::end_by);
+        let rules = [&[distinct, all], &WRONG_ENDS[..]].concat();
+        let mut counts = [0; 4];
+        for _ in 0..10_000 {
+            let habit = Habit::crowded(&mut rng);
+            let (text, list) = (text(&mut rng, habit), lines_at_starts(&mut rng));
+            if std::str::from_utf8(&text).is_err() {
+                continue;
+            }
+            let read = reference::read(&text, &mut Entries::limited(usize::MAX));
+            if let (Ok(sections), Some(pairs)) = (read, list.held()) {
+                let kept = |end_of: &EndOf| {
+                    let mut sections = sections.clone();
+                    reference::filter(&mut sections, pairs, *end_of);
+                    reference::printed(sections)
+                };
+                let kept: Vec<Vec<u8>> = rules.iter().map(kept).collect();
+                for (count, other) in counts.iter_mut().zip(&kept) {
+                    *count += usize::from(*other != kept[0]);
+                }
+            }
+        }
+        assert_eq!(counts[0], 0);
+        assert!(counts[1..].iter().all(|&count| count > 200), "{counts:?}");
     }
 
     fn functions(printed: &[u8]) -> usize {

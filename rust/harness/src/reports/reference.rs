@@ -4,6 +4,7 @@
 //! The maps are the Rust's, so that keys are its keys; what is done with them is written here from SPEC 3 alone.
 
 use crate::ends::{self, Read};
+use crate::interface::Starts;
 use oracle::report::section::{branch, function, line, Key, Value};
 use oracle::{Fault, Mode, Record, Refusal, Report};
 use std::collections::btree_map::{BTreeMap, Entry};
@@ -219,11 +220,28 @@ fn take_item(open: &mut Value, record: Record) -> Result<(), u32> {
 
 // ---- filtering
 
+/// The end of a function that gives none, by its start and the starts behind it in printing order.
+pub type EndOf = fn(u32, &[u32]) -> u32;
+
+pub fn end_by(starts: Starts) -> EndOf {
+    match starts {
+        Starts::All => |_, behind| before(behind.first()),
+        Starts::Distinct => {
+            |start, behind| before(behind.iter().filter(|&&next| next > start).min())
+        }
+    }
+}
+
+/// 0 stays 0.
+fn before(next: Option<&u32>) -> u32 {
+    next.map_or(u32::MAX, |next| next.saturating_sub(1))
+}
+
 /// Keeps what the pairs hold, in each section; a section that is emptied stays.
-pub fn filter(sections: &mut Sections, pairs: &[[u32; 2]]) {
+pub fn filter(sections: &mut Sections, pairs: &[[u32; 2]], end_of: EndOf) {
     let is_held = |from: u32, to: u32| pairs.iter().any(|&[start, end]| start <= to && end >= from);
     for section in sections.values_mut() {
-        let gone = functions_that_go(section, is_held);
+        let gone = functions_that_go(section, is_held, end_of);
         let value = &mut section.value;
         value.functions.retain(|key, _| !gone.contains(&key.name));
         value.branches.retain(|key, _| is_held(key.line, key.line));
@@ -232,8 +250,12 @@ pub fn filter(sections: &mut Sections, pairs: &[[u32; 2]]) {
 }
 
 /// Those without a start; and in printing order, by start and then name, those whose lines up to their end are not held: their own end line,
-/// or what is before the next start.
-fn functions_that_go(section: &Section, is_held: impl Fn(u32, u32) -> bool) -> Vec<String> {
+/// or else the one that is reckoned.
+fn functions_that_go(
+    section: &Section,
+    is_held: impl Fn(u32, u32) -> bool,
+    end_of: EndOf,
+) -> Vec<String> {
     let mut started = Vec::new();
     let mut gone = Vec::new();
     for (key, value) in &section.value.functions {
@@ -243,10 +265,10 @@ fn functions_that_go(section: &Section, is_held: impl Fn(u32, u32) -> bool) -> V
         }
     }
     started.sort();
+    let starts: Vec<u32> = started.iter().map(|&(start, _)| start).collect();
     for (place, (start, name)) in started.iter().enumerate() {
-        let next = started.get(place + 1);
-        let before_next = next.map_or(u32::MAX, |(next, _)| next.saturating_sub(1));
-        let end = section.ends.get(name).copied().unwrap_or(before_next);
+        let reckoned = end_of(*start, &starts[place + 1..]);
+        let end = section.ends.get(name).copied().unwrap_or(reckoned);
         if !is_held(*start, end) {
             gone.push(name.clone());
         }

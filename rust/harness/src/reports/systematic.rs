@@ -1,7 +1,9 @@
-//! Bundles and texts that every run asks: all short sequences of a few texts, the limits on texts, entries and counts, and sections that come again.
+//! Bundles and texts that every run asks: all short sequences of a few texts, the limits on texts, entries and counts, and sections that come
+//! again; and filters of all sections of a few functions.
 
 use super::bundles::{self, MAX_TEXTS};
 use super::workloads;
+use crate::ranges::List;
 use crate::Rng;
 
 /// Each meets some of the others: in a path spelled otherwise, a start, end or checksum given or not, a sum near 2^64, or a fault.
@@ -92,6 +94,61 @@ pub fn replaced(seed: u64, visit: &mut dyn FnMut(&[u8])) {
         for lines in 1..=6 {
             visit(&workloads::replaced(&mut rng, entries, lines));
         }
+    }
+}
+
+/// What is said of a function, without its name: nothing of its start, starts at both ends, and equal ones with an end line and without.
+const FUNCTIONS: [&str; 8] = [
+    "FNDA:1,",
+    "FN:0,",
+    "FN:3,",
+    "FN:3,3,",
+    "FN:3,6,",
+    "FN:7,",
+    "FN:4294967294,",
+    "FN:4294967295,",
+];
+
+const NAMES: [&str; 4] = ["a", "b", "c", "d"];
+
+/// The ranges of each list.
+const KEPT: [&[[u32; 2]]; 11] = [
+    &[],
+    &[[0, 0]],
+    &[[2, 2]],
+    &[[3, 3]],
+    &[[6, 6]],
+    &[[7, 7]],
+    &[[2, 3]],
+    &[[6, 7]],
+    &[[0, 0], [4, 5], [8, 8]],
+    &[[u32::MAX - 1, u32::MAX - 1]],
+    &[[u32::MAX, u32::MAX]],
+];
+
+/// Each section of up to four functions of these, with each list.
+pub fn starts(visit: &mut dyn FnMut(&[u8], &List)) {
+    let lists = KEPT.map(|ranges| List {
+        pairs: ranges.to_vec(),
+        used: ranges.len(),
+    });
+    sections_of(&mut Vec::new(), &mut |text| {
+        for list in &lists {
+            visit(text, list);
+        }
+    });
+}
+
+fn sections_of(begun: &mut Vec<String>, visit: &mut dyn FnMut(&[u8])) {
+    let lines = begun.concat();
+    visit(format!("SF:a\n{lines}DA:3,1\nend_of_record\n").as_bytes());
+    let Some(name) = NAMES.get(begun.len()) else {
+        return;
+    };
+    for function in FUNCTIONS {
+        begun.push(format!("{function}{name}\n"));
+        sections_of(begun, visit);
+        begun.pop();
     }
 }
 

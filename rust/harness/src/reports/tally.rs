@@ -3,11 +3,12 @@
 use super::expected::Told;
 use super::Asked;
 use crate::expected::Basis;
+use crate::interface::Starts;
 use crate::tally::{numbered, row, rows, NAMES, NUMBERS};
 use oracle::Mode;
 use std::fmt;
 
-const QUESTIONS: usize = 4;
+const QUESTIONS: usize = 5;
 
 #[derive(Default)]
 pub struct Tally {
@@ -21,18 +22,36 @@ pub struct Tally {
     apart: [[u64; QUESTIONS]; NUMBERS],
     /// Questions with an end line, which the Rust does not know, by the number of their answer.
     with_end: [[u64; QUESTIONS]; NUMBERS],
+    /// Filters by distinct starts that keep other functions than the Rust's filter, by the number of their answer.
+    by_starts: [[u64; QUESTIONS]; NUMBERS],
     /// Questions asked with every length of scratch, output and answer.
     pub thorough: u64,
     /// Written texts that were read back.
     pub read_back: u64,
+    /// What the two filters print, held against each other.
+    pub beside: Beside,
+}
+
+/// Pairs of filters of one text and one list.
+#[derive(Default)]
+pub struct Beside {
+    /// Both with one refusal.
+    pub refused: u64,
+    /// The starts of each section differ, so that both print the same.
+    pub same: u64,
+    /// Two functions of a section have one start.
+    pub equal_starts: u64,
 }
 
 fn column(asked: Asked) -> usize {
     match asked {
         Asked::Text(_) => 0,
-        Asked::Filter(..) => 1,
-        Asked::Bundle(Mode::Checked, _) => 2,
-        Asked::Bundle(Mode::Lossy, _) => 3,
+        Asked::Filter(filter) => match filter.starts {
+            Starts::All => 1,
+            Starts::Distinct => 2,
+        },
+        Asked::Bundle(Mode::Checked, _) => 3,
+        Asked::Bundle(Mode::Lossy, _) => 4,
     }
 }
 
@@ -47,6 +66,7 @@ impl Tally {
             Basis::Rust => &mut self.asked,
             Basis::Refusal => &mut self.apart,
             Basis::Ends => &mut self.with_end,
+            Basis::Starts => &mut self.by_starts,
         };
         counts[number(told)][column(asked)] += 1;
     }
@@ -66,8 +86,8 @@ impl Tally {
     }
 
     pub fn asked(&self) -> u64 {
-        let apart = self.apart.iter().chain(&self.with_end);
-        self.questions() + apart.flatten().sum::<u64>()
+        let apart = [&self.apart, &self.with_end, &self.by_starts];
+        self.questions() + apart.into_iter().flatten().flatten().sum::<u64>()
     }
 
     pub fn calls(&self) -> u64 {
@@ -81,7 +101,11 @@ impl Tally {
 
 /// A row for each number, under the names of the columns.
 fn table(f: &mut fmt::Formatter, what: &str, counts: &[[u64; QUESTIONS]; NUMBERS]) -> fmt::Result {
-    row(f, what, &["texts", "filters", "checked", "lossy"])?;
+    row(
+        f,
+        what,
+        &["texts", "filters", "distinct", "checked", "lossy"],
+    )?;
     for (number, (name, counts)) in NAMES.iter().zip(counts).enumerate() {
         if number == 0 {
             row(f, name, counts)?;
@@ -98,6 +122,7 @@ impl fmt::Display for Tally {
         row(f, "outside", &self.outside)?;
         numbered(f, "apart", self.apart)?;
         numbered(f, "end line", self.with_end)?;
+        numbered(f, "distinct starts", self.by_starts)?;
         rows(
             f,
             &[
@@ -112,6 +137,9 @@ impl fmt::Display for Tally {
             &[
                 ("calls", self.calls()),
                 ("  of them reading back", self.read_back),
+                ("both filters, refused", self.beside.refused),
+                ("both filters, starts differ", self.beside.same),
+                ("both filters, equal starts", self.beside.equal_starts),
             ],
         )
     }

@@ -125,6 +125,17 @@ pub fn functions(rng: &mut Rng, order: Order, entries: usize) -> Vec<u8> {
     text.into_bytes()
 }
 
+/// One file of so many functions with a start and a count. `start` tells the start of each, from 1.
+pub fn functions_starting(many: usize, start: impl Fn(usize) -> usize) -> Vec<u8> {
+    let mut text = "TN:utterances\nSF:decoder/lattice.cc\n".to_owned();
+    for function in 1..=many {
+        text.push_str(&format!("FN:{},score_{function:06}\n", start(function)));
+        text.push_str(&format!("FNDA:{function},score_{function:06}\n"));
+    }
+    text.push_str("end_of_record\n");
+    text.into_bytes()
+}
+
 /// So many texts of so many entries each, all with the same keys.
 pub fn same_keys(texts: usize, entries: usize) -> Vec<u8> {
     let text = section("decoder/lattice.cc", 1..entries);
@@ -195,6 +206,8 @@ mod tests {
         assert_eq!(sections, 4 * 250);
         let functions = functions(&mut Rng::new(1), Order::Ascending, 1000);
         assert_eq!(entries(Asked::Text(&functions)), 1000 / 41 * 41);
+        let one_start = functions_starting(1000, |_| 4);
+        assert_eq!(entries(Asked::Text(&one_start)), 1001);
         let bundled = |bundle: &[u8]| entries(Asked::Bundle(Mode::Checked, bundle));
         assert_eq!(bundled(&same_keys(5, 100)), 100);
         assert_eq!(bundled(&no_shared_keys(5, 100)), 500);

@@ -8,7 +8,8 @@ use crate::differences::{Difference, Differences};
 use crate::expected::{printing, Answer};
 use crate::guarded::{Left, Lengths, LentScratch};
 use crate::interface::{
-    Lent, Tagged, MAX_ENTRIES, NEEDED, OUTPUT_TOO_SHORT, START, WORDS, WORDS_PER_ENTRY, WRITTEN,
+    Filter, Lent, Starts, Tagged, MAX_ENTRIES, NEEDED, OUTPUT_TOO_SHORT, START, WORDS,
+    WORDS_PER_ENTRY, WRITTEN,
 };
 use crate::ranges::List;
 use crate::reports;
@@ -31,8 +32,10 @@ enum Asked<'a> {
     Report(reports::Asked<'a>),
 }
 
-const CALLS: usize = 6;
-const CALL_NAMES: [&str; CALLS] = ["read", "print", "texts", "filters", "checked", "lossy"];
+const CALLS: usize = 7;
+const CALL_NAMES: [&str; CALLS] = [
+    "read", "print", "texts", "filters", "distinct", "checked", "lossy",
+];
 
 impl<'a> Asked<'a> {
     fn bytes(self) -> &'a [u8] {
@@ -52,7 +55,10 @@ impl<'a> Asked<'a> {
             Asked::Print(_) => Asked::Print(bytes),
             Asked::Report(asked) => Asked::Report(match asked {
                 reports::Asked::Text(_) => reports::Asked::Text(bytes),
-                reports::Asked::Filter(_, list) => reports::Asked::Filter(bytes, list),
+                reports::Asked::Filter(filter) => reports::Asked::Filter(Filter {
+                    text: bytes,
+                    ..filter
+                }),
                 reports::Asked::Bundle(mode, _) => reports::Asked::Bundle(mode, bytes),
             }),
         }
@@ -79,9 +85,12 @@ impl<'a> Asked<'a> {
             Asked::Read(_) => 0,
             Asked::Print(_) => 1,
             Asked::Report(reports::Asked::Text(_)) => 2,
-            Asked::Report(reports::Asked::Filter(..)) => 3,
-            Asked::Report(reports::Asked::Bundle(Mode::Checked, _)) => 4,
-            Asked::Report(reports::Asked::Bundle(Mode::Lossy, _)) => 5,
+            Asked::Report(reports::Asked::Filter(filter)) => match filter.starts {
+                Starts::All => 3,
+                Starts::Distinct => 4,
+            },
+            Asked::Report(reports::Asked::Bundle(Mode::Checked, _)) => 5,
+            Asked::Report(reports::Asked::Bundle(Mode::Lossy, _)) => 6,
         }
     }
 }
@@ -152,7 +161,10 @@ impl<P: Tagged> Comparison<P> {
     }
 
     pub fn filter(&mut self, table: &[u8], text: &[u8], list: &List) {
-        self.ask(table, Asked::Report(reports::Asked::Filter(text, list)));
+        for starts in Starts::BOTH {
+            let filter = Filter { starts, text, list };
+            self.ask(table, Asked::Report(reports::Asked::Filter(filter)));
+        }
     }
 
     pub fn bundle(&mut self, table: &[u8], bundle: &[u8]) {
@@ -321,7 +333,7 @@ impl<P: Tagged> Comparison<P> {
         } = lengths;
         let call = CALL_NAMES[asked.call()];
         let list = match asked {
-            Asked::Report(reports::Asked::Filter(_, list)) => format!(" by {list:?}"),
+            Asked::Report(reports::Asked::Filter(filter)) => format!(" by {:?}", filter.list),
             _ => String::new(),
         };
         self.differences.add(asked.bytes().len(), || Difference {
@@ -347,7 +359,7 @@ fn with_table(port: &impl Tagged, table: &[u8], asked: Asked, lent: Lent) -> u32
         Asked::Read(line) => port.read_line_tagged(table, line, lent.answer),
         Asked::Print(line) => port.print_line_tagged(table, line, lent.out, lent.answer),
         Asked::Report(Text(text)) => port.read_text_tagged(table, text, lent),
-        Asked::Report(Filter(text, list)) => port.filter_text_tagged(table, text, list, lent),
+        Asked::Report(Filter(filter)) => port.filter_text_tagged(table, filter, lent),
         Asked::Report(Bundle(Mode::Checked, bundle)) => port.gather_tagged(table, bundle, lent),
         Asked::Report(Bundle(Mode::Lossy, bundle)) => port.gather_lossy_tagged(table, bundle, lent),
     }
@@ -359,7 +371,7 @@ fn without_table(port: &impl Tagged, asked: Asked, lent: Lent) -> u32 {
         Asked::Read(line) => port.read_line(line, lent.answer),
         Asked::Print(line) => port.print_line(line, lent.out, lent.answer),
         Asked::Report(Text(text)) => port.read_text(text, lent),
-        Asked::Report(Filter(text, list)) => port.filter_text(text, list, lent),
+        Asked::Report(Filter(filter)) => port.filter_text(filter, lent),
         Asked::Report(Bundle(Mode::Checked, bundle)) => port.gather_with(bundle, lent),
         Asked::Report(Bundle(Mode::Lossy, bundle)) => port.gather_lossy(bundle, lent),
     }
@@ -430,8 +442,8 @@ mod tests {
             answer(reports::Asked::Bundle(Mode::Lossy, bundle), lent)
         }
 
-        fn filter_text(&self, text: &[u8], list: &List, lent: Lent) -> u32 {
-            answer(reports::Asked::Filter(text, list), lent)
+        fn filter_text(&self, asked: Filter, lent: Lent) -> u32 {
+            answer(reports::Asked::Filter(asked), lent)
         }
     }
 
@@ -481,7 +493,7 @@ mod tests {
             let tags = self
                 .loaded(table)
                 .map_err(|number| Answer { number, words });
-            let is_bundle = asked.call() > 3;
+            let is_bundle = matches!(asked, Asked::Report(reports::Asked::Bundle(..)));
             if self.0 == Wrong::BundleFirst
                 && is_bundle
                 && bundles::decoded(asked.bytes()).is_none()
@@ -546,8 +558,8 @@ mod tests {
             self.tell(tags, reports::Asked::Bundle(Mode::Lossy, bundle), lent)
         }
 
-        fn filter_text_tagged(&self, tags: &[u8], text: &[u8], list: &List, lent: Lent) -> u32 {
-            self.tell(tags, reports::Asked::Filter(text, list), lent)
+        fn filter_text_tagged(&self, tags: &[u8], asked: Filter, lent: Lent) -> u32 {
+            self.tell(tags, reports::Asked::Filter(self.0.filter(asked)), lent)
         }
     }
 
@@ -557,6 +569,7 @@ mod tests {
             "SF:a\nDA:1,1\nend_of_record\n",
             "SF:a\n",
             "FNx:1\n",
+            "SF:a\nFN:1,f\nFN:1,g\nend_of_record\n",
         ];
         let list = List {
             pairs: vec![[1, 1]],
@@ -570,7 +583,9 @@ mod tests {
             for text in texts {
                 comparison.text(table, text.as_bytes());
             }
-            comparison.filter(table, texts[0].as_bytes(), &list);
+            for text in [texts[0], texts[4]] {
+                comparison.filter(table, text.as_bytes(), &list);
+            }
             comparison.bundle(table, &bundles::of(&texts[..2]));
             comparison.bundle(table, b"");
         }
@@ -600,6 +615,8 @@ mod tests {
             Wrong::DefaultStillRead,
             Wrong::DefaultPrinted,
             Wrong::StartOfDefault,
+            Wrong::AlwaysAllStarts,
+            Wrong::AlwaysDistinctStarts,
         ];
         for wrong in Wrong::of_printing().chain(others) {
             assert!(

@@ -1,13 +1,13 @@
 //! Lists of ranges, queried, and texts filtered by them.
 
-use crate::kept::Kept;
+use crate::compared::filter_row;
 use crate::sides::Sides;
 use crate::table::{grouped, Table, Unit, Work};
-use crate::{rust, SEED};
-use harness::interface::WORDS;
+use crate::SEED;
+use harness::interface::{Filter, Starts, WORDS};
 use harness::ranges::List;
 use harness::reports::workloads::{self, Order};
-use harness::{Gatherer, Ranges, Rng};
+use harness::{Ranges, Rng};
 use oracle::filter::line_num::LineNum;
 use std::hint::black_box;
 
@@ -15,6 +15,13 @@ const QUERIES: usize = 100_000;
 
 /// Of a text that is filtered.
 const ENTRIES: usize = 60_000;
+
+/// Of a text with nothing else.
+const FUNCTIONS: usize = 60_000;
+
+/// Those by which functions are filtered; one of them has the line on which all functions of a text start.
+const FEW: u32 = 10;
+const ONE_START: usize = 4;
 
 pub fn measure(sides: &Sides) {
     let table = Table::new(sides, Unit::MillionsPerSecond);
@@ -27,9 +34,13 @@ pub fn measure(sides: &Sides) {
     let table = Table::new(sides, Unit::Milliseconds);
     for many in [10, 1000] {
         for order in [Order::Ascending, Order::Shuffled] {
-            filter_row(&table, &ranges_of(many), order);
+            order_row(&table, &ranges_of(many), order);
         }
     }
+    let one = workloads::functions_starting(FUNCTIONS, |_| ONE_START);
+    starts_rows(&table, "one start", &one);
+    let own = workloads::functions_starting(FUNCTIONS, |function| function);
+    starts_rows(&table, "distinct starts", &own);
 }
 
 /// Ranges of two lines, two lines apart.
@@ -91,21 +102,34 @@ fn query(port: &impl Ranges, list: &List, times: usize) {
     }
 }
 
-fn filter_row(table: &Table, list: &List, order: Order) {
+fn order_row(table: &Table, list: &List, order: Order) {
     let text = workloads::functions(&mut Rng::new(SEED), order, ENTRIES);
+    let what = format!(
+        "filter {} entries, {}, by {} ranges",
+        grouped(ENTRIES),
+        order.name(),
+        grouped(list.used)
+    );
+    let filter = Filter {
+        starts: Starts::All,
+        text: &text,
+        list,
+    };
+    filter_row(table, &what, filter, &rust_ranges(list));
+}
+
+/// Both filters of the port, each beside the one that the Rust has. Of functions of one start one stays by all starts, and all by distinct ones.
+fn starts_rows(table: &Table, which: &str, text: &[u8]) {
+    let list = &ranges_of(FEW);
     let held = rust_ranges(list);
-    let kept = Kept::roomy(&rust::filter(&text, &held));
-    table.row(Work {
-        what: &format!(
-            "filter {} entries, {}, by {} ranges",
-            grouped(ENTRIES),
-            order.name(),
-            grouped(list.used)
-        ),
-        times: 1,
-        port: &|port| kept.call(|lent| port.filter_text(black_box(&text), list, lent)),
-        rust: &[("", &|| {
-            drop(black_box(rust::filter(black_box(&text), &held)))
-        })],
-    });
+    let what = format!(
+        "filter {} functions of {which} by {FEW} ranges",
+        grouped(FUNCTIONS)
+    );
+    let [all, distinct] = Starts::BOTH.map(|starts| Filter { starts, text, list });
+    filter_row(table, &what, all, &held);
+    if table.sides().has_all_calls() {
+        let what = format!("{what}; Rust by all starts, port by distinct ones");
+        filter_row(table, &what, distinct, &held);
+    }
 }

@@ -54,7 +54,8 @@ impl Sides {
 
 /// Whether an old build may lack the call.
 fn is_added(name: &str) -> bool {
-    name == "lcov_read_number" || name.ends_with("_tagged")
+    const ADDED: [&str; 2] = ["lcov_read_number", "lcov_filter_distinct_starts"];
+    ADDED.contains(&name) || name.ends_with("_tagged")
 }
 
 /// Stands in for such calls, whatever they are lent. Nothing that is measured of two builds makes one.
