@@ -43,6 +43,15 @@ impl Cut {
     }
 }
 
+/// Which starts end the functions before them that give no end line.
+#[derive(Debug, Clone, Copy, PartialEq, Eq)]
+pub enum Starts {
+    /// The next one, also where it is equal.
+    All,
+    /// The next greater one, so that functions of one start end together.
+    Distinct,
+}
+
 /// A list of ranges, as the port joins them.
 struct List {
     pairs: Vec<[u32; 2]>,
@@ -84,7 +93,7 @@ fn line_of(digits: &str) -> Option<u32> {
 }
 
 /// The tracefile with each section of a file that is to be cut cut to all lines that are named for it.
-pub fn keep(joined: Tracefile, cuts: &[Cut]) -> Result<Tracefile, Failure> {
+pub fn keep(joined: Tracefile, cuts: &[Cut], starts: Starts) -> Result<Tracefile, Failure> {
     if cuts.is_empty() {
         return Ok(joined);
     }
@@ -99,7 +108,10 @@ pub fn keep(joined: Tracefile, cuts: &[Cut]) -> Result<Tracefile, Failure> {
     }
     for section in slices.iter().flat_map(|slice| printed_sections(slice)) {
         match ranges.get(&canonical(path_of(section))[..]) {
-            Some(ranges) => kept.extend(cut_to(section, &List::of(ranges), &mut workspace)?),
+            Some(ranges) => {
+                let list = List::of(ranges);
+                kept.extend(cut_to(section, &list, starts, &mut workspace)?);
+            }
             None => kept.extend(section),
         }
     }
@@ -118,10 +130,15 @@ fn paths_of(slices: &[&[u8]]) -> Vec<Vec<u8>> {
 fn cut_to<'a>(
     section: &[u8],
     list: &List,
+    starts: Starts,
     workspace: &'a mut Workspace,
 ) -> Result<&'a [u8], Failure> {
+    let filter = match starts {
+        Starts::All => lcov_sys::filter,
+        Starts::Distinct => lcov_sys::filter_distinct_starts,
+    };
     let call = |scratch: &mut [u64], out: &mut [u8], answer: &mut [u64]| {
-        lcov_sys::filter(section, &list.pairs, list.used, scratch, out, answer)
+        filter(section, &list.pairs, list.used, scratch, out, answer)
     };
     let path = PathBuf::from(OsStr::from_bytes(path_of(section)));
     workspace

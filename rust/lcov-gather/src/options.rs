@@ -2,7 +2,7 @@
 
 use crate::failure::Failure;
 use crate::gathering::{Mode, Reading, ROUND};
-use crate::lines::Cut;
+use crate::lines::{Cut, Starts};
 use crate::meaning::Meaning;
 use crate::rewrite::Rewriting;
 use crate::tag_file;
@@ -56,6 +56,8 @@ pub struct Options {
     /// The numbers of each file are told.
     pub stats: bool,
     pub lines: Vec<Cut>,
+    /// Which starts end a function where lines are kept.
+    pub starts: Starts,
     pub output: Option<PathBuf>,
     pub files: Vec<PathBuf>,
     pub files_from: Option<PathBuf>,
@@ -103,6 +105,7 @@ fn options(mut matches: ArgMatches) -> Result<Options, Failure> {
         quiet: matches.get_flag("quiet"),
         stats: matches.get_flag("stats"),
         lines: cuts.map(|cut| Cut::parse(&cut)).collect::<Result<_, _>>()?,
+        starts: starts(&matches),
         output: output.filter(|path| path.as_os_str() != "-"),
         files: matches
             .remove_many("files")
@@ -129,6 +132,13 @@ fn meaning(matches: &ArgMatches) -> Meaning {
         Meaning::AsWritten
     } else {
         Meaning::Guarded
+    }
+}
+
+fn starts(matches: &ArgMatches) -> Starts {
+    match matches.get_flag("same-start") {
+        true => Starts::Distinct,
+        false => Starts::All,
     }
 }
 
@@ -159,7 +169,7 @@ fn command() -> Command {
         )
 }
 
-fn reading_arguments() -> [Arg; 5] {
+fn reading_arguments() -> [Arg; 6] {
     let lossy =
         "Where start lines or checksums differ, the later wins; without it such files are refused";
     let as_written =
@@ -170,6 +180,8 @@ fn reading_arguments() -> [Arg; 5] {
         "Keep only these lines of the source file FILE, as 10-20, 7 or 100- with commas between; \
         FILE may be the end of a path that no other path has; sections of other files stay as \
         they are; given twice, all lines are kept";
+    let same_start = "With --lines, keep all functions that start on the same line, not the last alone: one without an end \
+        line then ends before the next greater start";
     [
         flag("lossy", lossy),
         flag("as-geninfo", as_geninfo).conflicts_with("as-written"),
@@ -179,6 +191,7 @@ fn reading_arguments() -> [Arg; 5] {
         value("lines", "FILE:RANGES", value_parser!(OsString))
             .action(ArgAction::Append)
             .help(lines),
+        flag("same-start", same_start).requires("lines"),
     ]
 }
 
@@ -188,7 +201,13 @@ fn action_arguments() -> [Arg; 2] {
         conflicts between files";
     let keep_going = "Leave refused files out, and tell them; the exit status is then 4";
     [
-        flag("check", check).conflicts_with_all(["keep-going", "output", "lines", "stats"]),
+        flag("check", check).conflicts_with_all([
+            "keep-going",
+            "output",
+            "lines",
+            "same-start",
+            "stats",
+        ]),
         flag("keep-going", keep_going),
     ]
 }

@@ -65,7 +65,7 @@ fn gather(options: &Options, files: &[Source], start: Sums) -> Result<Tracefile,
 }
 
 fn write(options: &Options, joined: Tracefile) -> Result<(), Failure> {
-    let kept = lines::keep(joined, &options.lines)?;
+    let kept = lines::keep(joined, &options.lines, options.starts)?;
     let kept = options.rewriting.write_tags(kept);
     match &options.output {
         Some(path) => output::write(path, &kept.slices()),

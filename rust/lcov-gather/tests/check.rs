@@ -254,6 +254,7 @@ fn check_goes_with_no_output() {
         &["--check", "-o", "out"][..],
         &["--check", "--keep-going"],
         &["--check", "--lines", "x:1"],
+        &["--check", "--same-start"],
     ] {
         assert_eq!(
             run(&folder, words, &["good"]).status.code(),

@@ -2,7 +2,7 @@
 
 mod common;
 
-use common::{printed, said, said_in_short, Folder};
+use common::{functions, printed, said, said_in_short, Folder};
 
 /// Three functions with these start and end lines and calls, as lcov 2.0 writes them.
 fn functions_with(lines: [&str; 3], calls: [u32; 3]) -> String {
@@ -51,12 +51,6 @@ fn later() -> String {
         "TN:frames\nSF:/build/src/decoder.c\n{functions}BRDA:20,0,0,3\nBRDA:20,e0,1,-\nBRF:2\nBRH:1\n\
         DA:10,2\nDA:44,5\nLF:2\nLH:2\nend_of_record\n"
     )
-}
-
-/// The lines about functions of what is printed.
-fn functions(printed: &str) -> String {
-    let lines = printed.split_inclusive('\n');
-    lines.filter(|line| line.starts_with("FN")).collect()
 }
 
 fn folder() -> Folder {

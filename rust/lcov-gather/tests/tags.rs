@@ -101,6 +101,9 @@ const LAB: &str = "TN:DA\r\nSF:src/decoder.c\r\nFN:1,9,FN\nFN:3,DA:1\nFNDA:2,FN\
 
 const OTHER: &str = "TN:\nSF:b\nFN:1,f\nDA:1,2\nDA:3,4\nend_of_record:DA\n";
 
+/// Its functions start where that of [`OTHER`] does.
+const SAME: &str = "SF:b\nFN:1,FN\nFN:1,DA:1\nFNDA:3,FN\nend_of_record\n";
+
 #[test]
 fn the_result_is_the_default_one_in_the_tags_of_the_house() {
     let (a, b) = (sample("room-a.info"), sample("room-b.info"));
@@ -127,10 +130,20 @@ fn the_result_is_the_default_one_in_the_tags_of_the_house() {
 #[test]
 fn only_tags_are_translated() {
     for house in [WORDS, ODD] {
-        let pair = Pair::new(&[("lab", LAB), ("other", OTHER)], house);
+        let files = [("lab", LAB), ("other", OTHER), ("same", SAME)];
+        let pair = Pair::new(&files, house);
         pair.agrees(&["--as-geninfo", "lab", "other"]);
         pair.agrees(&["--as-written", "--stats", "lab", "other", "lab"]);
         pair.agrees(&["--as-geninfo", "--lines", "src/decoder.c:4", "lab"]);
+        let same_start = [
+            "--as-geninfo",
+            "--same-start",
+            "--lines",
+            "b:1",
+            "other",
+            "same",
+        ];
+        pair.agrees(&same_start);
     }
     let printed = Pair::new(&[("other", OTHER)], WORDS).run_own(&["other"]);
     let expected =

@@ -190,6 +190,7 @@ fn help_tells_every_option() {
         "--as-written",
         "--threads",
         "--lines",
+        "--same-start",
         "--test-name",
         "--map-path",
         "--tags",

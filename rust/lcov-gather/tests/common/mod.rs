@@ -105,6 +105,12 @@ pub fn section(path: &str, lines: &[(u32, u64)]) -> String {
     text + &format!("LF:{}\nLH:{hit}\nend_of_record\n", lines.len())
 }
 
+/// The lines about functions of what is printed.
+pub fn functions(printed: &str) -> String {
+    let lines = printed.split_inclusive('\n');
+    lines.filter(|line| line.starts_with("FN")).collect()
+}
+
 /// Says past the test harness, which hides what a passed test prints.
 fn say_past_harness(what: &str) {
     let _ = io::stderr().write_all(format!("\n*** {what} ***\n").as_bytes());
