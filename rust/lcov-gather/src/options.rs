@@ -180,8 +180,9 @@ fn reading_arguments() -> [Arg; 6] {
         "Keep only these lines of the source file FILE, as 10-20, 7 or 100- with commas between; \
         FILE may be the end of a path that no other path has; sections of other files stay as \
         they are; given twice, all lines are kept";
-    let same_start = "With --lines, keep all functions that start on the same line, not the last alone: one without an end \
-        line then ends before the next greater start";
+    let same_start =
+        "With --lines, functions that start on the same line stay together, not the last alone: \
+        one without an end line then ends before the next greater start";
     [
         flag("lossy", lossy),
         flag("as-geninfo", as_geninfo).conflicts_with("as-written"),

@@ -3,7 +3,7 @@
 mod common;
 
 use common::{said, Folder};
-use lcov_sys::DEFAULT_TAG_NAMES as NAMES;
+use lcov_sys::{make_tags, DEFAULT_TAG_NAMES as NAMES, WORDS_PER_ENTRY};
 use std::fs;
 use std::io::Write;
 use std::process::Output;
@@ -123,6 +123,42 @@ fn the_result_is_the_default_one_in_the_tags_of_the_house() {
         ] {
             pair.agrees(words);
         }
+    }
+}
+
+/// The bytes are those of the library's filters with the table lent.
+#[test]
+fn lines_are_kept_as_by_the_tagged_filters() {
+    for house in [WORDS, ODD] {
+        let pair = Pair::new(&[("same", SAME)], house);
+        let (tags, text) = (
+            make_tags(house).unwrap(),
+            translated(SAME.as_bytes(), house),
+        );
+        let both = [
+            lcov_sys::filter_tagged,
+            lcov_sys::filter_distinct_starts_tagged,
+        ];
+        let [last, all] = both.map(|filter| {
+            let (mut scratch, mut out) = ([0; 8 * WORDS_PER_ENTRY], [0; 256]);
+            let mut answer = [0; lcov_sys::WORDS];
+            let number = filter(
+                &tags,
+                &text,
+                &[[1, 1]],
+                1,
+                &mut scratch,
+                &mut out,
+                &mut answer,
+            );
+            assert_eq!(number, 0);
+            out[..answer[0] as usize].to_vec()
+        });
+        assert!(last.len() < all.len());
+        let lines = ["--lines", "b:1", "same"];
+        assert_eq!(pair.run_own(&lines).stdout, last);
+        let same_start = [&["--same-start"], &lines[..]].concat();
+        assert_eq!(pair.run_own(&same_start).stdout, all);
     }
 }
 
