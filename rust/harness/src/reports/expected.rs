@@ -108,23 +108,23 @@ fn settled(asked: Asked, texts: &[&[u8]], counted: reference::Told) -> (Told, Ba
             (Err(refusal), basis)
         }
         counted => {
-            let asked_there = asked.of_the_rust();
-            let rust = rust(asked_there, &plain);
+            let there = asked.of_the_rust();
+            let rust = rust(there, &plain);
             let without = counted.clone().map(reference::without_ends);
-            assert_agreed(
-                without.map(|sections| finished(asked_there, sections)),
-                rust,
-            );
-            let by_all = counted.clone();
-            let by_all = by_all.map(|sections| finished(asked_there, sections));
-            let told = counted.map(|sections| finished(asked, sections));
-            let basis = match told == by_all {
-                true => basis,
-                false => Basis::Starts,
-            };
-            (told, basis)
+            assert_agreed(without.map(|sections| finished(there, sections)), rust);
+            let told = counted.clone().map(|sections| finished(asked, sections));
+            match is_by_starts(asked, counted, &told) {
+                true => (told, Basis::Starts),
+                false => (told, basis),
+            }
         }
     }
+}
+
+/// Whether a filter keeps other functions than by all starts.
+fn is_by_starts(asked: Asked, counted: reference::Told, told: &Told) -> bool {
+    let by_all = |sections| finished(asked.of_the_rust(), sections);
+    matches!(asked, Asked::Filter(_)) && counted.map(by_all) != *told
 }
 
 fn rust(asked: Asked, texts: &[&[u8]]) -> Result<Vec<u8>, Fault> {

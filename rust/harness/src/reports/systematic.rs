@@ -126,17 +126,20 @@ const KEPT: [&[[u32; 2]]; 11] = [
     &[[u32::MAX, u32::MAX]],
 ];
 
-/// Each section of up to four functions of these, with each list.
+/// Each section of up to four functions of these, and one of five hundred on each of a few lines, with each list.
 pub fn starts(visit: &mut dyn FnMut(&[u8], &List)) {
     let lists = KEPT.map(|ranges| List {
         pairs: ranges.to_vec(),
         used: ranges.len(),
     });
-    sections_of(&mut Vec::new(), &mut |text| {
+    let mut with_each = |text: &[u8]| {
         for list in &lists {
             visit(text, list);
         }
-    });
+    };
+    sections_of(&mut Vec::new(), &mut with_each);
+    let crowds = workloads::functions_starting(2_500, |function| 2 * (function / 500));
+    with_each(&crowds);
 }
 
 fn sections_of(begun: &mut Vec<String>, visit: &mut dyn FnMut(&[u8])) {
