@@ -38,7 +38,7 @@ use Rattle.model.proofs.TagLaws.{defaultTag-lawful}
 use Rattle.model.proofs.TagTableLaws.{loads-lawful}
 use Rattle.model.proofs.Read.{readText-valid}
 use Rattle.model.proofs.Demand.{read-valid, gather-writes, gather-acceptable, demand3}
-use Rattle.cutting.specs.Cutting.{isLineOrBranch, linesAndBranches, heldLinesAndBranches, cutBy, cutReport, JoinedCut, CutTexts, Filtered, BothWays, Cutting, CuttingTables}
+use Rattle.cutting.specs.Cutting.{isLineOrBranch, linesAndBranches, heldLinesAndBranches, cutBy, cutReport, JoinedCut, Pairwise, CutText, Filtered, BothWays, Cutting, CuttingTables}
 use Rattle.cutting.proofs.CutItems.{kept-sub, kept-counts, held-sub, filter-keeps}
 use Rattle.cutting.proofs.CutRead.{KeepsSome, KeepsHeld, cut-sub, cut-read, cut-counts}
 use Rattle.cutting.proofs.CutJoin.{CutTo, no-reports, more-reports, cut-subs, joined-counts, cut-starts, cut-checksums, cut-sums, cut-shorter}
@@ -88,7 +88,7 @@ written-is room bytes {out} p = go (leb (length bytes) room) p
     go true q = sym (accepted-inj q)
     go false q = absurd (not-accepted q)
 
-written-fits : (room : ℕ) (bytes : Bytes) → length bytes ≤ room → written room bytes ≡ accepted bytes
+pub written-fits : (room : ℕ) (bytes : Bytes) → length bytes ≤ room → written room bytes ≡ accepted bytes
 unfolding written
 written-fits room bytes h = rw (le-leb (length bytes) room h)
 
@@ -137,24 +137,25 @@ module _ (tag : Kind → Bytes) (L : Lawful tag) (bound : Bound) where
         }
 
     -- what some call wrote
-    cut-text : (slice : List Range) (used words room : ℕ) (out : Bytes) → take used slice ≡ ranges → entryLimit words ≡ limit
-        → filterText tag bound text slice used words room ≡ accepted out → readText tag limit out ≡ accepted (cutReport bound ranges r)
-    cut-text slice used words room out e l p =
-        let w : wellFormedRanges slice used ≡ true = filter-formed slice used words room text out p in
-        ap (readText tag limit) (written-is room (printed ranges r) (sym (cut-writes slice used words room w e l) ∙ p)) ∙ cut-reads
+    cut-text : (out : Bytes) → CutText tag bound ranges limit text out → readText tag limit out ≡ accepted (cutReport bound ranges r)
+    cut-text out c =
+        let well : wellFormedRanges (c .slice) (c .used) ≡ true = filter-formed (c .slice) (c .used) (c .words) (c .room) text out (c .wrote) in
+        let writes : filterText tag bound text (c .slice) (c .used) (c .words) (c .room) ≡ written (c .room) (printed ranges r) =
+        cut-writes (c .slice) (c .used) (c .words) (c .room) well (c .by-ranges) (c .one-limit) in
+        ap (readText tag limit) (written-is (c .room) (printed ranges r) (sym writes ∙ c .wrote)) ∙ cut-reads
 
   texts-cut : (ranges : List Range) (limit : ℕ) → limit ≤ u32-max → (ts outs : List Bytes) (rs : List Report)
-      → readEach (readText tag limit) ts ≡ accepted rs → CutTexts tag bound ranges limit ts outs
+      → readEach (readText tag limit) ts ≡ accepted rs → Pairwise (CutText tag bound ranges limit) ts outs
       → readEach (readText tag limit) outs ≡ accepted (map (cutReport bound ranges) rs)
   texts-cut ranges limit m [] [] rs p C = rw (← (accepted-inj p))
-  texts-cut ranges limit m (t ∷ ts) (o ∷ os) rs p ((slice, used, words, room, e, l, f), C) =
+  texts-cut ranges limit m (t ∷ ts) (o ∷ os) rs p (c, C) =
       let (r, qs, i, j, h) = readAll-cons (readText tag limit) t ts p in
-      rw (← h) (rw (cut-text ranges limit m t r i slice used words room o e l f, texts-cut ranges limit m ts os qs j C))
+      rw (← h) (rw (cut-text ranges limit m t r i o c, texts-cut ranges limit m ts os qs j C))
 
   -- ---- bundles
 
   module _ (bundle whole parts : Bytes) (ranges : List Range) (words room : ℕ) (gathered : gather tag Checked bundle words room ≡ accepted whole)
-      (cut : CutTexts tag bound ranges (entryLimit words) (textsOf bundle) (textsOf parts)) (well : wellFormed parts ≡ true) where
+      (cut : Pairwise (CutText tag bound ranges (entryLimit words)) (textsOf bundle) (textsOf parts)) (well : wellFormed parts ≡ true) where
     abbrev limit : ℕ
     limit = entryLimit words
 

@@ -19,7 +19,7 @@ use Rattle.model.specs.Ranges.{queryCall}
 use Rattle.model.specs.Filter.{filterText}
 use Rattle.model.specs.Compute.{open-all}
 use Rattle.cutting.specs.Inserts.{Inserts, no-more, one-more}
-use Rattle.cutting.specs.Cutting.{BothWays}
+use Rattle.cutting.specs.Cutting.{CutText, BothWays}
 use Rattle.cutting.proofs.Cutting.{cutting-tables}
 
 -- a u32 below 256
@@ -73,11 +73,25 @@ spelled-added-first = refl
 abbrev whole : Bytes
 whole = ascii "TN:\nSF:a//b\nDA:1,1\nDA:9,1\nLF:2\nLH:2\nend_of_record\n"
 
+abbrev CutTo1 : Bytes → Bytes → Type 0
+CutTo1 text out = CutText defaultTag NextStart (range 1 1 ∷ []) (entryLimit 8_192) text out
+
+cut-as : (text out : Bytes) → cutTo NextStart 1 text ≡ accepted out → CutTo1 text out
+cut-as text out e = record { slice = range 1 1 ∷ []; used = 1; words = 8_192; room = 65_536; by-ranges = refl; one-limit = refl; wrote = e }
+
+cut-far : cutTo NextStart 1 far ≡ accepted emptied
+unfolding open-all
+cut-far = refl
+
+cut-near : cutTo NextStart 1 near ≡ accepted (shown (ascii "a/b"))
+unfolding open-all
+cut-near = refl
+
 pub spelled-both-ways : BothWays defaultTag NextStart (range 1 1 ∷ []) (entryLimit 8_192) whole (bundleOf emptied (shown (ascii "a/b")))
 unfolding open-all
 spelled-both-ways =
     cutting-tables .default NextStart .same (bundleOf far near) whole (bundleOf emptied (shown (ascii "a/b"))) (range 1 1 ∷ []) 8_192 65_536 refl
-    ((range 1 1 ∷ [], 1, 8_192, 65_536, refl, refl, refl), ((range 1 1 ∷ [], 1, 8_192, 65_536, refl, refl, refl), tt)) refl
+    (cut-as far emptied cut-far, (cut-as near (shown (ascii "a/b")) cut-near, tt)) refl
 
 -- ---- functions, by either filter
 

@@ -2,8 +2,8 @@
 -- filtered. Both give the same lines and branches. Clause by clause:
 --   "For every bundle that the checked gather accepts": the premise `gather .. ≡ accepted whole` of `same`.
 --   "every well-formed range list": `ranges`, the used pairs of a well-formed slice; each call may be lent another such slice.
---   "with which the filtered texts make a well-formed bundle": `CutTexts` and `wellFormed parts`. Each text can be filtered, by `filters`.
---     Filtered texts can be longer than the texts, so the bundle can pass 2^32 − 1 bytes: the premise is needed.
+--   "with which the filtered texts make a well-formed bundle": `CutText` for each text, and `wellFormed parts`. A readable text can be
+--     filtered, by `filters`. Filtered texts can be longer than the texts, so `parts` could pass 2^32 − 1 bytes: the premise is needed.
 --   "enough output": every output that holds the bytes, in `gathers` of `BothWays` and in `writes` of `Filtered`.
 --   "and one E in all the calls": the words of scratch may differ, `entryLimit` of them does not.
 --   "filtering each text and gathering is accepted": `gathers`.
@@ -83,17 +83,24 @@ pub record JoinedCut (ranges : List Range) (reports cuts : List Report) : Type 0
 
 -- ---- texts and bundles
 
+-- as many as each other, and each related to the one at its place
+abbrev pub Pairwise : (Bytes → Bytes → Type 0) → List Bytes → List Bytes → Type 0
+Pairwise R [] [] = Unit {0}
+Pairwise R [] (y ∷ ys) = ⊥
+Pairwise R (x ∷ xs) [] = ⊥
+Pairwise R (x ∷ xs) (y ∷ ys) = R x y × Pairwise R xs ys
+
 -- under a table of tags, by one of the two filters
 module _ (tag : Kind → Bytes) (bound : Bound) where
-  -- what the filter wrote of each text, by the same ranges and under the same entry limit
-  abbrev pub CutTexts : List Range → ℕ → List Bytes → List Bytes → Type 0
-  CutTexts ranges limit [] [] = Unit {0}
-  CutTexts ranges limit [] (out ∷ outs) = ⊥
-  CutTexts ranges limit (text ∷ texts) [] = ⊥
-  CutTexts ranges limit (text ∷ texts) (out ∷ outs) =
-      ((slice : List Range) × (used : ℕ) × (words : ℕ) × (room : ℕ) × (take used slice ≡ ranges) × (entryLimit words ≡ limit)
-      × (filterText tag bound text slice used words room ≡ accepted out))
-      × CutTexts ranges limit texts outs
+  -- a filter that was accepted wrote `out` of a text
+  pub record CutText (ranges : List Range) (limit : ℕ) (text out : Bytes) : Type 0 where
+    pub slice : List Range
+    pub used : ℕ
+    pub words : ℕ
+    pub room : ℕ
+    pub by-ranges : take used slice ≡ ranges
+    pub one-limit : entryLimit words ≡ limit
+    pub wrote : filterText tag bound text slice used words room ≡ accepted out
 
   -- what the filter writes of a text into any output that holds it, and what that is read as
   pub record Filtered (ranges : List Range) (limit : ℕ) (text : Bytes) (report : Report) : Type 0 where
@@ -117,7 +124,7 @@ module _ (tag : Kind → Bytes) (bound : Bound) where
   pub record Cutting : Type 0 where
     -- bundles: cut and gathered, or gathered and cut
     pub same : (bundle whole parts : Bytes) (ranges : List Range) (words room : ℕ) → gather tag Checked bundle words room ≡ accepted whole
-        → CutTexts ranges (entryLimit words) (textsOf bundle) (textsOf parts) → wellFormed parts ≡ true
+        → Pairwise (CutText ranges (entryLimit words)) (textsOf bundle) (textsOf parts) → wellFormed parts ≡ true
         → BothWays ranges (entryLimit words) whole parts
     -- a text that is readable can be filtered, and what is written is read as its report, cut
     pub filters : (ranges : List Range) (words : ℕ) (text : Bytes) (report : Report) → readText tag (entryLimit words) text ≡ accepted report
