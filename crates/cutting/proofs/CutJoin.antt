@@ -1,5 +1,5 @@
--- Reports joined and then cut by a test of keys are cut and then joined; and reports of which entries are left out can be joined where the whole ones can,
--- to no longer a report. Assumes nothing.
+-- Reports joined and then filtered by a test of keys are the reports filtered and then joined. Where reports can be joined, so can they with
+-- entries left out, and the joined report is not longer. Assumes nothing.
 use Prim.Native.Nat.{_≤_, Ordering}
 use native.Mathlib.Omega.{arith}
 use mathlib.Core.Path.{_≡_, refl, sym, ap, _∙_}

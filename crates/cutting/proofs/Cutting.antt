@@ -43,7 +43,7 @@ use Rattle.cutting.proofs.CutItems.{kept-sub, kept-counts, held-sub, fi
 use Rattle.cutting.proofs.CutRead.{KeepsSome, KeepsHeld, cut-sub, cut-read, cut-counts}
 use Rattle.cutting.proofs.CutJoin.{CutTo, no-reports, more-reports, cut-subs, joined-counts, cut-starts, cut-checksums, cut-sums, cut-shorter}
 
--- ---- reports, cut by any filter that keeps some of each section's items, and of the branches and lines those that the ranges hold
+-- ---- reports, cut by any filter that keeps some of each section's items, and of its lines and branches those that the ranges hold
 
 module _ (ranges : List Range) (keep : List Item → List Item) (some : KeepsSome keep) (held : KeepsHeld ranges keep) where
   reports-cut : (rs : List Report) → ((r : Report) → Member r rs → Valid r) → CutTo ranges (map (cutBy keep) rs) rs

@@ -93,7 +93,7 @@ spelled-both-ways =
     cutting-tables .default NextStart .same (bundleOf far near) whole (bundleOf emptied (shown (ascii "a/b"))) (range 1 1 ∷ []) 8_192 65_536 refl
     (cut-as far emptied cut-far, (cut-as near (shown (ascii "a/b")) cut-near, tt)) refl
 
--- ---- functions, by either filter
+-- ---- functions: a reckoned end under `GreaterStart`, given ends under `NextStart`
 
 -- f has no given end: it ends at 4 where g starts at 5, and at 2^32 - 1 where it is alone
 abbrev together : Bytes

@@ -1,5 +1,5 @@
--- Cutting before or after adding: each text is filtered and the filtered texts are gathered, or the texts are gathered and the result is
--- filtered. Both give the same lines and branches. Clause by clause:
+-- Cutting before or after adding. To cut is to filter by ranges, to add is to gather: each text is filtered and the filtered texts are
+-- gathered, or the texts are gathered and the result is filtered. Both give the same lines and branches. Clause by clause:
 --   "For every bundle that the checked gather accepts": the premise `gather .. ≡ accepted whole` of `same`.
 --   "every well-formed range list": `ranges`, the used pairs of a well-formed slice; each call may be lent another such slice.
 --   "with which the filtered texts make a well-formed bundle": `CutText` for each text, and `wellFormed parts`. A readable text can be
