@@ -1,3 +1,4 @@
 pub mod Sorting
+pub mod Arranging
 pub mod Merge
 pub mod Runs
