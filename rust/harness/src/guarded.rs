@@ -1,7 +1,7 @@
 //! Words and bytes lent to the port. They are marked before the call, so that it is seen what was written and what was left alone.
 
 use crate::expected::Answer;
-use crate::interface::{Lent, WORDS};
+use crate::interface::{Lent, NEEDED, OUTPUT_TOO_SHORT, WORDS, WRITTEN};
 use crate::Rng;
 
 const MARK: u64 = 0xa5a5_a5a5_a5a5_a5a5;
@@ -135,4 +135,17 @@ pub struct Left {
     pub answer: LentWords,
     pub out: LentBytes,
     pub scratch_kept: bool,
+}
+
+/// What a call prints: first with so much output, and where that is too short, with as much as is needed.
+pub fn printed(mut room: usize, mut call: impl FnMut(usize) -> Left) -> Result<Vec<u8>, Answer> {
+    loop {
+        let left = call(room);
+        let words = std::array::from_fn(|place| left.answer.word(place));
+        match left.number {
+            0 => return Ok(left.out.all()[..words[WRITTEN] as usize].to_vec()),
+            OUTPUT_TOO_SHORT if words[NEEDED] > room as u64 => room = words[NEEDED] as usize,
+            number => return Err(Answer { number, words }),
+        }
+    }
 }

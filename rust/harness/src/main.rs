@@ -1,28 +1,30 @@
 //! Compares the port with the unchanged Rust on lines, paths, ranges, texts, filters and bundles, and with what include/lcov.h says on
 //! single number fields. Where an FN has an end line, the Rust is asked about the same without end lines, and these are put in here. The filter by
 //! distinct starts is compared with a reference that agrees with the Rust by all starts, and with the port's other filter. What takes
-//! a table of tags is compared with the port's own calls without one, on the same in default tags.
+//! a table of tags is compared with the port's own calls without one, on the same in default tags. Cutting before adding is compared with cutting
+//! after it, by the port's own calls.
 //!
-//!     harness [--seed N] [--minutes M | [--lines N] [--numbers N] [--ranges N] [--reports N] [--tables N]]
+//!     harness [--seed N] [--minutes M | [--lines N] [--numbers N] [--ranges N] [--reports N] [--tables N] [--cuts N]]
 //!
-//! Every run asks the systematic lines, number fields and bundles and all pairs of paths. Random questions follow: so many lines, number
-//! fields, lists of ranges, texts, filters and bundles, and tables of tags, or rounds of all of them until so many minutes have passed since the start. It
-//! prints how often each answer came, ten differences of each kind in full (of texts and bundles the smallest), how many calls there were,
-//! and a last line `N compared, M differences`; the exit status is 0 only if M is 0.
+//! Every run asks the systematic lines, number fields and bundles, all pairs of paths and the recorded cuts. Random questions follow: so many
+//! lines, number fields, lists of ranges, texts, filters and bundles, tables of tags, and bundles that are cut, or rounds of all of them until so
+//! many minutes have passed since the start. It prints how often each answer came, ten differences of each kind in full (of texts and bundles the
+//! smallest), how many calls there were, and a last line `N compared, M differences`; the exit status is 0 only if M is 0.
 
 use harness::differences::Differences;
+use harness::files::files_in;
 use harness::interface::{INNER_WORDS, MAX_ENTRIES, WORDS_PER_ENTRY};
 use harness::lines::{random, systematic};
 use harness::ranges::cases::ROOM;
 use harness::ranges::program::Program;
 use harness::tagged::tables;
-use harness::{numbers, paths, ranges, reports, sample, tagged, Build, Comparison, Rng};
+use harness::{cutting, numbers, paths, ranges, reports, sample, tagged, Build, Comparison, Rng};
 use lcov_sys::{Calls, DEFAULT_TAGS};
 use std::process::ExitCode;
 use std::time::{Duration, Instant};
 
 const USAGE: &str =
-    "usage: harness [--seed N] [--minutes M | [--lines N] [--numbers N] [--ranges N] [--reports N] [--tables N]]";
+    "usage: harness [--seed N] [--minutes M | [--lines N] [--numbers N] [--ranges N] [--reports N] [--tables N] [--cuts N]]";
 
 /// The number of random questions.
 #[derive(Clone, Copy)]
@@ -35,6 +37,8 @@ struct Round {
     reports: u64,
     /// Tables of tags, each with lines, a text, which is filtered too, one with many equal starts, filtered alone, and a bundle.
     tables: u64,
+    /// Bundles that are cut before and after adding, by a list that inserts fill.
+    cuts: u64,
 }
 
 /// What a run asks where nothing else is said.
@@ -44,6 +48,7 @@ const USUAL: Round = Round {
     ranges: 20_000,
     reports: 200_000,
     tables: 40_000,
+    cuts: 30_000,
 };
 
 /// What is asked again and again until the time is over.
@@ -53,6 +58,7 @@ const AGAIN: Round = Round {
     ranges: 4_000,
     reports: 40_000,
     tables: 8_000,
+    cuts: 6_000,
 };
 
 /// Of how many lists one is asked of range structs too, which another process answers.
@@ -110,6 +116,7 @@ fn options(mut words: impl Iterator<Item = String>) -> Option<Options> {
             "--ranges" => options.round.ranges = number,
             "--reports" => options.round.reports = number,
             "--tables" => options.round.tables = number,
+            "--cuts" => options.round.cuts = number,
             _ => return None,
         }
         counted |= !matches!(word.as_str(), "--seed" | "--minutes");
@@ -127,6 +134,7 @@ struct Run {
     structs: ranges::compare::Comparison<Program>,
     reports: reports::compare::Comparison<Build>,
     tagged: tagged::Comparison<Build>,
+    cutting: cutting::Comparison<Build>,
 }
 
 impl Run {
@@ -141,6 +149,7 @@ impl Run {
             structs: ranges::compare::Comparison::new(program),
             reports: reports::compare::Comparison::new(port, seed),
             tagged: tagged::Comparison::new(port, seed),
+            cutting: cutting::Comparison::new(port, seed),
         }
     }
 
@@ -163,6 +172,15 @@ impl Run {
         reports::systematic::replaced(self.seed, &mut |text| reports.text(text));
         reports::systematic::starts(&mut |text, list| reports.filter(text, list));
         self.recorded_with_tables();
+        self.recorded_cuts();
+    }
+
+    fn recorded_cuts(&mut self) {
+        let files = files_in(cutting::recorded::FOLDER).expect("the recorded cuts are there");
+        let recorded = cutting::recorded::read(&files).expect("all recorded cuts are there");
+        for recorded in &recorded {
+            self.cutting.recorded(recorded);
+        }
     }
 
     /// The recorded lines and bundles, with the default table, with one that loads, and with one that is refused or else special.
@@ -201,6 +219,9 @@ impl Run {
         for _ in 0..round.tables {
             random_table(&mut self.tagged, &mut self.rng);
         }
+        for _ in 0..round.cuts {
+            cutting::random::ask(&mut self.cutting, &mut self.rng);
+        }
     }
 
     /// A list of pairs, and one of structs too where that is asked.
@@ -224,6 +245,7 @@ impl Run {
             &self.structs.differences,
             &self.reports.differences,
             &self.tagged.differences,
+            &self.cutting.differences,
         ]
         .into_iter()
     }
@@ -236,29 +258,34 @@ impl Run {
         print!("{}{}", self.lines.tally, self.numbers.tally);
         print!("{}", self.ranges.tally);
         println!("of range structs, by the program test_line_num:");
-        print!(
-            "{}{}{}",
-            self.structs.tally, self.reports.tally, self.tagged.tally
-        );
+        print!("{}{}", self.structs.tally, self.reports.tally);
+        print!("{}{}", self.tagged.tally, self.cutting.tally);
         for (number, difference) in (1..).zip(self.found().flat_map(Differences::shown)) {
             println!("difference {number}: {difference}");
         }
         let ranges = self.ranges.tally.calls() + self.structs.tally.calls();
         let numbers = &self.numbers.tally;
+        let reports = &self.reports.tally;
         let tagged = &self.tagged.tally;
-        let calls =
-            self.lines.calls + numbers.calls + ranges + self.reports.tally.calls() + tagged.calls;
-        let compared = self.lines.compared() + numbers.asked() + ranges + tagged.asked();
+        let cutting = &self.cutting.tally;
+        let calls = self.lines.calls
+            + numbers.calls
+            + ranges
+            + reports.calls()
+            + tagged.calls
+            + cutting.calls;
+        let compared = self.lines.compared()
+            + numbers.asked()
+            + ranges
+            + reports.questions()
+            + tagged.asked()
+            + cutting.compared();
         println!(
             "seed {}: {calls} calls in {:.1} s",
             self.seed,
             took.as_secs_f64()
         );
-        println!(
-            "{} compared, {} differences",
-            compared + self.reports.tally.questions(),
-            self.differences()
-        );
+        println!("{compared} compared, {} differences", self.differences());
     }
 }
 

@@ -25,6 +25,7 @@ use std::io::{self, BufRead, Write as _};
 pub type Pairs = Vec<(u32, u32)>;
 
 /// Lines to insert: from a start to an end, or half-open.
+#[derive(Debug, Clone, Copy)]
 pub enum Lines {
     Closed(u32, u32),
     HalfOpen(u32, u32),

@@ -1,14 +1,15 @@
 //! Writes the recorded sample, tests/lines.in and tests/lines.out, from a fixed seed, the recorded calls on range structs,
-//! crates/test_line_num/stdin and stdout, and the recorded bundles, tests/bundles/NAME.in and NAME.out; see tests/README.md.
+//! crates/test_line_num/stdin and stdout, the recorded bundles, tests/bundles/NAME.in and NAME.out, and the recorded cuts, tests/cutting;
+//! see tests/README.md.
 //!
 //!     record             writes the files
 //!     record --check     writes nothing, and fails unless the files are what would be written and what the Rust answers, or what it lacks
 
+use harness::cutting::recorded as cuts;
+use harness::files::{file, files_in, write_in, Files};
 use harness::ranges::recorded::{self as calls, Calls};
 use harness::reports::recorded::{self, Recorded};
 use harness::sample::{self, Sample};
-use std::collections::BTreeMap;
-use std::path::PathBuf;
 use std::process::ExitCode;
 use std::{env, fs, io};
 
@@ -20,7 +21,8 @@ fn main() -> ExitCode {
         [] => write_all().map_err(|error| error.to_string()),
         ["--check"] => check()
             .and_then(|()| check_ranges())
-            .and_then(|()| check_bundles()),
+            .and_then(|()| check_bundles())
+            .and_then(|()| check_cuts()),
         _ => Err("usage: record [--check]".to_owned()),
     };
     match done {
@@ -32,16 +34,11 @@ fn main() -> ExitCode {
     }
 }
 
-fn file(name: &str) -> PathBuf {
-    PathBuf::from(env!("CARGO_MANIFEST_DIR"))
-        .join("../../tests")
-        .join(name)
-}
-
 fn write_all() -> io::Result<()> {
     write(&sample::make())?;
     write_ranges(&calls::make())?;
-    write_bundles(&recorded::all())
+    write_bundles(&recorded::all())?;
+    write_in(cuts::FOLDER, &cuts::files())
 }
 
 fn write(sample: &Sample) -> io::Result<()> {
@@ -116,17 +113,12 @@ fn check_ranges() -> Result<(), String> {
 const BUNDLES: &str = "bundles";
 
 fn write_bundles(all: &[Recorded]) -> io::Result<()> {
-    let folder = file(BUNDLES);
-    fs::create_dir_all(&folder)?;
-    for (name, bytes) in bundle_files(all) {
-        fs::write(folder.join(name), bytes)?;
-    }
+    write_in(BUNDLES, &bundle_files(all))?;
     println!("{} bundles", all.len());
     Ok(())
 }
 
-/// Each file's name and what it holds.
-fn bundle_files(all: &[Recorded]) -> BTreeMap<String, Vec<u8>> {
+fn bundle_files(all: &[Recorded]) -> Files {
     all.iter()
         .flat_map(|recorded| {
             let bundle = (format!("{}.in", recorded.name), recorded.bundle.clone());
@@ -148,12 +140,16 @@ fn check_bundles() -> Result<(), String> {
     Ok(())
 }
 
-fn files_in(folder: &str) -> io::Result<BTreeMap<String, Vec<u8>>> {
-    let mut files = BTreeMap::new();
-    for entry in fs::read_dir(file(folder))? {
-        let entry = entry?;
-        let name = entry.file_name().to_string_lossy().into_owned();
-        files.insert(name, fs::read(entry.path())?);
+// ---- cuts
+
+fn check_cuts() -> Result<(), String> {
+    let written = files_in(cuts::FOLDER).map_err(|error| format!("no recorded cuts: {error}"))?;
+    if written != cuts::files() {
+        return Err("tests/cutting holds other texts or answers: run `record`".to_owned());
     }
-    Ok(files)
+    println!(
+        "{} files of recorded cuts are the Rust's, or what it lacks",
+        written.len()
+    );
+    Ok(())
 }

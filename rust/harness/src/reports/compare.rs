@@ -284,13 +284,10 @@ impl<P: Gatherer> Comparison<P> {
         let port = &self.port;
         self.scratch.call(slices, &mut self.rng, |lent| {
             match (asked, lengths.scratch) {
-                (Asked::Text(text), _) => port.read_text(text, lent),
-                (Asked::Filter(filter), _) => port.filter_text(filter, lent),
                 (Asked::Bundle(Mode::Checked, bundle), Scratch::Inside) => {
                     port.gather(bundle, lent.out, lent.answer)
                 }
-                (Asked::Bundle(Mode::Checked, bundle), _) => port.gather_with(bundle, lent),
-                (Asked::Bundle(Mode::Lossy, bundle), _) => port.gather_lossy(bundle, lent),
+                _ => asked.call(port, lent),
             }
         })
     }

@@ -12,7 +12,7 @@ pub mod systematic;
 pub mod tally;
 pub mod workloads;
 
-use crate::interface::{Filter, Starts};
+use crate::interface::{Filter, Gatherer, Lent, Starts, Tagged};
 use oracle::Mode;
 
 /// A question without the slices that are lent for its answer.
@@ -28,6 +28,39 @@ impl<'a> Asked<'a> {
         match self {
             Asked::Text(bytes) | Asked::Bundle(_, bytes) => bytes,
             Asked::Filter(filter) => filter.text,
+        }
+    }
+
+    /// The same question about other bytes.
+    pub fn of<'b>(self, bytes: &'b [u8]) -> Asked<'b>
+    where
+        'a: 'b,
+    {
+        match self {
+            Asked::Text(_) => Asked::Text(bytes),
+            Asked::Filter(filter) => Asked::Filter(Filter {
+                text: bytes,
+                ..filter
+            }),
+            Asked::Bundle(mode, _) => Asked::Bundle(mode, bytes),
+        }
+    }
+
+    pub fn call(self, port: &impl Gatherer, lent: Lent) -> u32 {
+        match self {
+            Asked::Text(text) => port.read_text(text, lent),
+            Asked::Filter(filter) => port.filter_text(filter, lent),
+            Asked::Bundle(Mode::Checked, bundle) => port.gather_with(bundle, lent),
+            Asked::Bundle(Mode::Lossy, bundle) => port.gather_lossy(bundle, lent),
+        }
+    }
+
+    pub fn call_tagged(self, port: &impl Tagged, table: &[u8], lent: Lent) -> u32 {
+        match self {
+            Asked::Text(text) => port.read_text_tagged(table, text, lent),
+            Asked::Filter(filter) => port.filter_text_tagged(table, filter, lent),
+            Asked::Bundle(Mode::Checked, bundle) => port.gather_tagged(table, bundle, lent),
+            Asked::Bundle(Mode::Lossy, bundle) => port.gather_lossy_tagged(table, bundle, lent),
         }
     }
 

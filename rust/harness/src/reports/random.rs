@@ -41,6 +41,8 @@ pub struct Habit {
     large: bool,
     /// Start lines and checksums of a key mostly agree.
     agreeing: bool,
+    /// No section has a second SF, no end line is refused, and what mostly agrees always does.
+    sound: bool,
     /// Many FN have an end line.
     ends: bool,
     /// Most items are functions, and many start on one line.
@@ -61,6 +63,7 @@ impl Habit {
         Habit {
             large: rng.one_in(4),
             agreeing: !rng.one_in(3),
+            sound: false,
             ends: rng.one_in(ENDS_ONE_IN),
             crowded: false,
             spread,
@@ -69,6 +72,21 @@ impl Habit {
             tests: 1 + rng.below(TESTS.len()),
             paths: 1 + rng.below(PATHS.len()),
             names: 1 + rng.below(NAMES.len()),
+        }
+    }
+
+    /// For a gather that is accepted: of keys that several texts have.
+    fn meeting(rng: &mut Rng) -> Self {
+        Habit {
+            large: rng.one_in(12),
+            agreeing: true,
+            sound: true,
+            ends: rng.one_in(2),
+            sections: 2 + rng.below(3),
+            items: 6 + rng.below(16),
+            tests: 1 + rng.below(2),
+            paths: 2 + rng.below(6),
+            ..Habit::random(rng)
         }
     }
 
@@ -82,15 +100,18 @@ impl Habit {
             ..Habit::random(rng)
         }
     }
+
+    /// Whether something comes that a gather may refuse.
+    fn is_unsound(self, rng: &mut Rng) -> bool {
+        !self.sound && rng.one_in(40)
+    }
 }
 
 // ---- texts
 
 pub fn text(rng: &mut Rng, habit: Habit) -> Vec<u8> {
-    let mut lines = Vec::new();
-    for _ in 0..rng.below(habit.sections + 1) {
-        section(rng, habit, &mut lines);
-    }
+    let many = rng.below(habit.sections + 1);
+    let mut lines = sections(rng, habit, many);
     if rng.one_in(6) {
         test_names(rng, habit, &mut lines);
     }
@@ -105,6 +126,14 @@ pub fn text(rng: &mut Rng, habit: Habit) -> Vec<u8> {
         change_a_byte(rng, &mut text);
     }
     text
+}
+
+fn sections(rng: &mut Rng, habit: Habit, many: usize) -> Vec<String> {
+    let mut lines = Vec::new();
+    for _ in 0..many {
+        section(rng, habit, &mut lines);
+    }
+    lines
 }
 
 fn section(rng: &mut Rng, habit: Habit, lines: &mut Vec<String>) {
@@ -122,7 +151,7 @@ fn section(rng: &mut Rng, habit: Habit, lines: &mut Vec<String>) {
     for _ in 0..items {
         lines.push(item(rng, habit));
     }
-    if rng.one_in(40) {
+    if habit.is_unsound(rng) {
         lines.push(source_file(rng, habit));
     }
     lines.push("end_of_record".to_owned());
@@ -170,13 +199,13 @@ fn function(rng: &mut Rng, habit: Habit) -> String {
     // of few starts, so that some are those of other names
     let start = if habit.crowded {
         few(rng, &CROWDED)
-    } else if habit.agreeing && !rng.one_in(40) {
+    } else if habit.agreeing && !habit.is_unsound(rng) {
         name.len() % 3
     } else {
         rng.below(3)
     };
     let end = match rng.below(12) {
-        0..7 if habit.ends => end_line(rng, start),
+        0..7 if habit.ends => end_line(rng, habit, start),
         7 => format!("{},", rng.pick(&NO_ENDS)),
         _ => String::new(),
     };
@@ -184,10 +213,10 @@ fn function(rng: &mut Rng, habit: Habit) -> String {
 }
 
 /// With the comma behind it. Most are few, so that those of two texts are equal, larger or smaller.
-fn end_line(rng: &mut Rng, start: usize) -> String {
+fn end_line(rng: &mut Rng, habit: Habit, start: usize) -> String {
     let end = match rng.below(40) {
-        0 => (start.saturating_sub(1)).to_string(),
-        1 => "4294967296".to_owned(),
+        0 if !habit.sound => (start.saturating_sub(1)).to_string(),
+        1 if !habit.sound => "4294967296".to_owned(),
         2 => "4294967295".to_owned(),
         3 => format!("{:030}{}", 0, start + 1),
         // the name begins as an end line does
@@ -223,7 +252,7 @@ fn line(rng: &mut Rng, habit: Habit) -> String {
     let count = count(rng, habit);
     let checksum = match rng.below(5) {
         0..3 => return format!("DA:{place},{count}"),
-        _ if habit.agreeing && !rng.one_in(40) => CHECKSUMS[place.len() % 3],
+        _ if habit.agreeing && !habit.is_unsound(rng) => CHECKSUMS[place.len() % 3],
         _ => rng.pick(&CHECKSUMS),
     };
     format!("DA:{place},{count},{checksum}")
@@ -381,6 +410,18 @@ pub fn bundle(rng: &mut Rng) -> Vec<u8> {
         32..39 => with_damaged_head(rng),
         _ => many(rng),
     }
+}
+
+/// A bundle of texts that are not damaged and have the same few keys.
+pub fn meeting(rng: &mut Rng) -> Vec<u8> {
+    let habit = Habit::meeting(rng);
+    let texts: Vec<Vec<u8>> = (0..1 + rng.below(4))
+        .map(|_| {
+            let lines = sections(rng, habit, habit.sections);
+            joined(rng, &lines)
+        })
+        .collect();
+    bundles::of(&texts)
 }
 
 /// A bundle of three texts in each order of them.

@@ -6,11 +6,8 @@ use super::translated::{Change, Inwards, Outwards};
 use crate::compare::{shown, BYTES_PAST, MOST_WORDS};
 use crate::differences::{Difference, Differences};
 use crate::expected::{printing, Answer};
-use crate::guarded::{Left, Lengths, LentScratch};
-use crate::interface::{
-    Filter, Lent, Starts, Tagged, MAX_ENTRIES, NEEDED, OUTPUT_TOO_SHORT, START, WORDS,
-    WORDS_PER_ENTRY, WRITTEN,
-};
+use crate::guarded::{printed, Left, Lengths, LentScratch};
+use crate::interface::{Filter, Lent, Starts, Tagged, MAX_ENTRIES, START, WORDS, WORDS_PER_ENTRY};
 use crate::ranges::List;
 use crate::reports;
 use crate::tally::{row, rows, NAMES, NUMBERS};
@@ -53,14 +50,7 @@ impl<'a> Asked<'a> {
         match self {
             Asked::Read(_) => Asked::Read(bytes),
             Asked::Print(_) => Asked::Print(bytes),
-            Asked::Report(asked) => Asked::Report(match asked {
-                reports::Asked::Text(_) => reports::Asked::Text(bytes),
-                reports::Asked::Filter(filter) => reports::Asked::Filter(Filter {
-                    text: bytes,
-                    ..filter
-                }),
-                reports::Asked::Bundle(mode, _) => reports::Asked::Bundle(mode, bytes),
-            }),
+            Asked::Report(asked) => Asked::Report(asked.of(bytes)),
         }
     }
 
@@ -265,28 +255,21 @@ impl<P: Tagged> Comparison<P> {
     /// What the call without a table prints in the tags of the table, or its refusal.
     fn told(&mut self, table: &[u8], asked: Asked, scratch: usize) -> Result<Vec<u8>, Answer> {
         let default = self.in_default(table, asked)?;
-        let printed = self.print(asked.of(&default), scratch)?;
+        let told = self.print(asked.of(&default), scratch)?;
         let tags = loaded(table).expect("the table of a question in its tags");
-        Ok(asked.printed(&printed, &Outwards(tags)))
+        Ok(asked.printed(&told, &Outwards(tags)))
     }
 
     /// What the call without a table prints, into an output that is long enough.
     fn print(&mut self, asked: Asked, scratch: usize) -> Result<Vec<u8>, Answer> {
-        let mut room = 2 * asked.bytes().len() + BYTES_PAST;
-        loop {
+        printed(2 * asked.bytes().len() + BYTES_PAST, |room| {
             let lengths = Lengths {
                 scratch,
                 room,
                 words: WORDS,
             };
-            let left = self.call(None, asked, lengths);
-            let words = std::array::from_fn(|place| left.answer.word(place));
-            match left.number {
-                0 => return Ok(left.out.all()[..words[WRITTEN] as usize].to_vec()),
-                OUTPUT_TOO_SHORT => room = words[NEEDED] as usize,
-                number => return Err(Answer { number, words }),
-            }
-        }
+            self.call(None, asked, lengths)
+        })
     }
 
     fn held_against(
@@ -354,26 +337,18 @@ impl<P: Tagged> Comparison<P> {
 }
 
 fn with_table(port: &impl Tagged, table: &[u8], asked: Asked, lent: Lent) -> u32 {
-    use reports::Asked::{Bundle, Filter, Text};
     match asked {
         Asked::Read(line) => port.read_line_tagged(table, line, lent.answer),
         Asked::Print(line) => port.print_line_tagged(table, line, lent.out, lent.answer),
-        Asked::Report(Text(text)) => port.read_text_tagged(table, text, lent),
-        Asked::Report(Filter(filter)) => port.filter_text_tagged(table, filter, lent),
-        Asked::Report(Bundle(Mode::Checked, bundle)) => port.gather_tagged(table, bundle, lent),
-        Asked::Report(Bundle(Mode::Lossy, bundle)) => port.gather_lossy_tagged(table, bundle, lent),
+        Asked::Report(asked) => asked.call_tagged(port, table, lent),
     }
 }
 
 fn without_table(port: &impl Tagged, asked: Asked, lent: Lent) -> u32 {
-    use reports::Asked::{Bundle, Filter, Text};
     match asked {
         Asked::Read(line) => port.read_line(line, lent.answer),
         Asked::Print(line) => port.print_line(line, lent.out, lent.answer),
-        Asked::Report(Text(text)) => port.read_text(text, lent),
-        Asked::Report(Filter(filter)) => port.filter_text(filter, lent),
-        Asked::Report(Bundle(Mode::Checked, bundle)) => port.gather_with(bundle, lent),
-        Asked::Report(Bundle(Mode::Lossy, bundle)) => port.gather_lossy(bundle, lent),
+        Asked::Report(asked) => asked.call(port, lent),
     }
 }
 
