@@ -16,7 +16,7 @@ use Rattle.model.specs.Report.{within}
 use Rattle.model.specs.Reading.{State as ModelState, entries}
 use Rattle.table_item.specs.Items.{partIn, PartInside}
 use Rattle.section_tail.specs.declared.OpenSizes.{OpenSizes}
-use Rattle.section_tail.specs.Tail.{rowsOf, endOf, itemsOf, OpenSection}
+use Rattle.section_tail.specs.Tail.{rowsOf, itemsOf, OpenSection}
 use Rattle.section.specs.declared.State.{State}
 use Rattle.section.specs.declared.Step.{Step}
 use Rattle.section.specs.declared.Step.the-variants.{Next, Refused}

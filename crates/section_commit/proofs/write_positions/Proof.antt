@@ -3,7 +3,6 @@
 use Prim.Native.Nat.{_-_}
 use native.Mathlib.Omega.{arith}
 use Rattle.section_commit.proofs.DeltaLaws.{WritingPositions, writing-none, writing-parts, writing-last, writing-run, writing-done}
-use borrow.Author.Needs.{needs}
 use Rattle.section_commit.proofs.write_positions.Statement.{statement}
 use Rattle.section_commit.proofs.write_positions.Tie as tie
 

@@ -2,7 +2,6 @@
 use native.Mathlib.Omega.{arith}
 use Rattle.ordmap.proofs.Results.{impossible}
 use Rattle.table_item.proofs.CompareLaws.{inner-as}
-use borrow.Author.Needs.{needs}
 use Rattle.section_tail.proofs.is_greatest.Statement.{statement}
 use Rattle.section_tail.proofs.is_greatest.Tie as tie
 
