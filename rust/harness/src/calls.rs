@@ -48,16 +48,19 @@ impl Gatherer for Build {
 
     fn filter_text(&self, asked: Filter, lent: Lent) -> u32 {
         let Filter { starts, text, list } = asked;
-        let Lent {
-            scratch,
-            out,
-            answer,
-        } = lent;
         let filter = match starts {
             Starts::All => Calls::filter,
             Starts::Distinct => Calls::filter_distinct_starts,
         };
-        filter(&self.0, text, &list.pairs, list.used, scratch, out, answer)
+        filter(
+            &self.0,
+            text,
+            &list.pairs,
+            list.used,
+            lent.scratch,
+            lent.out,
+            lent.answer,
+        )
     }
 }
 
@@ -93,11 +96,6 @@ impl Tagged for Build {
 
     fn filter_text_tagged(&self, tags: &[u8], asked: Filter, lent: Lent) -> u32 {
         let Filter { starts, text, list } = asked;
-        let Lent {
-            scratch,
-            out,
-            answer,
-        } = lent;
         let filter = match starts {
             Starts::All => Calls::filter_tagged,
             Starts::Distinct => Calls::filter_distinct_starts_tagged,
@@ -108,9 +106,9 @@ impl Tagged for Build {
             text,
             &list.pairs,
             list.used,
-            scratch,
-            out,
-            answer,
+            lent.scratch,
+            lent.out,
+            lent.answer,
         )
     }
 }

@@ -24,6 +24,7 @@ pub mod sample;
 pub mod tagged;
 pub mod tally;
 pub mod tracefile;
+pub mod with_scratch;
 
 #[cfg(test)]
 mod stand_in;

@@ -6,14 +6,14 @@ use super::recorded::Recorded;
 use super::tally::Tally;
 use super::{Calls, Printed, Question};
 use crate::compare::{shown, BYTES_PAST};
-use crate::differences::{Difference, Differences};
-use crate::guarded::{self, Lengths, LentScratch};
+use crate::differences::Difference;
+use crate::guarded::{self, Lengths};
 use crate::interface::{Starts, MAX_ENTRIES, WORDS, WORDS_PER_ENTRY};
 use crate::ranges::List;
 use crate::reports::{bundles, reference, Asked};
 use crate::tagged::tables::loaded;
 use crate::tagged::translated::{Change, Inwards, Outwards};
-use crate::Rng;
+use crate::with_scratch;
 use oracle::Mode;
 
 /// What all calls of a question share.
@@ -34,25 +34,9 @@ impl Shared<'_> {
     }
 }
 
-pub struct Comparison<P> {
-    pub(super) port: P,
-    rng: Rng,
-    scratch: LentScratch,
-    pub tally: Tally,
-    pub differences: Differences,
-}
+pub type Comparison<P> = with_scratch::Comparison<P, Tally>;
 
 impl<P: Calls> Comparison<P> {
-    pub fn new(port: P, seed: u64) -> Self {
-        Comparison {
-            port,
-            rng: Rng::new(seed),
-            scratch: LentScratch::default(),
-            tally: Tally::default(),
-            differences: Differences::default(),
-        }
-    }
-
     /// A bundle in default tags; it is asked in those of the table, where there is one.
     pub fn bundle(&mut self, table: Option<&[u8]>, bundle: &[u8], list: &List) {
         let bundle = match table.map(loaded) {
@@ -255,6 +239,7 @@ mod tests {
     use crate::ranges::expected;
     use crate::reports::expected::Expected;
     use crate::stand_in;
+    use crate::Rng;
     use oracle::Refusal;
 
     /// What a port could do wrong.

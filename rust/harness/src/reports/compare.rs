@@ -6,15 +6,15 @@ use super::expected::{may_refuse, Expected, Told};
 use super::tally::Tally;
 use super::Asked;
 use crate::compare::{shown, BYTES_PAST, MOST_WORDS, THOROUGH_AT_MOST};
-use crate::differences::{Difference, Differences};
+use crate::differences::Difference;
 use crate::expected::{printing, refused, Answer};
-use crate::guarded::{self, Left, LentScratch};
+use crate::guarded::{self, Left};
 use crate::interface::{
     Filter, Gatherer, Starts, INNER_WORDS, MAX_ENTRIES, WORDS, WORDS_PER_ENTRY, WRITTEN,
 };
 use crate::ranges::List;
 use crate::tally::NUMBERS;
-use crate::Rng;
+use crate::with_scratch;
 use oracle::Mode;
 
 /// Of how many questions one is asked with every length; a prime.
@@ -75,25 +75,9 @@ impl Scratch {
     }
 }
 
-pub struct Comparison<P> {
-    port: P,
-    rng: Rng,
-    scratch: LentScratch,
-    pub tally: Tally,
-    pub differences: Differences,
-}
+pub type Comparison<P> = with_scratch::Comparison<P, Tally>;
 
 impl<P: Gatherer> Comparison<P> {
-    pub fn new(port: P, seed: u64) -> Self {
-        Comparison {
-            port,
-            rng: Rng::new(seed),
-            scratch: LentScratch::default(),
-            tally: Tally::default(),
-            differences: Differences::default(),
-        }
-    }
-
     pub fn text(&mut self, text: &[u8]) {
         self.ask(Asked::Text(text));
     }

@@ -4,14 +4,14 @@
 use super::tables::{loaded, EQUAL_TAGS, MALFORMED_TAGS};
 use super::translated::{Change, Inwards, Outwards};
 use crate::compare::{shown, BYTES_PAST, MOST_WORDS};
-use crate::differences::{Difference, Differences};
+use crate::differences::Difference;
 use crate::expected::{printing, Answer};
-use crate::guarded::{printed, Left, Lengths, LentScratch};
+use crate::guarded::{printed, Left, Lengths};
 use crate::interface::{Filter, Lent, Starts, Tagged, MAX_ENTRIES, START, WORDS, WORDS_PER_ENTRY};
 use crate::ranges::List;
 use crate::reports;
 use crate::tally::{row, rows, NAMES, NUMBERS};
-use crate::Rng;
+use crate::with_scratch;
 use lcov_sys::DEFAULT_TAGS;
 use oracle::Mode;
 use std::fmt;
@@ -121,25 +121,9 @@ impl fmt::Display for Tally {
     }
 }
 
-pub struct Comparison<P> {
-    port: P,
-    rng: Rng,
-    scratch: LentScratch,
-    pub tally: Tally,
-    pub differences: Differences,
-}
+pub type Comparison<P> = with_scratch::Comparison<P, Tally>;
 
 impl<P: Tagged> Comparison<P> {
-    pub fn new(port: P, seed: u64) -> Self {
-        Comparison {
-            port,
-            rng: Rng::new(seed),
-            scratch: LentScratch::default(),
-            tally: Tally::default(),
-            differences: Differences::default(),
-        }
-    }
-
     /// A line in default tags. It is asked, as all questions, in those of the table, or as it is.
     pub fn line(&mut self, table: &[u8], line: &[u8]) {
         self.ask(table, Asked::Read(line));
