@@ -112,8 +112,8 @@ uint32_t lcov_read_number(const uint8_t *field, size_t field_len, uint64_t max, 
  * functions, branches and lines in them.
  *
  * A bundle is n and T, then n starts, then n lengths, all little-endian u32, then T bytes of text. n is at most LCOV_MAX_TEXTS, the slice is
- * exactly 8 + 8n + T long, and each start + length is at most T. Texts may overlap; a text named twice counts twice. With n = 0 nothing is
- * written. */
+ * exactly 8 + 8n + T long, and each start + length is at most T. Texts may overlap; a text named twice counts twice. With n = 0 the
+ * report is empty. */
 
 /* Reads one text and prints its report. Refuses with 1 to 10, 14, 19, 23 and 25. */
 uint32_t lcov_read_text(const uint8_t *text, size_t text_len, uint64_t *scratch, size_t scratch_len, uint8_t *out, size_t out_len,
@@ -132,6 +132,16 @@ uint32_t lcov_gather_with(const uint8_t *bundle, size_t bundle_len, uint64_t *sc
  * 19, 23 and 25. */
 uint32_t lcov_gather_lossy(const uint8_t *bundle, size_t bundle_len, uint64_t *scratch, size_t scratch_len, uint8_t *out, size_t out_len,
                            uint64_t *answer, size_t answer_len);
+
+/* Gathers as lcov_gather_with does, and writes in place of the report its page of totals: for each section, in the report's order, a line
+ *    FH/FF BH/BF LH/LF share test path
+ * and a last line of the sums, which ends with their share. The numbers are the functions, branches and lines that are hit and found. They
+ * are counted over the report's entries, whatever totals the texts give; a branch without a taken count is found and not hit. share is 1000 LH
+ * / LF rounded down, the lines' share in tenths of a percent, and "-" where LF is 0. The names are as the report has them. A blank stands
+ * between two columns, also where a name is empty, and byte 10 ends each line. The first word, and the needed length of refusal 14, are the
+ * page's. Refuses as lcov_gather_with does. With n = 0 the page is the line "0/0 0/0 0/0 -". */
+uint32_t lcov_totals(const uint8_t *bundle, size_t bundle_len, uint64_t *scratch, size_t scratch_len, uint8_t *out, size_t out_len,
+                     uint64_t *answer, size_t answer_len);
 
 /* Ranges of lines are pairs of start and end, both in the range, in a lent list of which the first `used` pairs count. They are well formed
  * if used is at most the list's length, each start is at most its end, and they ascend with at least one line between two. pairs_len
@@ -188,6 +198,10 @@ uint32_t lcov_gather_tagged(const uint8_t *tags, size_t tags_len, const uint8_t 
 
 uint32_t lcov_gather_lossy_tagged(const uint8_t *tags, size_t tags_len, const uint8_t *bundle, size_t bundle_len, uint64_t *scratch,
                                   size_t scratch_len, uint8_t *out, size_t out_len, uint64_t *answer, size_t answer_len);
+
+/* The page has no tags. */
+uint32_t lcov_totals_tagged(const uint8_t *tags, size_t tags_len, const uint8_t *bundle, size_t bundle_len, uint64_t *scratch,
+                            size_t scratch_len, uint8_t *out, size_t out_len, uint64_t *answer, size_t answer_len);
 
 uint32_t lcov_filter_tagged(const uint8_t *tags, size_t tags_len, const uint8_t *text, size_t text_len, const uint32_t (*pairs)[2],
                             size_t pairs_len, size_t used, uint64_t *scratch, size_t scratch_len, uint8_t *out, size_t out_len,

@@ -135,6 +135,11 @@ static uint32_t gather_lossy(struct lent *lent)
     return lcov_gather_lossy(TEXT, SCRATCH, OUT, ANSWER);
 }
 
+static uint32_t totals(struct lent *lent)
+{
+    return lcov_totals(TEXT, SCRATCH, OUT, ANSWER);
+}
+
 static uint32_t filter(struct lent *lent)
 {
     return lcov_filter(TEXT, CONST_LIST, SCRATCH, OUT, ANSWER);
@@ -191,6 +196,11 @@ static uint32_t gather_lossy_tagged(struct lent *lent)
     return lcov_gather_lossy_tagged(TABLE, TEXT, SCRATCH, OUT, ANSWER);
 }
 
+static uint32_t totals_tagged(struct lent *lent)
+{
+    return lcov_totals_tagged(TABLE, TEXT, SCRATCH, OUT, ANSWER);
+}
+
 static uint32_t filter_tagged(struct lent *lent)
 {
     return lcov_filter_tagged(TABLE, TEXT, CONST_LIST, SCRATCH, OUT, ANSWER);
@@ -209,6 +219,7 @@ enum {
     GATHER,
     GATHER_WITH,
     GATHER_LOSSY,
+    TOTALS,
     FILTER,
     FILTER_DISTINCT_STARTS,
     INSERT_RANGE,
@@ -220,6 +231,7 @@ enum {
     READ_TEXT_TAGGED,
     GATHER_TAGGED,
     GATHER_LOSSY_TAGGED,
+    TOTALS_TAGGED,
     FILTER_TAGGED,
     FILTER_DISTINCT_STARTS_TAGGED,
 };
@@ -241,6 +253,7 @@ static const struct call CALLS[] = {
     [GATHER] = { "gather", gather, false, true, true, false, OF_CHECKED },
     [GATHER_WITH] = { "gather_with", gather_with, true, true, true, false, OF_CHECKED },
     [GATHER_LOSSY] = { "gather_lossy", gather_lossy, true, true, true, false, OF_LOSSY },
+    [TOTALS] = { "totals", totals, true, true, true, false, OF_CHECKED },
     [FILTER] = { "filter", filter, true, true, true, false, OF_FILTER },
     [FILTER_DISTINCT_STARTS] = { "filter_distinct_starts", filter_distinct_starts, true, true, true, false, OF_FILTER },
     [INSERT_RANGE] = { "insert_range", insert_range, false, false, true, true, BIT(0) | BIT(15) | BIT(18) },
@@ -252,6 +265,7 @@ static const struct call CALLS[] = {
     [READ_TEXT_TAGGED] = { "read_text_tagged", read_text_tagged, true, true, true, false, OF_TEXT | BIT(14) | OF_TAGS },
     [GATHER_TAGGED] = { "gather_tagged", gather_tagged, true, true, true, false, OF_CHECKED | OF_TAGS },
     [GATHER_LOSSY_TAGGED] = { "gather_lossy_tagged", gather_lossy_tagged, true, true, true, false, OF_LOSSY | OF_TAGS },
+    [TOTALS_TAGGED] = { "totals_tagged", totals_tagged, true, true, true, false, OF_CHECKED | OF_TAGS },
     [FILTER_TAGGED] = { "filter_tagged", filter_tagged, true, true, true, false, OF_FILTER | OF_TAGS },
     [FILTER_DISTINCT_STARTS_TAGGED] = { "filter_distinct_starts_tagged", filter_distinct_starts_tagged, true, true, true, false,
                                         OF_FILTER | OF_TAGS },
@@ -489,8 +503,10 @@ static void ask_bundle(struct text bundle, struct text tags)
     ask_report(GATHER, &in);
     ask_report(GATHER_WITH, &in);
     ask_report(GATHER_LOSSY, &in);
+    ask_report(TOTALS, &in);
     ask_report(GATHER_TAGGED, &in);
     ask_report(GATHER_LOSSY_TAGGED, &in);
+    ask_report(TOTALS_TAGGED, &in);
     free_input(&in);
 }
 
@@ -549,19 +565,24 @@ static const struct starts {
     { THREE_AND_SEVEN, 7, SEVENTH, SEVENTH },
 };
 
-static void ask_kept(size_t place, const struct input *in, const char *kept)
+/* These bytes are written, and the output holds no more. */
+static void ask_printed(size_t place, const struct input *in, const char *printed, const char *else_what)
 {
     const struct call *call = &CALLS[place];
     if (!chosen[place])
         return;
-    struct text printed = { NULL, 0 };
-    put(&printed, "TN:\nSF:a\n%send_of_record\n", kept);
-    struct lent lent = lend(in, (struct room){ enough_words(in), printed.len, LCOV_ANSWER_WORDS }, false);
-    bool is_answered = call->run(&lent) == 0 && lent.answer[0] == printed.len;
-    expect(is_answered && memcmp(lent.out, printed.bytes, printed.len) == 0, call->name, "other functions are kept");
+    struct lent lent = lend(in, (struct room){ enough_words(in), strlen(printed), LCOV_ANSWER_WORDS }, false);
+    bool is_answered = call->run(&lent) == 0 && lent.answer[0] == strlen(printed);
+    expect(is_answered && memcmp(lent.out, printed, strlen(printed)) == 0, call->name, else_what);
     calls++;
     give_back(&lent);
-    free(printed.bytes);
+}
+
+static void ask_kept(size_t place, const struct input *in, const char *kept)
+{
+    char printed[256];
+    snprintf(printed, sizeof printed, "TN:\nSF:a\n%send_of_record\n", kept);
+    ask_printed(place, in, printed, "other functions are kept");
 }
 
 static void ask_starts(void)
@@ -577,6 +598,17 @@ static void ask_starts(void)
         ask_kept(FILTER_DISTINCT_STARTS_TAGGED, &in, starts->by_distinct);
         free_input(&in);
     }
+}
+
+/* The page of two equal texts: SPEC 11.1, case (l), also where they give totals that are not true. */
+static void ask_page(void)
+{
+    static const char TEXT_OF_L[] = "TN:a\nSF:m.c\nFN:3,f\nFNDA:2,f\nDA:3,2\nDA:4,0\nLF:7\nLH:7\nend_of_record\n";
+    static const char PAGE[] = "1/1 0/0 1/2 500 a m.c\n1/1 0/0 1/2 500\n";
+    struct input in = { .bytes = bundle_of_two(TEXT_OF_L, TEXT_OF_L), .tags = default_tags() };
+    ask_printed(TOTALS, &in, PAGE, "another page is written");
+    ask_printed(TOTALS_TAGGED, &in, PAGE, "another page is written");
+    free_input(&in);
 }
 
 static void ask_texts(void)
@@ -720,6 +752,7 @@ int main(int argc, char **argv)
     ask_nothing();
     ask_faults();
     ask_starts();
+    ask_page();
     ask_lines();
     ask_numbers();
     ask_lists();

@@ -257,7 +257,7 @@ module _ (tag : Kind → Bytes) {text ws ws′ : List ℕ} {index used n lo spar
 pub filtered-prints : (tag : Kind → Bytes) (bound : Bound) (ranges : List Range) {text ws : List ℕ} {index used n spare : ℕ} → PrintableTable text ws index used n spare
     → Prints (filteredFrom tag bound ranges text index n) ws n spare
 unfolding printSections printRecords sections concatMap
-filtered-prints tag bound ranges π = record {
+filtered-prints tag bound ranges {text} {ws} {index} {used} {n} π = record {
   same = λ ws′ σ lo. ap (λ (e : Report). printSections tag (map (filterSection bound ranges) (sections e))) (entries-kept π σ lo);
-  none = λ lo h. ap (λ (e : Report). printSections tag (map (filterSection bound ranges) (sections e))) (entries-none π lo h);
+  none = λ lo h. ap (λ (e : Report). printSections tag (map (filterSection bound ranges) (sections e))) (entries-none text ws index n lo h);
 }

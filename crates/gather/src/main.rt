@@ -7,7 +7,7 @@ ghost use Rattle.model.specs.Limits.{program-words, program-output};
 ghost use Rattle.model.specs.Tags.{defaultTag};
 ghost use Rattle.model.specs.Gather.{printedAnswer, gatherProgram};
 ghost use Rattle.model.specs.Gather.{gather as gatherOf};
-ghost use Rattle.gather.specs.Front.{Fronts};
+ghost use Rattle.program_io.specs.Front.{Fronts};
 use model::Fault;
 use model::WriteAnswer;
 

@@ -7,18 +7,19 @@ use mathlib.Core.List.{List, [], _++_, map}
 use lib.ListN.{length, take, drop, take-append-drop}
 use Rattle.model.specs.declared.Kind.{Kind}
 use Rattle.model.specs.declared.Fault.{Fault}
-use Rattle.model.specs.declared.Fault.the-variants.{MalformedBundle, MalformedRanges}
+use Rattle.model.specs.declared.Fault.the-variants.{MalformedRanges}
 use Rattle.model.specs.declared.LineAnswer.{LineAnswer}
 use Rattle.model.specs.declared.LineAnswer.the-variants as A
 use Rattle.model.specs.declared.Record.{Record as LentRecord}
 use Rattle.model.specs.declared.Mode.{Mode}
+use Rattle.model.specs.declared.Mode.the-variants.{Checked}
 use Rattle.model.specs.declared.Bound.{Bound}
 use Rattle.model.specs.declared.Range.{Range}
 use Rattle.model.specs.declared.Refusal.{Refusal}
 use Rattle.model.specs.declared.WriteAnswer.{WriteAnswer}
 use Rattle.model.specs.declared.WriteAnswer.the-variants as W
 use Rattle.model.specs.Bytes.{Bytes}
-use Rattle.model.specs.Limits.{words-per-entry, max-entries}
+use Rattle.model.specs.Limits.{max-entries}
 use Rattle.model.specs.Answer.{Answer, accepted, refused, unplaced, refuse, _>>=_}
 use Rattle.model.specs.TagTable.{loadTags, tagged, tagsOf, areTags}
 use Rattle.tag_table.specs.Loading.{LoadedTags, LoadedAs}
@@ -32,40 +33,20 @@ use Rattle.model.specs.Filter.{filterSection, filterText}
 use Rattle.model.specs.Output.{written, outputAfter}
 use Rattle.model.specs.Calls.{lineValues, LineCall, WriteCall, writeAnswer}
 use Rattle.model.proofs.CallLaws.{write-called}
-use Rattle.model.specs.Bundle.{wellFormed, texts}
-use Rattle.model.specs.Gather.{entryLimit, readAndPrint, gatherTexts, gather}
+use Rattle.model.specs.Gather.{entryLimit, readAndPrint, gatherBundle, gather}
 use Rattle.table_section.specs.Sections.{entriesAt}
 use Rattle.section.specs.Table.{Table}
-use Rattle.section.specs.Reading.{capacity, SectionRoom}
+use Rattle.section.specs.Reading.{capacity}
 use Rattle.report_parser.specs.declared.TextAnswer.{TextAnswer}
 use Rattle.report_parser.specs.declared.TextAnswer.the-variants as T
 use Rattle.report_parser.specs.Reader.{TextRead}
-use Rattle.lcov.specs.declared.Gathered.{Gathered}
-use Rattle.lcov.specs.declared.Gathered.the-variants as G
-use Rattle.lcov.specs.Layout.{index-at, spare-at, base-at, ScratchRoom}
-use Rattle.lcov.specs.Gathering.{JoinedTable, GatheredAs}
+use Rattle.model_totals.specs.Totals.{page, totals}
+use Rattle.scratch_layout.specs.Layout.{index-at, spare-at}
+use Rattle.joined_table.specs.declared.Gathered.{Gathered}
+use Rattle.joined_table.specs.declared.Gathered.the-variants as G
+use Rattle.joined_table.specs.Gathering.{BundleGathered}
 use Rattle.lcov.specs.Demand.{refusedTags}
-use Rattle.lcov.proofs.TableLaws.{entries-wider, table-wider}
-use Rattle.lcov.proofs.OneLaws.{read-table}
-
--- ---- the limit
-
-pub limit-least : (words limit : ℕ) → limit ≡ words / words-per-entry → limit < max-entries → limit ≡ entryLimit words
-limit-least words limit e h = omega arith
-
-pub limit-most : (words limit : ℕ) → limit ≡ words / words-per-entry → max-entries ≤ limit → max-entries ≡ entryLimit words
-limit-most words limit e h = omega arith
-
-pub limit-few : (words limit : ℕ) → limit ≡ entryLimit words → limit ≤ max-entries
-limit-few words limit is = omega arith
-
-module _ (ws : List ℕ) (limit : ℕ) (is : limit ≡ entryLimit (length ws)) where
-  pub limit-space : ScratchRoom ws limit
-  limit-space = record { most = omega arith; words = omega arith }
-
-  -- a reading has room
-  pub limit-room : (index : ℕ) → index ≡ index-at limit → SectionRoom ws index limit
-  limit-room index e = record { rows = omega arith; words = omega arith }
+use Rattle.joined_table.proofs.OneLaws.{read-table}
 
 -- ---- answers
 
@@ -93,62 +74,45 @@ module _ (text ws : List ℕ) (words index spare limit used n : ℕ) (is : limit
   ready : Table text ws index used n → used ≤ capacity limit → n ≤ limit → Ready text ws index spare used n
   ready t h m = ((t, omega arith), (omega arith, omega arith))
 
--- ---- gather
+-- ---- a bundle gathered
 
--- the test for a well-formed bundle
-pub well-formed : (bundle : Bytes) (b : Bool) → b ≡ wellFormed bundle → b ≡ true → wellFormed bundle ≡ true
-well-formed bundle b is h = sym is ∙ h
+-- the answer of a call that gathers a bundle and prints what it makes of the report
+abbrev gatherThen : (tag : Kind → Bytes) → (Report → Bytes) → Mode → Bytes → ℕ → Bytes → Answer Bytes
+gatherThen tag print mode bundle words out = gatherBundle tag mode bundle words >>= λ report. written (length out) (print report)
 
-pub not-well-formed : (bundle : Bytes) (b : Bool) → b ≡ wellFormed bundle → b ≡ false → wellFormed bundle ≡ false
-not-well-formed bundle b is h = sym is ∙ h
+pub gather-means : (tag : Kind → Bytes) (mode : Mode) (bundle : Bytes) (words : ℕ) (out : Bytes)
+    → gather tag mode bundle words (length out) ≡ gatherThen tag (printReport tag) mode bundle words out
+unfolding gather
+gather-means tag mode bundle words out = refl
 
-module _ (tag : Kind → Bytes) (bundle : Bytes) (mode : Mode) (words : ℕ) where
-  abbrev gathered : Bytes → Answer Bytes
-  gathered out = gather tag mode bundle words (length out)
+pub totals-means : (tag : Kind → Bytes) (bundle : Bytes) (words : ℕ) (out : Bytes) → totals tag bundle words (length out) ≡ gatherThen tag page Checked bundle words out
+unfolding totals
+totals-means tag bundle words out = refl
 
-  pub gather-bad : (out : Bytes) (r : Refusal) → wellFormed bundle ≡ false → r ≡ unplaced MalformedBundle → Told (gathered out) out out (W.Refused r)
-  unfolding gather
-  gather-bad out r bad e = told-refused (gathered out) r out (rw (bad, e))
+module _ (tag : Kind → Bytes) (bundle : Bytes) (mode : Mode) (words : ℕ) (ws : List ℕ) (got : Gathered)
+    (g : BundleGathered (gatherBundle tag mode bundle words) bundle ws (entryLimit words) got) where
+  module _ (n : ℕ) (e : got ≡ G.Entries n) (limit : ℕ) (is : limit ≡ entryLimit words) (index : ℕ) (at-index : index ≡ index-at limit) where
+    pub gathered-table : Table bundle ws index n n × (n ≤ max-entries)
+    gathered-table =
+        let held : Table bundle ws (index-at (entryLimit words)) n n × (n ≤ entryLimit words) = rw e at (g .held) in
+        (rw (at-index, is) (held .0), omega (arith, held .1))
 
-  module _ (well : wellFormed bundle ≡ true) (limit : ℕ) (is : limit ≡ entryLimit words) (ws : List ℕ) (got : Gathered)
-      (g : GatheredAs (gatherTexts tag mode limit (texts bundle) []) bundle ws limit got) where
-    pub gather-refused : (out : Bytes) (r : Refusal) → got ≡ G.Refused r → Told (gathered out) out out (W.Refused r)
-    unfolding gather
-    gather-refused out r e =
-        let all-texts : refused r ≡ gatherTexts tag mode limit (texts bundle) [] = rw e at (g .is) in
-        told-refused (gathered out) r out (rw (well, ← is, ← all-texts))
+    pub gathered-ready : length ws ≡ words → (spare : ℕ) → spare ≡ spare-at limit → Ready bundle ws index spare n n
+    gathered-ready long spare at-spare =
+        let held : Table bundle ws (index-at (entryLimit words)) n n × (n ≤ entryLimit words) = rw e at (g .held) in
+        ready bundle ws words index spare limit n n is long at-index at-spare (gathered-table .0) (omega (arith, held .1)) (omega (arith, held .1))
 
-    module _ (n : ℕ) (e : got ≡ G.Entries n) (index : ℕ) (at-index : index ≡ index-at limit) where
-      joining : JoinedTable bundle ws limit n
-      joining = rw e at (g .held)
+  module _ (print : Report → Bytes) (out : Bytes) (answer : Answer Bytes) (means : answer ≡ gatherThen tag print mode bundle words out) where
+    pub gathered-refused : (r : Refusal) → got ≡ G.Refused r → Told answer out out (W.Refused r)
+    gathered-refused r e =
+        let none : refused r ≡ gatherBundle tag mode bundle words = rw e at (g .is) in
+        told-refused answer r out (sym (means ∙ rw (← none)))
 
-      parts : take (base-at limit) ws ++ drop (base-at limit) ws ≡ ws
-      parts = take-append-drop (base-at limit) ws
-
-      table : Table bundle ws index n n
-      table =
-          rw at-index
-          (subst (λ (us : List ℕ). Table bundle us (index-at limit) n n) parts
-          (table-wider bundle (take (base-at limit) ws) (drop (base-at limit) ws) (index-at limit) n n (joining .table)))
-
-      pub gather-ready : length ws ≡ words → (spare : ℕ) → spare ≡ spare-at limit → Ready bundle ws index spare n n
-      gather-ready long spare at-spare = ready bundle ws words index spare limit n n is long at-index at-spare table (omega (arith, joining .most)) (joining .most)
-
-      entries-are : entriesAt bundle ws index n ≡ entriesAt bundle (take (base-at limit) ws) (index-at limit) n
-      entries-are =
-          rw at-index
-          (subst (λ (us : List ℕ). entriesAt bundle us (index-at limit) n ≡ entriesAt bundle (take (base-at limit) ws) (index-at limit) n) parts
-          (entries-wider bundle (take (base-at limit) ws) (drop (base-at limit) ws) (index-at limit) n n (joining .table)))
-
-      printed : (out : Bytes) → written (length out) (printReport tag (entriesAt bundle ws index n)) ≡ gathered out
-      unfolding gather
-      printed out =
-          let all-texts : accepted (entriesAt bundle (take (base-at limit) ws) (index-at limit) n) ≡ gatherTexts tag mode limit (texts bundle) [] = rw e at (g .is) in
-          rw (well, ← is, ← all-texts, entries-are)
-
-      pub gather-printed : (out out′ : Bytes) (r : WriteAnswer) → Told (written (length out) (printReport tag (entriesAt bundle ws index n))) out out′ r
-          → Told (gathered out) out out′ r
-      gather-printed out out′ r t = told-as (written (length out) (printReport tag (entriesAt bundle ws index n))) (gathered out) out out′ r (printed out) t
+    pub gathered-printed : (n : ℕ) → got ≡ G.Entries n → (limit : ℕ) → limit ≡ entryLimit words → (index : ℕ) → index ≡ index-at limit
+        → (out′ : Bytes) (r : WriteAnswer) → Told (written (length out) (print (entriesAt bundle ws index n))) out out′ r → Told answer out out′ r
+    gathered-printed n e limit is index at-index out′ r t =
+        let all : accepted (entriesAt bundle ws (index-at (entryLimit words)) n) ≡ gatherBundle tag mode bundle words = rw e at (g .is) in
+        told-as (written (length out) (print (entriesAt bundle ws index n))) answer out out′ r (sym (means ∙ rw (← all, at-index, is))) t
 
 -- ---- one text
 

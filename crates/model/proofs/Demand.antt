@@ -46,7 +46,7 @@ use Rattle.model.specs.Reading.{readText}
 use Rattle.model.specs.Output.{written}
 use Rattle.model.specs.Printing.{printReport}
 use Rattle.model.specs.Bundle.{Text, contents, wellFormed, texts}
-use Rattle.model.specs.Gather.{entryLimit, readAndPrint, gatherText, gatherTexts, gather}
+use Rattle.model.specs.Gather.{entryLimit, readAndPrint, gatherText, gatherTexts, gatherBundle, gather}
 use Rattle.model.specs.Joined.{allEntries, joinedReport, readAll, startsAgree, checksumsAgree, sumsFit, SameTexts, oneSpelling}
 use Rattle.model.specs.Valid.{ItemFits, Valid}
 use Rattle.model.specs.Demand.{Gatherable, Acceptable, Demand3}
@@ -105,30 +105,34 @@ module _ (tag : Kind → Bytes) (mode : Mode) where
   gather-same limit [] m = refl
   gather-same limit (t ∷ ts) m = bind-next (inText (t .index) (gatherText tag mode limit (t .bytes) m)) _ _ (gather-same limit ts)
 
+  -- what is gathered of a bundle is gathered of its texts, and the bundle is well formed
+  pub bundle-gathered : (bundle : Bytes) (words : ℕ) {n : Report} → gatherBundle tag mode bundle words ≡ accepted n
+      → (wellFormed bundle ≡ true) × (gatherTexts tag mode (entryLimit words) (texts bundle) [] ≡ accepted n)
+  unfolding gatherBundle
+  bundle-gathered bundle words {n} p = go (wellFormed bundle) refl p
+    where
+      go : (b : Bool) → wellFormed bundle ≡ b
+          → _≡_ {A = Answer Report} (if b then gatherTexts tag mode (entryLimit words) (texts bundle) [] else refuse MalformedBundle) (accepted n)
+          → (wellFormed bundle ≡ true) × (gatherTexts tag mode (entryLimit words) (texts bundle) [] ≡ accepted n)
+      go true w q = (w, q)
+      go false w q = absurd (not-accepted q)
+
   -- a well-formed bundle: its texts are gathered, and the report is written
   pub gather-texts : (bundle : Bytes) (words room : ℕ) → wellFormed bundle ≡ true
       → gather tag mode bundle words room ≡ (gatherTexts tag mode (entryLimit words) (texts bundle) [] >>= λ report. written room (printReport tag report))
-  unfolding gather
+  unfolding gather gatherBundle
   gather-texts bundle words room w = rw w
 
   -- an accepted bundle is well formed, its texts are gathered, and what is written is their report, printed
   pub gather-wrote : (bundle : Bytes) (words room : ℕ) {bytes : Bytes} → gather tag mode bundle words room ≡ accepted bytes
       → (n : Report) × (wellFormed bundle ≡ true) × (gatherTexts tag mode (entryLimit words) (texts bundle) [] ≡ accepted n)
       × (bytes ≡ printReport tag n) × (length (printReport tag n) ≤ room)
-  unfolding gather
-  gather-wrote bundle words room {bytes} p = go (wellFormed bundle) refl p
-    where
-      go : (b : Bool) → wellFormed bundle ≡ b
-          → _≡_ {A = Answer Bytes}
-          (if b then (gatherTexts tag mode (entryLimit words) (texts bundle) [] >>= λ report. written room (printReport tag report)) else refuse MalformedBundle)
-          (accepted bytes)
-          → (n : Report) × (wellFormed bundle ≡ true) × (gatherTexts tag mode (entryLimit words) (texts bundle) [] ≡ accepted n)
-          × (bytes ≡ printReport tag n) × (length (printReport tag n) ≤ room)
-      go true w p =
-          let (n, g, q) = bind-accepted (gatherTexts tag mode (entryLimit words) (texts bundle) []) _ p in
-          let (f, h) = written-accepted room (printReport tag n) q in
-          (n, w, g, f, h)
-      go false w p = absurd (not-accepted p)
+  unfolding gather gatherBundle
+  gather-wrote bundle words room {bytes} p =
+      let (n, g, q) = bind-accepted (gatherBundle tag mode bundle words) _ p in
+      let (w, t) = bundle-gathered bundle words g in
+      let (f, h) = written-accepted room (printReport tag n) q in
+      (n, w, t, f, h)
 
   -- VALID: what is gathered is a valid report within the limit
   text-valid : (limit : ℕ) (text : Bytes) (m n : Report) → Valid m → gatherText tag mode limit text m ≡ accepted n → Valid n × (length n ≤ limit)

@@ -94,7 +94,7 @@ use Rattle.model.specs.Printing.{
   printReport,
 }
 use Rattle.model.specs.Bundle.{u32At, textCount, textBytes, textStart, textLength, wellFormed, textAt, texts}
-use Rattle.model.specs.Gather.{readAndPrint, gatherText, gatherTexts, gather, printedAnswer, gatherProgram}
+use Rattle.model.specs.Gather.{readAndPrint, gatherText, gatherTexts, gatherBundle, gather, printedAnswer, programOf, gatherProgram}
 use Rattle.model.specs.Joined.{
   insertKey,
   distinctKeys,
@@ -138,5 +138,5 @@ use Rattle.model.specs.Filter.{
 }
 
 unfoldable pub open-all : {A : Type 0} → A → A
-unfolding refusalValues filter all any insertSorted sort from concatMap compareBytes before after onto split joined code comparePaths named leading components readDigits readNumber readField decimalDigits decimal allKinds defaultTag differ tagLength slotAt tagAt tagFits wellFormedTags loadTags zeros tableOf tagsOf areTags beforeTrimmed trimmed kindAmong fromField inField numberField textField takenField checksumField lastBefore readOne allDigits isDigits beginsWithEnd withEnd readFunction readBody bodyOf readTrimmed readRecord readLine printFields printEnd printTaken printChecksum printRecord written outputAfter partOf endIn takenIn checksumIn recordIn printLine itemKey compareItems compareSections compareKeys entryKey extentOf takenOf checksumOf countOf sum sumTaken agree combineExtents combineItems combineEntries merge within withoutEmptyLast lines outside open-section entries spellingOf replaceSection keepSection addCalls enterItem ignored nameSection effect step readLines readText isSection isFunction isBranch isLine itemsHere sectionHere sections printKey comparePrinted functionsOf startRecord dataRecord hits group sectionRecords printRecords printSections printReport u32At textCount textBytes textStart textLength wellFormed textAt texts readAndPrint gatherText gatherTexts gather printedAnswer gatherProgram insertKey distinctKeys itemsAt given allAgree agreeing total totalGiven largest joinedAs joinedItem joinedEntry joinedReport summedOf spellings ascending wellFormedRanges halfOpen joinInto insertRange insertCall sliceAfter holds queryCall lineOf isHeld startLine hasStart bounding endBefore endLine heldFunctions filterItems filterSection filterText
+unfolding refusalValues filter all any insertSorted sort from concatMap compareBytes before after onto split joined code comparePaths named leading components readDigits readNumber readField decimalDigits decimal allKinds defaultTag differ tagLength slotAt tagAt tagFits wellFormedTags loadTags zeros tableOf tagsOf areTags beforeTrimmed trimmed kindAmong fromField inField numberField textField takenField checksumField lastBefore readOne allDigits isDigits beginsWithEnd withEnd readFunction readBody bodyOf readTrimmed readRecord readLine printFields printEnd printTaken printChecksum printRecord written outputAfter partOf endIn takenIn checksumIn recordIn printLine itemKey compareItems compareSections compareKeys entryKey extentOf takenOf checksumOf countOf sum sumTaken agree combineExtents combineItems combineEntries merge within withoutEmptyLast lines outside open-section entries spellingOf replaceSection keepSection addCalls enterItem ignored nameSection effect step readLines readText isSection isFunction isBranch isLine itemsHere sectionHere sections printKey comparePrinted functionsOf startRecord dataRecord hits group sectionRecords printRecords printSections printReport u32At textCount textBytes textStart textLength wellFormed textAt texts readAndPrint gatherText gatherTexts gatherBundle gather printedAnswer programOf gatherProgram insertKey distinctKeys itemsAt given allAgree agreeing total totalGiven largest joinedAs joinedItem joinedEntry joinedReport summedOf spellings ascending wellFormedRanges halfOpen joinInto insertRange insertCall sliceAfter holds queryCall lineOf isHeld startLine hasStart bounding endBefore endLine heldFunctions filterItems filterSection filterText
 open-all a = a

@@ -45,22 +45,28 @@ module _ (tag : Kind → Bytes) where
     next ← inText (text .index) (gatherText mode limit (text .bytes) into)
     gatherTexts mode limit rest next
 
-  -- gather: the bundle's texts from an empty report on, and the joined report printed
+  -- the texts of a bundle from an empty report on
+  unfoldable pub gatherBundle : Mode → Bytes → ℕ → Answer Report
+  gatherBundle mode bundle words =
+      if wellFormed bundle then gatherTexts mode (entryLimit words) (texts bundle) [] else refuse MalformedBundle
+
+  -- gather: the joined report printed
   unfoldable pub gather : Mode → Bytes → ℕ → ℕ → Answer Bytes
-  gather mode bundle words room =
-      if wellFormed bundle
-      then (gatherTexts mode (entryLimit words) (texts bundle) [] >>= λ report. written room (printReport tag report))
-      else refuse MalformedBundle
+  gather mode bundle words room = gatherBundle mode bundle words >>= λ report. written room (printReport tag report)
 
--- ---- the program `gather`
+-- ---- programs
 
--- what it prints for an answer
+-- what a program prints for an answer
 unfoldable pub printedAnswer : Answer Bytes → Bytes
 printedAnswer (accepted bytes) = bytes
 printedAnswer (refused r) =
     ascii "refused " ++ decimal (numberOf (r .fault)) ++ ascii " " ++ decimal (r .text) ++ ascii " " ++ decimal (r .line) ++ ascii " " ++ decimal (r .field) ++ newline ∷ []
 
--- what it prints for its standard input
+-- what a program prints for its standard input, where it hands a bundle to a call
+unfoldable pub programOf : (Bytes → ℕ → ℕ → Answer Bytes) → Bytes → Bytes
+programOf call input =
+    printedAnswer (if leb (length input) program-input then call input program-words program-output else refuse MalformedBundle)
+
+-- the program `gather`
 unfoldable pub gatherProgram : Bytes → Bytes
-gatherProgram input =
-    printedAnswer (if leb (length input) program-input then gather defaultTag Checked input program-words program-output else refuse MalformedBundle)
+gatherProgram input = programOf (gather defaultTag Checked) input

@@ -15,7 +15,8 @@ use Rattle.table_section.specs.Sections.{entryAt, entriesAt}
 use Rattle.print_bound.specs.Bound.{reportMost, FitsBound}
 use Rattle.print_bound.proofs.ReportLaws.{report-max}
 use Rattle.print_report.specs.Printing.{printedFrom, PrintableTable, RequiredLength}
-use Rattle.print_report.proofs.LoopLaws.{entries-all, required-none}
+use Rattle.print_report.proofs.AnswerLaws.{required-none}
+use Rattle.print_report.proofs.LoopLaws.{entries-all}
 
 module _ {text ws : List ℕ} {index used n spare : ℕ} (π : PrintableTable text ws index used n spare) where
   pub entries-few : length (entriesAt text ws index n) ≤ max-entries

@@ -5,5 +5,6 @@ pub mod GoingLaws
 pub mod TableLaws
 pub mod FunctionLaws
 pub mod StageLaws
+pub mod AnswerLaws
 pub mod LoopLaws
 pub mod BoundLaws

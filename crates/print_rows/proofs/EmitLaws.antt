@@ -17,12 +17,12 @@ use Rattle.model.specs.Bytes.{Bytes}
 use Rattle.model.specs.Calls.{WriteCall, writeAnswer}
 use Rattle.model.proofs.CallLaws.{write-exact}
 use Rattle.model.specs.Limits.{u64-max}
-use Rattle.model.specs.Output.{outputAfter}
+use Rattle.model.specs.Output.{written, outputAfter}
 use Rattle.model.specs.Parts.{printLine}
-use Rattle.format.specs.Put.{over}
+use Rattle.format.specs.Put.{putLen, over}
 use Rattle.scan.proofs.ByteLaws.{drop-end}
 use Rattle.record_display.specs.Lines.{lineIn}
-use Rattle.format.proofs.OverLaws.{to-end}
+use Rattle.format.proofs.OverLaws.{to-end, put-over, put-len}
 use Rattle.record_display.proofs.LineLaws.{lent-out, lent-written, lent-refused}
 use Rattle.print_rows.specs.Emit.{putAt, outAfter, RoomFor, Emitted}
 
@@ -115,43 +115,68 @@ emitted-past write out bytes at r e h = rw e (record { next = h; after = refl })
 pub emitted-measured : (write : Bool) (out bytes : Bytes) (at n r : ℕ) → write ≡ false → n ≡ length bytes → r ≡ min (at + n) u64-max → Emitted write out out at bytes r
 emitted-measured write out bytes at n r e q h = emitted-past write out bytes at r e (rw q at h)
 
+-- ---- bytes written into the rest of the output
+
+module _ (write : Bool) (writes : write ≡ true) (out : Bytes) (at : ℕ) (s : Bytes) (room : RoomFor write out at s) where
+  abbrev part : Bytes
+  part = take (length out - at) (drop at out)
+
+  bytes-room : at + length s ≤ length out
+  bytes-room = rw writes at room
+
+  pub bytes-at : at ≤ length out
+  bytes-at = omega (arith, bytes-room)
+
+  rest-room : length s ≤ length part
+  rest-room = simp (length-take, length-drop) (omega (arith, bytes-room))
+
+  module _ (few : length out * 1 < 2 ^ 63) (ys : Bytes) where
+    emitted-put : ys ≡ over s part → (r : ℕ) → r ≡ at + length s → Emitted write out (take at out ++ (ys ++ drop (length out - at) (drop at out))) at s r
+    unfolding outputAfter
+    emitted-put y r e =
+        let nothing : drop (length out - at) (drop at out) ≡ [] = drop-end (drop at out) (length out - at) (simp length-drop (omega arith)) in
+        let put : take at out ++ (ys ++ drop (length out - at) (drop at out)) ≡ putAt out at s = rw (y, nothing, to-end out at, append-nil, drop-drop) in
+        record { next = omega (arith, bytes-room); after = put ∙ rw writes }
+
+    module _ (y : ys ≡ outputAfter (written (length part) s) part) (n : ℕ) (e : n ≡ putLen (written (length part) s)) where
+      pub bytes-fits : Fits w64 (at + n)
+      bytes-fits = record { fits = omega (arith, bytes-room, put-len s part rest-room n e) }
+
+      pub bytes-emitted : Emitted write out (take at out ++ (ys ++ drop (length out - at) (drop at out))) at s (at + n)
+      bytes-emitted = emitted-put (put-over s part rest-room ys y) (at + n) (omega (arith, put-len s part rest-room n e))
+
 -- ---- one line, written into the rest of the output
 
 module _ (tag : Kind → Bytes) (write : Bool) (writes : write ≡ true) (out : Bytes) (at : ℕ) (t : Bytes) (a : Record) (room : RoomFor write out at (lineIn tag t a)) where
-  line-room : at + length (lineIn tag t a) ≤ length out
-  line-room = rw writes at room
+  abbrev line : Bytes
+  line = lineIn tag t a
+
+  abbrev lent : Bytes
+  lent = take (length out - at) (drop at out)
+
+  line-room : length line ≤ length lent
+  line-room = rest-room write writes out at line room
 
   pub line-at : at ≤ length out
-  line-at = omega (arith, line-room)
+  line-at = bytes-at write writes out at line room
 
-  rest-room : length (lineIn tag t a) ≤ length (take (length out - at) (drop at out))
-  rest-room = simp (length-take, length-drop) (omega (arith, line-room))
+  module _ (few : length out * 1 < 2 ^ 63) (ys : Bytes) (wrote : WriteAnswer) (call : WriteCall (printLine tag t a (length lent)) lent ys wrote) where
+    answers : wrote ≡ writeAnswer (printLine tag t a (length lent))
+    answers = write-exact (printLine tag t a (length lent)) wrote (call .returns)
 
-  module _ (few : length out * 1 < 2 ^ 63) (ys : Bytes) (wrote : WriteAnswer)
-      (call : WriteCall (printLine tag t a (length (take (length out - at) (drop at out)))) (take (length out - at) (drop at out)) ys wrote) where
-    answers : wrote ≡ writeAnswer (printLine tag t a (length (take (length out - at) (drop at out))))
-    answers = write-exact (printLine tag t a (length (take (length out - at) (drop at out)))) wrote (call .returns)
+    line-put : (r : ℕ) → r ≡ at + length line → Emitted write out (take at out ++ (ys ++ drop (length out - at) (drop at out))) at line r
+    line-put r e = emitted-put write writes out at line room few ys (call .leaves ∙ lent-out tag lent t a line-room) r e
 
-    rest-put : take at out ++ (ys ++ drop (length out - at) (drop at out)) ≡ putAt out at (lineIn tag t a)
-    unfolding outputAfter
-    rest-put =
-        let y : ys ≡ over (lineIn tag t a) (take (length out - at) (drop at out)) = call .leaves ∙ lent-out tag (take (length out - at) (drop at out)) t a rest-room in
-        let nothing : drop (length out - at) (drop at out) ≡ [] = drop-end (drop at out) (length out - at) (simp length-drop (omega arith)) in
-        rw (y, nothing, to-end out at, append-nil, drop-drop)
-
-    emitted-put : (r : ℕ) → r ≡ at + length (lineIn tag t a) → Emitted write out (take at out ++ (ys ++ drop (length out - at) (drop at out))) at (lineIn tag t a) r
-    emitted-put r e = record { next = omega (arith, line-room); after = rest-put ∙ rw writes }
-
-    wrote-len : (n : ℕ) → wrote ≡ Written n → n ≡ length (lineIn tag t a)
-    wrote-len n e = lent-written tag (take (length out - at) (drop at out)) t a rest-room n (sym e ∙ answers)
+    wrote-len : (n : ℕ) → wrote ≡ Written n → n ≡ length line
+    wrote-len n e = lent-written tag lent t a line-room n (sym e ∙ answers)
 
     pub wrote-fits : (n : ℕ) → wrote ≡ Written n → Fits w64 (at + n)
-    wrote-fits n e = record { fits = omega (arith, line-room, wrote-len n e) }
+    wrote-fits n e = record { fits = omega (arith, bytes-room write writes out at line room, wrote-len n e) }
 
-    pub wrote-line : (n : ℕ) → wrote ≡ Written n → Emitted write out (take at out ++ (ys ++ drop (length out - at) (drop at out))) at (lineIn tag t a) (at + n)
-    wrote-line n e = emitted-put (at + n) (omega (arith, wrote-len n e))
+    pub wrote-line : (n : ℕ) → wrote ≡ Written n → Emitted write out (take at out ++ (ys ++ drop (length out - at) (drop at out))) at line (at + n)
+    wrote-line n e = line-put (at + n) (omega (arith, wrote-len n e))
 
-    pub wrote-none : (q : Refusal) → wrote ≡ Refused q → Emitted write out (take at out ++ (ys ++ drop (length out - at) (drop at out))) at (lineIn tag t a) at
+    pub wrote-none : (q : Refusal) → wrote ≡ Refused q → Emitted write out (take at out ++ (ys ++ drop (length out - at) (drop at out))) at line at
     wrote-none q e =
-        let z = ap length (lent-refused tag (take (length out - at) (drop at out)) t a rest-room q (sym e ∙ answers)) in
-        emitted-put at (omega (arith, z))
+        let z = ap length (lent-refused tag lent t a line-room q (sym e ∙ answers)) in
+        line-put at (omega (arith, z))

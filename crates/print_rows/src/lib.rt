@@ -37,6 +37,18 @@ fn saturating_add(at: usize, n: usize) -> usize
     at + n
 }
 
+// Bytes.
+pub fn emit_bytes(s: &[u8], out: &mut [u8], at: usize, write: bool) -> usize
+    requires { ⌜ RoomFor write (now out) at (now s) ⌝ }
+    ensures { λ r. ⌜ Emitted write (now (out .entry)) (now (out .exit)) at (now (s .entry)) r ⌝ }
+{
+    if write {
+        let n = format::put_bytes(s, &mut out[at..]);
+        return at + n;
+    }
+    saturating_add(at, s.len())
+}
+
 // One record's line. A record with a part outside text has none.
 fn emit_record(
     tags: &[u8],
@@ -295,7 +307,7 @@ fn hit_of(row: Row) -> u32
 }
 
 // How many of the n rows whose numbers are at word `numbers` on are hit.
-fn count_hits(words: &[u64], numbers: usize, n: usize) -> u32
+pub fn count_hits(words: &[u64], numbers: usize, n: usize) -> u32
     requires { ⌜ Numbered (now words) numbers n × (n ≤ u32-max) ⌝ }
     ensures { λ r. ⌜ ((text : List ℕ) → r ≡ hits (tabulate (numberedItem text (now (words .entry)) numbers) n)) ⌝ }
 {

@@ -1,1 +1,2 @@
 pub mod RefusedLaws
+pub mod AnswerLaws

@@ -46,6 +46,10 @@ impl Gatherer for Build {
             .gather_lossy(bundle, lent.scratch, lent.out, lent.answer)
     }
 
+    fn totals(&self, bundle: &[u8], lent: Lent) -> u32 {
+        self.0.totals(bundle, lent.scratch, lent.out, lent.answer)
+    }
+
     fn filter_text(&self, asked: Filter, lent: Lent) -> u32 {
         let Filter { starts, text, list } = asked;
         let filter = match starts {
@@ -92,6 +96,11 @@ impl Tagged for Build {
     fn gather_lossy_tagged(&self, tags: &[u8], bundle: &[u8], lent: Lent) -> u32 {
         self.0
             .gather_lossy_tagged(tags, bundle, lent.scratch, lent.out, lent.answer)
+    }
+
+    fn totals_tagged(&self, tags: &[u8], bundle: &[u8], lent: Lent) -> u32 {
+        self.0
+            .totals_tagged(tags, bundle, lent.scratch, lent.out, lent.answer)
     }
 
     fn filter_text_tagged(&self, tags: &[u8], asked: Filter, lent: Lent) -> u32 {

@@ -36,6 +36,8 @@ pub enum Basis {
     /// A filter by distinct starts keeps other functions than the Rust's. The Rust is asked for its own filter, and the reference that agrees
     /// with it there answers by distinct starts.
     Starts,
+    /// A page of totals, which the Rust lacks. It is counted from the entries of the report that the Rust prints.
+    Page,
 }
 
 pub struct Expected {

@@ -49,7 +49,7 @@ pub struct Filter<'a> {
     pub list: &'a List,
 }
 
-/// The calls on texts and bundles. They print a report to `out`, and leave it alone where they refuse; the scratch is free afterwards.
+/// The calls on texts and bundles. They print a report or its page to `out`, and leave it alone where they refuse; the scratch is free afterwards.
 pub trait Gatherer {
     fn read_text(&self, text: &[u8], lent: Lent) -> u32;
 
@@ -60,6 +60,9 @@ pub trait Gatherer {
     fn gather_with(&self, bundle: &[u8], lent: Lent) -> u32;
 
     fn gather_lossy(&self, bundle: &[u8], lent: Lent) -> u32;
+
+    /// The page of totals of the checked gather.
+    fn totals(&self, bundle: &[u8], lent: Lent) -> u32;
 
     fn filter_text(&self, asked: Filter, lent: Lent) -> u32;
 }
@@ -82,6 +85,8 @@ pub trait Tagged: Port + Gatherer {
     fn gather_tagged(&self, tags: &[u8], bundle: &[u8], lent: Lent) -> u32;
 
     fn gather_lossy_tagged(&self, tags: &[u8], bundle: &[u8], lent: Lent) -> u32;
+
+    fn totals_tagged(&self, tags: &[u8], bundle: &[u8], lent: Lent) -> u32;
 
     fn filter_text_tagged(&self, tags: &[u8], asked: Filter, lent: Lent) -> u32;
 }

@@ -1,8 +1,8 @@
 //! Compares the port with the unchanged Rust on lines, paths, ranges, texts, filters and bundles, and with what include/lcov.h says on
 //! single number fields. Where an FN has an end line, the Rust is asked about the same without end lines, and these are put in here. The filter by
 //! distinct starts is compared with a reference that agrees with the Rust by all starts, and with the port's other filter. What takes
-//! a table of tags is compared with the port's own calls without one, on the same in default tags. Cutting before adding is compared with cutting
-//! after it, by the port's own calls.
+//! a table of tags is compared with the port's own calls without one, on the same in default tags. A page of totals is compared with what the
+//! entries of the Rust's report add up to. Cutting before adding is compared with cutting after it, by the port's own calls.
 //!
 //!     harness [--seed N] [--minutes M | [--lines N] [--numbers N] [--ranges N] [--reports N] [--tables N] [--cuts N]]
 //!
@@ -33,7 +33,8 @@ struct Round {
     numbers: u64,
     /// Lists, each filled by a dozen inserts with queries between them.
     ranges: u64,
-    /// Half of them texts, each filtered too, half bundles, each asked checked and lossy. Texts with many equal starts are filtered besides.
+    /// Half of them texts, each filtered too, half bundles, each asked checked and lossy and for its page of totals. Texts with many equal starts
+    /// are filtered besides.
     reports: u64,
     /// Tables of tags, each with lines, a text, which is filtered too, one with many equal starts, filtered alone, and a bundle.
     tables: u64,
@@ -164,6 +165,7 @@ impl Run {
         }
         let inner = INNER_WORDS / WORDS_PER_ENTRY;
         let reports = &mut self.reports;
+        reports::pages::asked(&mut |bundle| reports.bundle(bundle));
         reports::systematic::bundles(&mut |bundle| reports.bundle(bundle));
         reports::systematic::near_the_inner_limit(inner, &mut |bundle| reports.bundle(bundle));
         for entries in [MAX_ENTRIES, MAX_ENTRIES + 1] {
@@ -193,7 +195,8 @@ impl Run {
                 self.tagged.line(table, &line);
             }
         }
-        for recorded in reports::recorded::all() {
+        let pages = reports::pages::all();
+        for recorded in reports::recorded::all().into_iter().chain(pages) {
             let random = tables::random(&mut self.rng);
             self.tagged.bundle(&random, &recorded.bundle);
             for table in &special {
@@ -278,6 +281,7 @@ impl Run {
             + numbers.asked()
             + ranges
             + reports.questions()
+            + reports.pages
             + tagged.asked()
             + cutting.compared();
         println!(

@@ -53,6 +53,11 @@ pub enum Wrong {
     AlwaysAllStarts,
     AlwaysDistinctStarts,
 
+    // with pages of totals
+    ReportMeasured,
+    PageOfLossy,
+    NothingForNothing,
+
     // with tables of tags
     SlotsCompared,
     EqualFirst,
@@ -63,6 +68,7 @@ pub enum Wrong {
     DefaultStillRead,
     DefaultPrinted,
     StartOfDefault,
+    TableNotForPages,
 }
 
 impl Wrong {

@@ -234,7 +234,7 @@ impl Gathering<'_> {
         groups: &[Group],
         places: impl Fn(&[u8]) -> Vec<Place> + Sync,
     ) -> Option<Vec<Written>> {
-        let batches = batches(groups);
+        let batches = batches(groups.iter().map(Group::entries));
         let mode = self.reading.mode;
         let mut order: Vec<usize> = (0..batches.len()).collect();
         order.sort_by_cached_key(|&batch| Reverse(entries_of(&groups[batches[batch].clone()])));
@@ -296,13 +296,12 @@ fn ambiguous(path: &Path, line: u32, other: &Path) -> Failure {
     Failure::Unread(path.to_owned(), u64::from(line), what)
 }
 
-/// Neighbours that are gathered by one call. Only one group by itself may have more than [`BATCH`] entries, so that the library's limit is met
-/// by a section and not by a batch.
-fn batches(groups: &[Group]) -> Vec<Range<usize>> {
+/// Neighbours that are handed to one call, given the entries of each. Only one by itself may have more than [`BATCH`] entries, so that the
+/// library's limit is met by a section and not by a batch.
+pub fn batches(all: impl Iterator<Item = usize>) -> Vec<Range<usize>> {
     let mut batches: Vec<Range<usize>> = Vec::new();
     let mut entries = 0;
-    for (place, group) in groups.iter().enumerate() {
-        let own = group.entries();
+    for (place, own) in all.enumerate() {
         match batches.last_mut() {
             Some(batch) if own.saturating_add(entries) <= BATCH => {
                 batch.end = place + 1;

@@ -6,19 +6,24 @@ use crate::lines::{Cut, Starts};
 use crate::meaning::Meaning;
 use crate::rewrite::Rewriting;
 use crate::tag_file;
+use crate::totals::Form;
 use clap::builder::ValueParser;
 use clap::error::ErrorKind;
 use clap::{value_parser, Arg, ArgAction, ArgMatches, Command, ValueHint};
 use clap_complete::shells::{Bash, Fish, Zsh};
 use std::ffi::OsString;
 use std::num::NonZeroUsize;
-use std::path::PathBuf;
+use std::path::{Path, PathBuf};
 use std::thread;
 
 const NAME: &str = "lcov-gather";
 
 /// More are used only where they are asked for: each takes some 4 MB.
 const THREADS: usize = 3;
+
+// The forms of `--totals`.
+const PAGE: &str = "page";
+const TABLE: &str = "table";
 
 const ABOUT: &str = "\
 Joins LCOV tracefiles into one and prints it: every count is the sum over all
@@ -59,6 +64,8 @@ pub struct Options {
     /// Which starts end a function where lines are kept.
     pub starts: Starts,
     pub output: Option<PathBuf>,
+    /// The totals of the result are printed, and the result only to `output`.
+    pub totals: Option<Form>,
     pub files: Vec<PathBuf>,
     pub files_from: Option<PathBuf>,
     pub null: bool,
@@ -91,6 +98,7 @@ fn options(mut matches: ArgMatches) -> Result<Options, Failure> {
     let cuts = matches.remove_many::<OsString>("lines").unwrap_or_default();
     let maps = matches.remove_many("map-path").unwrap_or_default();
     let output = matches.remove_one::<PathBuf>("output");
+    let totals = totals(&matches, output.as_deref())?;
     let tags = matches.remove_one::<PathBuf>("tags");
     let tags = tags.map(|path| tag_file::load(&path)).transpose()?;
     Ok(Options {
@@ -106,7 +114,8 @@ fn options(mut matches: ArgMatches) -> Result<Options, Failure> {
         stats: matches.get_flag("stats"),
         lines: cuts.map(|cut| Cut::parse(&cut)).collect::<Result<_, _>>()?,
         starts: starts(&matches),
-        output: output.filter(|path| path.as_os_str() != "-"),
+        output: output.filter(|path| !is_standard_output(path)),
+        totals,
         files: matches
             .remove_many("files")
             .map_or(Vec::new(), |files| files.collect()),
@@ -133,6 +142,24 @@ fn meaning(matches: &ArgMatches) -> Meaning {
     } else {
         Meaning::Guarded
     }
+}
+
+/// The result and its totals can't both be printed.
+fn totals(matches: &ArgMatches, output: Option<&Path>) -> Result<Option<Form>, Failure> {
+    let form = matches.get_one::<String>("totals");
+    match (form.map(String::as_str), output) {
+        (Some(_), Some(output)) if is_standard_output(output) => Err(Failure::Usage(
+            "--totals prints to standard output, so -o wants another file".to_owned(),
+        )),
+        (form, _) => Ok(form.map(|form| match form {
+            TABLE => Form::Table,
+            _ => Form::Page,
+        })),
+    }
+}
+
+fn is_standard_output(output: &Path) -> bool {
+    output.as_os_str() == "-"
 }
 
 fn starts(matches: &ArgMatches) -> Starts {
@@ -208,6 +235,7 @@ fn action_arguments() -> [Arg; 2] {
             "lines",
             "same-start",
             "stats",
+            "totals",
         ]),
         flag("keep-going", keep_going),
     ]
@@ -257,12 +285,21 @@ fn file_arguments() -> [Arg; 4] {
     ]
 }
 
-fn telling_arguments() -> [Arg; 2] {
+fn telling_arguments() -> [Arg; 3] {
     let stats =
         "Tell how many numbers each tracefile has, and how many digits, leading zeros included";
+    let totals =
+        "Print the totals of the result, and the result only to OUT: for each section functions, \
+        branches and lines as hit/found, the lines' share in tenths of a percent, test name and \
+        path, then the sums; as a table it has columns for people, the lowest share last";
     [
         flag("quiet", "Print no notes and no progress bar").short('q'),
         flag("stats", stats),
+        value("totals", "FORM", [PAGE, TABLE].into())
+            .num_args(0..=1)
+            .require_equals(true)
+            .default_missing_value(PAGE)
+            .help(totals),
     ]
 }
 

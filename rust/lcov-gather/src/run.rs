@@ -10,7 +10,7 @@ use crate::options::{Action, Options};
 use crate::reporter::{tell, tell_plainly, Reporter};
 use crate::source::{Source, Sources};
 use crate::tracefile::Tracefile;
-use crate::{audit, gathering, lines, list, output};
+use crate::{audit, gathering, lines, list, output, totals};
 
 /// The exit status of a run that left files out.
 const LEFT_OUT: u8 = 4;
@@ -64,12 +64,21 @@ fn gather(options: &Options, files: &[Source], start: Sums) -> Result<Tracefile,
     Ok(joined)
 }
 
+/// The result goes to its file, and its totals, where they are asked for, to standard output. They are counted before anything is written.
 fn write(options: &Options, joined: Tracefile) -> Result<(), Failure> {
     let kept = lines::keep(joined, &options.lines, options.starts)?;
+    let totals = options
+        .totals
+        .map(|form| totals::printed(&kept, form, options.reading.threads))
+        .transpose()?;
     let kept = options.rewriting.write_tags(kept);
-    match &options.output {
-        Some(path) => output::write(path, &kept.slices()),
-        None => output::print(&kept.slices()),
+    match (&options.output, totals) {
+        (None, None) => output::print(&kept.slices()),
+        (None, Some(totals)) => output::print(&[&totals]),
+        (Some(path), totals) => {
+            output::write(path, &kept.slices())?;
+            totals.map_or(Ok(()), |totals| output::print(&[&totals]))
+        }
     }
 }
 

@@ -99,7 +99,7 @@ fn peak_over(folder: &Folder, names: &[String], options: &[&str]) -> i64 {
     fs::write(folder.path("list"), names.join("\n")).unwrap();
     let words = ["--files-from", "list", "-o", "out"];
     let mut command = folder.command(&[&words[..], options].concat());
-    let (status, peak) = peak_of(command.stdin(Stdio::null()));
+    let (status, peak) = peak_of(command.stdin(Stdio::null()).stdout(Stdio::null()));
     assert_eq!(status, 0, "{}", said(&command.output().unwrap()));
     assert!(!folder.text("out").is_empty());
     peak
@@ -136,4 +136,22 @@ fn no_more_than_64_files_are_held() {
         println!("{options:?}: {} kB, {} kB", few / 1000, many / 1000);
         assert!(many < few + 6_000_000, "{options:?}: {few} {many}");
     }
+}
+
+/// Totals are counted some sections at a time: a result of a million entries takes no more memory with them.
+#[test]
+fn totals_take_little_memory_beside_the_result() {
+    let folder = Folder::new();
+    let text = generated();
+    let mut names = Vec::new();
+    for number in 0..100 {
+        let name = format!("{number}.info");
+        let own = text.replace("/build/", &format!("/build/{number}/"));
+        fs::write(folder.path(&name), own).unwrap();
+        names.push(name);
+    }
+    let [plain, totals] = [&["--threads", "1"][..], &["--threads", "1", "--totals"]]
+        .map(|options| peak_over(&folder, &names, options));
+    println!("{} kB, {} kB", plain / 1000, totals / 1000);
+    assert!(totals < plain + 4_000_000, "{plain} {totals}");
 }

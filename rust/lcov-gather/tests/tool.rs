@@ -204,6 +204,7 @@ fn help_tells_every_option() {
         "-q",
         "--quiet",
         "--stats",
+        "--totals",
         "--completions",
         "-h",
         "--help",

@@ -76,6 +76,10 @@ calls! {
     /// The checked gather with 8,192 words of scratch inside, which allow 256 entries.
     fn gather = lcov_gather(bundle: &[u8], out: &mut [u8], answer: &mut [u64]) -> u32;
 
+    /// The page of totals of a checked gather: for each section a line `FH/FF BH/BF LH/LF share test path`, then one of the sums, as
+    /// include/lcov.h tells. Refuses as [`gather_with`] does.
+    fn totals = lcov_totals(bundle: &[u8], scratch: &mut [u64], out: &mut [u8], answer: &mut [u64]) -> u32;
+
     /// Reads one text and prints what of its report the first `used` pairs hold. Refuses with 18, 1 to 10, 14, 19, 23 and 25.
     fn filter = lcov_filter(
         text: &[u8],
@@ -132,6 +136,15 @@ calls! {
 
     /// As [`gather_lossy`].
     fn gather_lossy_tagged = lcov_gather_lossy_tagged(
+        tags: &[u8],
+        bundle: &[u8],
+        scratch: &mut [u64],
+        out: &mut [u8],
+        answer: &mut [u64]
+    ) -> u32;
+
+    /// As [`totals`].
+    fn totals_tagged = lcov_totals_tagged(
         tags: &[u8],
         bundle: &[u8],
         scratch: &mut [u64],

@@ -14,7 +14,8 @@ use Rattle.table_section.specs.Sections.{entriesAt}
 use Rattle.line_num_pairs.specs.Pairs.{rangesIn}
 use Rattle.print_report.specs.Printing.{PrintableTable}
 use Rattle.print_report.proofs.TableLaws.{printable-kept}
-use Rattle.print_report.proofs.LoopLaws.{entries-all, Measured, short-answer, short-out, second-room, written-answer, written-out}
+use Rattle.print_report.proofs.AnswerLaws.{short-answer, short-out, second-room, written-answer, written-out}
+use Rattle.print_report.proofs.LoopLaws.{entries-all, Measured, enough-bytes, room-again, emitted-again}
 use Rattle.filter.specs.Filtered.{filteredFrom}
 use Rattle.filter.proofs.SectionLaws.{filtered-prints}
 use Rattle.filter.proofs.print_filtered.Statement.{statement}
@@ -54,12 +55,12 @@ print-filtered-spec =
     (λ c. search needs)
     (λ c. search needs)
     (λ c. let μ = measured (c .before .before .before .before .before .before) in
-    (short-answer μ (omega arith) (c .too-short .ensures), short-out μ (omega arith)))
+    (short-answer (enough-bytes μ) (μ .few) (omega arith) (c .too-short .ensures), short-out (enough-bytes μ) (μ .few) (omega arith)))
     (λ c κs. let m = c .before .before .before .before .before .before .before in
     let μ = measured m in
-    (start m .pre .0, (printable-kept (spacious (start m)) (μ .spared), (start m .pre .1 .0 .2, second-room μ (omega arith)))))
+    (start m .pre .0, (printable-kept (spacious (start m)) (μ .spared), (start m .pre .1 .0 .2, room-again μ (second-room (enough-bytes μ) (μ .few) (omega arith))))))
     (λ c. search needs)
     (λ c. search needs)
     (λ c. let w = c .before .before .before .before in
     let μ = measured (w .before .before .before .before .before .before .before .before) in
-    (written-answer μ (omega arith) (w .filter-sections .ensures .0), written-out μ (omega arith) (w .filter-sections .ensures .0))))
+    (written-answer (enough-bytes μ) (μ .few) (omega arith) (emitted-again μ (w .filter-sections .ensures .0)), written-out (enough-bytes μ) (μ .few) (omega arith) (emitted-again μ (w .filter-sections .ensures .0)))))

@@ -10,7 +10,7 @@ use Rattle.model.specs.declared.Range.{Range}
 use Rattle.model.specs.Bytes.{Bytes}
 use Rattle.line_num_pairs.specs.Pairs.{rangesIn}
 use Rattle.print_report.proofs.TableLaws.{spared-none}
-use Rattle.print_report.proofs.LoopLaws.{required-measured}
+use Rattle.print_report.proofs.AnswerLaws.{required-measured}
 use Rattle.print_report.proofs.BoundLaws.{fits-required}
 use Rattle.filter.specs.Filtered.{filteredFrom}
 use Rattle.filter.proofs.ThinLaws.{filtered-most}

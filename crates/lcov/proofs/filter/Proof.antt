@@ -12,7 +12,8 @@ use Rattle.model.specs.Printing.{sections, printSections}
 use Rattle.model.specs.Ranges.{wellFormedRanges}
 use Rattle.model.specs.Filter.{filterSection}
 use Rattle.line_num_pairs.specs.Pairs.{rangesIn}
-use Rattle.lcov.proofs.CallLaws.{called, limit-few, limit-room, reading-refused, reading-ready, reading-printed, filter-means, filter-bad}
+use Rattle.scratch_layout.proofs.LimitLaws.{limit-few, limit-room}
+use Rattle.lcov.proofs.CallLaws.{called, reading-refused, reading-ready, reading-printed, filter-means, filter-bad}
 use Rattle.lcov.proofs.filter.Statement.{statement}
 use Rattle.lcov.proofs.filter.Tie as tie
 

@@ -1,16 +1,22 @@
 -- `lcov::gather` meets its contract. Assumes nothing.
 use denote.Ref.{now}
 use borrow.Author.Needs.{needs}
-use Rattle.lcov.proofs.CallLaws.{called, limit-few, limit-space, well-formed, not-well-formed, gather-bad, gather-refused, gather-ready, gather-printed}
+use Rattle.model.specs.TagTable.{tagsOf}
+use Rattle.model.specs.Printing.{printReport}
+use Rattle.scratch_layout.proofs.LimitLaws.{limit-few}
+use Rattle.lcov.proofs.CallLaws.{called, gather-means, gathered-ready, gathered-refused, gathered-printed}
 use Rattle.lcov.proofs.gather.Statement.{statement}
 use Rattle.lcov.proofs.gather.Tie as tie
 
--- the texts gathered, before the answer is taken apart
-abbrev gathered : tie.After-slice-known3 → tie.After-gather-texts
+-- the bundle gathered, before the answer is taken apart
+abbrev gathered : tie.After-slice-known3 → tie.After-gather-bundle
 gathered c = c .before .before
 
-abbrev limited : tie.After-gather-texts → tie.After-entry-limit
-limited c = c .before .before
+abbrev limited : tie.After-gather-bundle → tie.After-entry-limit
+limited g = g .before .before
+
+abbrev start : tie.After-gather-bundle → tie.Start
+start g = limited g .before .before .before .before .before
 
 -- where the printing finds what was gathered
 abbrev entries : tie.After-spare-at → tie.After-n
@@ -22,33 +28,28 @@ gather-spec =
     (tie.spec
     (λ c κs. search needs)
     (λ c κs. search needs)
-    (λ c κs. (search needs, (search (well-formed, needs), search (limit-space, needs))))
     (λ c. search needs)
-    (λ c. search needs)
-    (λ c. let g = gathered (c .before .before .before) in
-    let l = limited g in
-    called (gather-refused _ _ _ _ (well-formed _ _ (l .before .before .is-well-formed .ensures) (l .before .if1 .taken)) _ (l .entry-limit .ensures) _ _ (g .gather-texts .ensures)
-    _ _ (c .before .refusal .given .1)))
     (λ c. search needs)
     (λ c κs. search (limit-few, needs))
     (λ c κs. search (limit-few, needs))
     (λ c κs. let s = c .before .before in
     let n = entries s in
-    let g = gathered (n .before .before) in
-    let l = limited g in (
+    let g = gathered (n .before .before) in (
       search needs,
-      gather-ready _ _ _ _ (well-formed _ _ (l .before .before .is-well-formed .ensures) (l .before .if1 .taken)) _ (l .entry-limit .ensures) _ _ (g .gather-texts .ensures)
-          _ (n .n .given .1) _ (s .before .index-at .ensures) (search needs) _ (s .spare-at .ensures),
+      gathered-ready _ _ _ _ _ _ (g .gather-bundle .ensures) _ (n .n .given .1) _ (limited g .entry-limit .ensures) _ (s .before .index-at .ensures) (search needs) _ (s .spare-at .ensures),
     ))
+    (λ c. search needs)
+    (λ c. let g = gathered (c .before .before .before) in
+    let s = start g in
+    called (gathered-refused _ _ _ _ _ _ (g .gather-bundle .ensures) (printReport (tagsOf (now (s .args .tags)))) (now (s .args .out)) _
+    (gather-means (tagsOf (now (s .args .tags))) (s .args .mode) _ _ (now (s .args .out))) _ (c .before .refusal .given .1)))
     (λ c. search needs)
     (λ c. search needs)
     (λ c. let p = c .before .before .before .before in
-    let s = p .before .before .before in
-    let n = entries s in
+    let a = p .before .before .before in
+    let n = entries a in
     let g = gathered (n .before .before) in
-    let l = limited g in
-    called (gather-printed _ _ _ _ (well-formed _ _ (l .before .before .is-well-formed .ensures) (l .before .if1 .taken)) _ (l .entry-limit .ensures) _ _ (g .gather-texts .ensures)
-    _ (n .n .given .1) _ (s .before .index-at .ensures) (now (l .before .before .before .before .before .before .before .args .out)) _ _ (p .print-report .ensures)))
-    (λ c κs. search needs)
-    (λ c. let e = c .before in
-    called (gather-bad _ _ _ _ _ _ (not-well-formed _ _ (e .before .is-well-formed .ensures) (e .if1 .left)) (c .unplaced .ensures))))
+    let s = start g in
+    called (gathered-printed _ _ _ _ _ _ (g .gather-bundle .ensures) (printReport (tagsOf (now (s .args .tags)))) (now (s .args .out)) _
+    (gather-means (tagsOf (now (s .args .tags))) (s .args .mode) _ _ (now (s .args .out))) _ (n .n .given .1) _ (limited g .entry-limit .ensures) _ (a .before .index-at .ensures) _ _
+    (p .print-report .ensures))))

@@ -4,7 +4,8 @@ use denote.Ref.{now}
 use borrow.Author.Needs.{needs}
 use lib.ListN.{length}
 use Rattle.model.specs.Printing.{printReport}
-use Rattle.lcov.proofs.CallLaws.{called, limit-few, limit-room, read-means, reading-refused, reading-ready, reading-printed}
+use Rattle.scratch_layout.proofs.LimitLaws.{limit-few, limit-room}
+use Rattle.lcov.proofs.CallLaws.{called, read-means, reading-refused, reading-ready, reading-printed}
 use Rattle.lcov.proofs.read.Statement.{statement}
 use Rattle.lcov.proofs.read.Tie as tie
 

@@ -8,7 +8,8 @@ use Rattle.model.specs.Printing.{printReport}
 use Rattle.table_section.specs.Sections.{entriesAt}
 use Rattle.print_report.specs.Printing.{printedFrom, PrintableTable}
 use Rattle.print_report.proofs.TableLaws.{printable-kept}
-use Rattle.print_report.proofs.LoopLaws.{report-prints, entries-all, Measured, short-answer, short-out, second-room, written-answer, written-out}
+use Rattle.print_report.proofs.AnswerLaws.{short-answer, short-out, second-room, written-answer, written-out}
+use Rattle.print_report.proofs.LoopLaws.{report-prints, entries-all, Measured, enough-bytes, room-again, emitted-again}
 use Rattle.print_report.proofs.print_report.Statement.{statement}
 use Rattle.print_report.proofs.print_report.Tie as tie
 
@@ -42,12 +43,12 @@ print-report-spec =
     (λ c. search needs)
     (λ c. search needs)
     (λ c. let μ = measured (c .before .before .before .before .before .before) in
-    (short-answer μ (omega arith) (c .too-short .ensures), short-out μ (omega arith)))
+    (short-answer (enough-bytes μ) (μ .few) (omega arith) (c .too-short .ensures), short-out (enough-bytes μ) (μ .few) (omega arith)))
     (λ c κs. let μ = measured (c .before .before .before .before .before .before .before) in
     let s = start (c .before .before .before .before .before .before .before) in
-    (s .pre .0, (printable-kept (spacious s) (μ .spared), second-room μ (omega arith))))
+    (s .pre .0, (printable-kept (spacious s) (μ .spared), room-again μ (second-room (enough-bytes μ) (μ .few) (omega arith)))))
     (λ c. search needs)
     (λ c. search needs)
     (λ c. let w = c .before .before .before .before in
     let μ = measured (w .before .before .before .before .before .before .before .before) in
-    (written-answer μ (omega arith) (w .print-sections .ensures .0), written-out μ (omega arith) (w .print-sections .ensures .0))))
+    (written-answer (enough-bytes μ) (μ .few) (omega arith) (emitted-again μ (w .print-sections .ensures .0)), written-out (enough-bytes μ) (μ .few) (omega arith) (emitted-again μ (w .print-sections .ensures .0)))))

@@ -8,7 +8,7 @@ use lib.ListN.{length}
 use Rattle.model.specs.Bytes.{Bytes}
 use Rattle.print_report.specs.Printing.{printedFrom}
 use Rattle.print_report.proofs.TableLaws.{spared-none}
-use Rattle.print_report.proofs.LoopLaws.{required-measured}
+use Rattle.print_report.proofs.AnswerLaws.{required-measured}
 use Rattle.print_report.proofs.BoundLaws.{printed-most, fits-required}
 use Rattle.print_report.proofs.required_len.Statement.{statement}
 use Rattle.print_report.proofs.required_len.Tie as tie

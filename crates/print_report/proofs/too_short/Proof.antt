@@ -1,6 +1,6 @@
 -- `print_report::too_short` meets its contract. Assumes nothing.
 use native.Mathlib.Omega.{arith}
-use Rattle.print_report.proofs.LoopLaws.{short-is}
+use Rattle.print_report.proofs.AnswerLaws.{short-is}
 use Rattle.print_report.proofs.too_short.Statement.{statement}
 use Rattle.print_report.proofs.too_short.Tie as tie
 

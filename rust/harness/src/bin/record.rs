@@ -1,6 +1,6 @@
 //! Writes the recorded sample, tests/lines.in and tests/lines.out, from a fixed seed, the recorded calls on range structs,
-//! crates/test_line_num/stdin and stdout, the recorded bundles, tests/bundles/NAME.in and NAME.out, and the recorded cuts, tests/cutting;
-//! see tests/README.md.
+//! crates/test_line_num/stdin and stdout, the recorded bundles, tests/bundles/NAME.in and NAME.out, those whose pages of totals are recorded,
+//! tests/totals/NAME.in and NAME.out, and the recorded cuts, tests/cutting; see tests/README.md.
 //!
 //!     record             writes the files
 //!     record --check     writes nothing, and fails unless the files are what would be written and what the Rust answers, or what it lacks
@@ -8,6 +8,7 @@
 use harness::cutting::recorded as cuts;
 use harness::files::{file, files_in, write_in, Files};
 use harness::ranges::recorded::{self as calls, Calls};
+use harness::reports::pages;
 use harness::reports::recorded::{self, Recorded};
 use harness::sample::{self, Sample};
 use std::process::ExitCode;
@@ -21,7 +22,7 @@ fn main() -> ExitCode {
         [] => write_all().map_err(|error| error.to_string()),
         ["--check"] => check()
             .and_then(|()| check_ranges())
-            .and_then(|()| check_bundles())
+            .and_then(|()| PROGRAMS.iter().try_for_each(check_program))
             .and_then(|()| check_cuts()),
         _ => Err("usage: record [--check]".to_owned()),
     };
@@ -37,7 +38,7 @@ fn main() -> ExitCode {
 fn write_all() -> io::Result<()> {
     write(&sample::make())?;
     write_ranges(&calls::make())?;
-    write_bundles(&recorded::all())?;
+    PROGRAMS.iter().try_for_each(write_program)?;
     write_in(cuts::FOLDER, &cuts::files())
 }
 
@@ -110,33 +111,60 @@ fn check_ranges() -> Result<(), String> {
 
 // ---- bundles
 
-const BUNDLES: &str = "bundles";
+/// A program that reads a bundle, and the folder of what is recorded of it.
+struct Program {
+    folder: &'static str,
+    all: fn() -> Vec<Recorded>,
+    prints: fn(&Recorded) -> Vec<u8>,
+}
 
-fn write_bundles(all: &[Recorded]) -> io::Result<()> {
-    write_in(BUNDLES, &bundle_files(all))?;
-    println!("{} bundles", all.len());
+const PROGRAMS: [Program; 2] = [
+    Program {
+        folder: "bundles",
+        all: recorded::all,
+        prints: Recorded::answer,
+    },
+    Program {
+        folder: pages::FOLDER,
+        all: pages::all,
+        prints: Recorded::page,
+    },
+];
+
+impl Program {
+    fn files(&self) -> Files {
+        let all = (self.all)().into_iter();
+        let files = all.flat_map(|recorded| {
+            let printed = (self.prints)(&recorded);
+            [
+                (format!("{}.in", recorded.name), recorded.bundle),
+                (format!("{}.out", recorded.name), printed),
+            ]
+        });
+        files.collect()
+    }
+}
+
+fn write_program(program: &Program) -> io::Result<()> {
+    let files = program.files();
+    write_in(program.folder, &files)?;
+    println!("{} bundles in {}", files.len() / 2, program.folder);
     Ok(())
 }
 
-fn bundle_files(all: &[Recorded]) -> Files {
-    all.iter()
-        .flat_map(|recorded| {
-            let bundle = (format!("{}.in", recorded.name), recorded.bundle.clone());
-            [
-                bundle,
-                (format!("{}.out", recorded.name), recorded.answer()),
-            ]
-        })
-        .collect()
-}
-
-fn check_bundles() -> Result<(), String> {
-    let written = files_in(BUNDLES).map_err(|error| format!("no recorded bundles: {error}"))?;
-    let all = recorded::all();
-    if written != bundle_files(&all) {
-        return Err("tests/bundles holds other bundles or answers: run `record`".to_owned());
+fn check_program(program: &Program) -> Result<(), String> {
+    let folder = program.folder;
+    let written =
+        files_in(folder).map_err(|error| format!("no recorded bundles in {folder}: {error}"))?;
+    if written != program.files() {
+        return Err(format!(
+            "tests/{folder} holds other bundles or answers: run `record`"
+        ));
     }
-    println!("{} recorded bundles are answered by the Rust", all.len());
+    println!(
+        "{} recorded bundles in {folder} are answered by the Rust, or what it lacks",
+        written.len() / 2
+    );
     Ok(())
 }
 

@@ -4,7 +4,7 @@
 use super::beside::{misfit, starts_differ};
 use super::expected::{may_refuse, Expected, Told};
 use super::tally::Tally;
-use super::Asked;
+use super::{bundles, page, Asked};
 use crate::compare::{shown, BYTES_PAST, MOST_WORDS, THOROUGH_AT_MOST};
 use crate::differences::Difference;
 use crate::expected::{printing, refused, Answer};
@@ -100,9 +100,11 @@ impl<P: Gatherer> Comparison<P> {
         self.beside_each_other(text, filters);
     }
 
+    /// Gathered in both modes, and its page of totals.
     pub fn bundle(&mut self, bundle: &[u8]) {
         self.ask(Asked::Bundle(Mode::Checked, bundle));
         self.ask(Asked::Bundle(Mode::Lossy, bundle));
+        self.ask(Asked::Totals(bundle));
     }
 
     fn ask(&mut self, asked: Asked) {
@@ -183,11 +185,11 @@ impl<P: Gatherer> Comparison<P> {
 
     fn compare(&mut self, asked: Asked, expected: &Expected, lengths: Lengths) {
         let told = expected.limited(asked, lengths.scratch.entries());
-        self.held_against(asked, &told, lengths);
+        self.held_against(asked, in_words(&told), lengths);
     }
 
-    fn held_against(&mut self, asked: Asked, told: &Told, lengths: Lengths) {
-        let (answer, bytes) = printing(in_words(told), lengths.room);
+    fn held_against(&mut self, asked: Asked, told: Result<&[u8], Answer>, lengths: Lengths) {
+        let (answer, bytes) = printing(told, lengths.room);
         self.tally.count_call(asked, answer.number);
         let left = self.asked_with(asked, lengths);
         let same = left.answer.holds(left.number, &answer) && left.out.holds(bytes);
@@ -197,25 +199,41 @@ impl<P: Gatherer> Comparison<P> {
         }
     }
 
-    /// What a gather wrote, or a reading, is read as what it is. What a filter wrote may lose emptied sections.
+    /// What a gather wrote, or a reading, is read as what it is. What a filter wrote may lose emptied sections, and a page is no text.
     fn reading_back(&mut self, asked: Asked, printed: &[u8], entries: usize) {
         let same = matches!(asked, Asked::Text(text) if text == printed);
-        if same || matches!(asked, Asked::Filter(..)) {
+        if same || matches!(asked, Asked::Filter(..) | Asked::Totals(_)) {
             return;
         }
         self.tally.read_back += 1;
+        self.exactly(Asked::Text(printed), printed, entries);
+        if matches!(asked, Asked::Bundle(..)) {
+            self.tally.pages_again += 1;
+            let written = bundles::of(&[printed]);
+            self.exactly(Asked::Totals(&written), &page::of(printed), entries);
+        }
+    }
+
+    /// Scratch for so many entries, and output for just what is to be printed.
+    fn exactly(&mut self, asked: Asked, printed: &[u8], entries: usize) {
         let lengths = Lengths {
             scratch: Scratch::Words(words_for(entries)),
             room: printed.len(),
             words: WORDS,
         };
-        self.held_against(Asked::Text(printed), &Ok(printed.to_vec()), lengths);
+        self.held_against(asked, Ok(printed), lengths);
     }
 
-    /// The Rust can't be asked: still no number comes that the call does not have, no refused call writes, and what is written reads
-    /// back as itself.
+    /// The Rust can't be asked: still no number comes that the call does not have, no refused call writes, what is written reads back as
+    /// itself, and a page is that of the gather.
     fn without_the_rust(&mut self, asked: Asked) {
         let lengths = Lengths::ample(asked);
+        if let Asked::Totals(bundle) = asked {
+            let gathered = self.asked_amply(Asked::Bundle(Mode::Checked, bundle));
+            let told = answered_by(&gathered).map(page::of);
+            let told = told.as_deref().map_err(|answer| *answer);
+            return self.held_against(asked, told, lengths);
+        }
         let left = self.asked_amply(asked);
         if left.number == 0 {
             let printed = printed(&left).to_vec();
@@ -284,6 +302,7 @@ impl<P: Gatherer> Comparison<P> {
             }
             Asked::Bundle(Mode::Checked, _) => "gather".to_owned(),
             Asked::Bundle(Mode::Lossy, _) => "gather lossy".to_owned(),
+            Asked::Totals(_) => "totals".to_owned(),
         };
         self.differences.add(asked.bytes().len(), || Difference {
             asked: format!("{call} {}, {}", shown(asked.bytes()), lengths.shown()),
@@ -299,15 +318,27 @@ impl<P: Gatherer> Comparison<P> {
 }
 
 fn is_same_answer(a: &Left, b: &Left) -> bool {
-    a.number == b.number && (0..WORDS).all(|place| a.answer.word(place) == b.answer.word(place))
+    answer_of(a) == answer_of(b)
+}
+
+fn answer_of(left: &Left) -> Answer {
+    Answer {
+        number: left.number,
+        words: std::array::from_fn(|place| left.answer.word(place)),
+    }
+}
+
+/// What a call wrote, or its refusal.
+fn answered_by(left: &Left) -> Result<&[u8], Answer> {
+    match left.number {
+        0 => Ok(&left.out.all()[..left.answer.word(WRITTEN) as usize]),
+        _ => Err(answer_of(left)),
+    }
 }
 
 /// What a call wrote; nothing where it refused.
 fn printed(left: &Left) -> &[u8] {
-    match left.number {
-        0 => &left.out.all()[..left.answer.word(WRITTEN) as usize],
-        _ => &[],
-    }
+    answered_by(left).unwrap_or_default()
 }
 
 /// The fewest words for so many entries.
@@ -324,7 +355,6 @@ mod tests {
     use super::*;
     use crate::ends::taken_out;
     use crate::interface::Lent;
-    use crate::reports::bundles;
     use crate::stand_in::Wrong;
 
     struct StandIn(Wrong);
@@ -391,6 +421,23 @@ mod tests {
             self.tell_bundle(Mode::Lossy, bundle, lent)
         }
 
+        fn totals(&self, bundle: &[u8], mut lent: Lent) -> u32 {
+            let report = |mode| Expected::of(Asked::Bundle(mode, bundle)).unwrap().told;
+            let lines = |page: &[u8]| page.iter().filter(|&&byte| byte == b'\n').count();
+            match (self.0, report(Mode::Checked), report(Mode::Lossy)) {
+                (Wrong::ReportMeasured, Ok(report), _) if report.len() > lent.out.len() => {
+                    self.0.print(Ok(&report), &mut [], lent.answer)
+                }
+                (Wrong::PageOfLossy, _, Ok(report)) => {
+                    self.0.print(Ok(&page::of(&report)), lent.out, lent.answer)
+                }
+                (Wrong::NothingForNothing, Ok(report), _) if lines(&page::of(&report)) == 1 => {
+                    self.0.print(Ok(&[]), lent.out, lent.answer)
+                }
+                _ => self.tell(Asked::Totals(bundle), &mut lent),
+            }
+        }
+
         fn filter_text(&self, asked: Filter, mut lent: Lent) -> u32 {
             let asked = if self.0 == Wrong::FilterKeepsAll && asked.list.held().is_some() {
                 Asked::Text(asked.text)
@@ -432,6 +479,7 @@ mod tests {
             comparison.bundle(&bundles::of(&texts[..2]));
             comparison.bundle(&bundles::of(&[texts[0], texts[0]]));
             comparison.bundle(b"");
+            comparison.bundle(&bundles::of::<&str>(&[]));
         }
         comparison
     }
@@ -459,6 +507,9 @@ mod tests {
             Wrong::AlwaysDistinctStarts,
             Wrong::PlusTaken,
             Wrong::EndIsName,
+            Wrong::ReportMeasured,
+            Wrong::PageOfLossy,
+            Wrong::NothingForNothing,
         ];
         for wrong in Wrong::of_printing().chain(others) {
             assert!(
@@ -477,6 +528,50 @@ mod tests {
             .tally
             .to_string()
             .contains("distinct starts, 0 answered"));
+    }
+
+    /// Of a bundle that is not UTF-8 the gather of the same port tells.
+    #[test]
+    fn pages_are_compared_without_the_rust_too() {
+        struct Bytes(&'static [u8]);
+
+        impl Gatherer for Bytes {
+            fn read_text(&self, _: &[u8], lent: Lent) -> u32 {
+                Wrong::Nothing.print(Ok(REPORT), lent.out, lent.answer)
+            }
+
+            fn gather(&self, _: &[u8], _: &mut [u8], _: &mut [u64]) -> u32 {
+                unreachable!("all scratch is lent here")
+            }
+
+            fn gather_with(&self, bundle: &[u8], lent: Lent) -> u32 {
+                self.gather_lossy(bundle, lent)
+            }
+
+            fn gather_lossy(&self, _: &[u8], lent: Lent) -> u32 {
+                Wrong::Nothing.print(Ok(REPORT), lent.out, lent.answer)
+            }
+
+            fn totals(&self, _: &[u8], lent: Lent) -> u32 {
+                Wrong::Nothing.print(Ok(self.0), lent.out, lent.answer)
+            }
+
+            fn filter_text(&self, _: Filter, _: Lent) -> u32 {
+                unreachable!("nothing is filtered here")
+            }
+        }
+
+        const REPORT: &[u8] = b"TN:\xff\nSF:a\nDA:1,1\nLF:1\nLH:1\nend_of_record\n";
+        const PAGE: &[u8] = b"0/0 0/0 1/1 1000 \xff a\n0/0 0/0 1/1 1000\n";
+        for (page, differences) in [(PAGE, 0), (&PAGE[..PAGE.len() - 1], 3)] {
+            let mut comparison = Comparison::new(Bytes(page), 1);
+            comparison.bundle(&bundles::of(&[REPORT]));
+            assert_eq!(comparison.differences.count, differences);
+            assert_eq!(
+                (comparison.tally.pages, comparison.tally.pages_again),
+                (0, 2)
+            );
+        }
     }
 
     /// The starts agree, so that the end lines alone tell.

@@ -1,11 +1,12 @@
-//! What a reading, a filter or a gather must answer: the Rust's answer, and where SPEC 9.1 added a number, the count's. Where an FN has an
+//! What a reading, a filter, a gather or a page of totals must answer: the Rust's answer, and where SPEC 9.1 added a number, the count's. Where an FN has an
 //! end line, the Rust answers to the texts without end lines, and the count has these. Of a filter by distinct starts, which the Rust lacks,
-//! the count answers; by all starts, the count and the Rust agree on the same text and list.
+//! the count answers; by all starts, the count and the Rust agree on the same text and list. A page of totals, which the Rust lacks too, is
+//! counted from the report that both print.
 
 use super::reference::{
     self, Entries, Sections, SECOND_PATH, SUM_OF_CALLS, SUM_OF_RUNS, TOO_MANY_ENTRIES,
 };
-use super::{bundles, Asked};
+use super::{bundles, page, Asked};
 use crate::ends::{self, END_BEFORE_START, END_FIELD, NUMBER_TOO_LARGE};
 use crate::expected::Basis;
 use crate::interface::Filter;
@@ -70,7 +71,9 @@ fn texts_of(asked: Asked<'_>) -> Result<Vec<&[u8]>, u32> {
     match asked {
         Asked::Filter(filter) if filter.list.held().is_none() => Err(RANGES_NOT_WELL_FORMED),
         Asked::Text(_) | Asked::Filter(_) => Ok(vec![asked.bytes()]),
-        Asked::Bundle(_, bundle) => bundles::decoded(bundle).ok_or(NOT_WELL_FORMED),
+        Asked::Bundle(_, bundle) | Asked::Totals(bundle) => {
+            bundles::decoded(bundle).ok_or(NOT_WELL_FORMED)
+        }
     }
 }
 
@@ -79,16 +82,21 @@ fn kept(asked: Asked, texts: &[&[u8]], entries: &mut Entries) -> reference::Told
     match asked {
         Asked::Text(_) | Asked::Filter(_) => reference::read(asked.bytes(), entries),
         Asked::Bundle(mode, _) => reference::gather(mode, texts, entries),
+        Asked::Totals(_) => reference::gather(Mode::Checked, texts, entries),
     }
 }
 
-/// Filtered where that is asked, and printed.
+/// Filtered where that is asked, and printed, or the page of what is printed.
 fn finished(asked: Asked, mut sections: Sections) -> Vec<u8> {
     if let Asked::Filter(Filter { starts, list, .. }) = asked {
         let end_of = reference::end_by(starts);
         reference::filter(&mut sections, &list.pairs[..list.used], end_of);
     }
-    reference::printed(sections)
+    let printed = reference::printed(sections);
+    match asked {
+        Asked::Totals(_) => page::of(&printed),
+        _ => printed,
+    }
 }
 
 /// What the port must answer, where the count is this.
@@ -113,10 +121,12 @@ fn settled(asked: Asked, texts: &[&[u8]], counted: reference::Told) -> (Told, Ba
             let without = counted.clone().map(reference::without_ends);
             assert_agreed(without.map(|sections| finished(there, sections)), rust);
             let told = counted.clone().map(|sections| finished(asked, sections));
-            match is_by_starts(asked, counted, &told) {
-                true => (told, Basis::Starts),
-                false => (told, basis),
-            }
+            let basis = match asked {
+                Asked::Totals(_) if told.is_ok() => Basis::Page,
+                _ if is_by_starts(asked, counted, &told) => Basis::Starts,
+                _ => basis,
+            };
+            (told, basis)
         }
     }
 }
@@ -134,6 +144,7 @@ fn rust(asked: Asked, texts: &[&[u8]]) -> Result<Vec<u8>, Fault> {
             oracle::filter(texts[0], &told(&list.pairs[..list.used]))
         }
         Asked::Bundle(mode, _) => oracle::gather(mode, texts),
+        Asked::Totals(_) => unreachable!("the Rust has no pages"),
     }
 }
 
@@ -164,7 +175,7 @@ fn assert_taken_before(asked: Asked, texts: &[&[u8]], refusal: Refusal) {
         oracle::read_text(&before).is_ok(),
         "the Rust refuses an earlier line"
     );
-    if let Asked::Bundle(mode, _) = asked {
+    if let Asked::Bundle(mode, _) = asked.of_the_rust() {
         let earlier = oracle::gather(mode, &texts[..refusal.text]);
         assert!(earlier.is_ok(), "the Rust refuses an earlier text");
     }
@@ -194,7 +205,9 @@ pub fn may_refuse(asked: Asked, number: u32) -> bool {
         || match asked {
             Asked::Text(_) => false,
             Asked::Filter(..) => number == RANGES_NOT_WELL_FORMED,
-            Asked::Bundle(Mode::Checked, _) => matches!(number, 11..=13 | NOT_WELL_FORMED),
+            Asked::Bundle(Mode::Checked, _) | Asked::Totals(_) => {
+                matches!(number, 11..=13 | NOT_WELL_FORMED)
+            }
             Asked::Bundle(Mode::Lossy, _) => matches!(number, 13 | NOT_WELL_FORMED),
         }
 }

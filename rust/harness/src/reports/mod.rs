@@ -1,10 +1,12 @@
-//! Questions about readings, filters and gathers: texts and bundles, what SPEC 7 expects of them, and the comparison with the port.
+//! Questions about readings, filters, gathers and pages of totals: texts and bundles, what SPEC 7 expects of them, and the comparison with the port.
 
 pub mod beside;
 pub mod bundles;
 pub mod compare;
 pub mod expected;
 pub mod long;
+pub mod page;
+pub mod pages;
 pub mod random;
 pub mod recorded;
 pub mod reference;
@@ -21,12 +23,14 @@ pub enum Asked<'a> {
     Text(&'a [u8]),
     Filter(Filter<'a>),
     Bundle(Mode, &'a [u8]),
+    /// The page of totals of a bundle.
+    Totals(&'a [u8]),
 }
 
 impl<'a> Asked<'a> {
     pub fn bytes(self) -> &'a [u8] {
         match self {
-            Asked::Text(bytes) | Asked::Bundle(_, bytes) => bytes,
+            Asked::Text(bytes) | Asked::Bundle(_, bytes) | Asked::Totals(bytes) => bytes,
             Asked::Filter(filter) => filter.text,
         }
     }
@@ -43,6 +47,7 @@ impl<'a> Asked<'a> {
                 ..filter
             }),
             Asked::Bundle(mode, _) => Asked::Bundle(mode, bytes),
+            Asked::Totals(_) => Asked::Totals(bytes),
         }
     }
 
@@ -52,6 +57,7 @@ impl<'a> Asked<'a> {
             Asked::Filter(filter) => port.filter_text(filter, lent),
             Asked::Bundle(Mode::Checked, bundle) => port.gather_with(bundle, lent),
             Asked::Bundle(Mode::Lossy, bundle) => port.gather_lossy(bundle, lent),
+            Asked::Totals(bundle) => port.totals(bundle, lent),
         }
     }
 
@@ -61,6 +67,7 @@ impl<'a> Asked<'a> {
             Asked::Filter(filter) => port.filter_text_tagged(table, filter, lent),
             Asked::Bundle(Mode::Checked, bundle) => port.gather_tagged(table, bundle, lent),
             Asked::Bundle(Mode::Lossy, bundle) => port.gather_lossy_tagged(table, bundle, lent),
+            Asked::Totals(bundle) => port.totals_tagged(table, bundle, lent),
         }
     }
 
@@ -71,6 +78,7 @@ impl<'a> Asked<'a> {
                 starts: Starts::All,
                 ..filter
             }),
+            Asked::Totals(bundle) => Asked::Bundle(Mode::Checked, bundle),
             asked => asked,
         }
     }

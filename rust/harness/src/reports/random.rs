@@ -545,7 +545,7 @@ mod tests {
             match Expected::of(Asked::Text(&text)).map(|expected| expected.basis) {
                 Some(Basis::Refusal) => counts[0] += 1,
                 Some(Basis::Ends) => counts[1] += 1,
-                Some(Basis::Rust | Basis::Starts) | None => {}
+                Some(Basis::Rust | Basis::Starts | Basis::Page) | None => {}
             }
         }
         for apart in counts {

@@ -8,23 +8,32 @@ use super::{bundles, Asked};
 use crate::interface::{INNER_WORDS, OUTPUT_TOO_SHORT, WORDS_PER_ENTRY};
 use oracle::{Mode, Refusal};
 
-/// What the program reads and writes at most.
+/// What a program reads and writes at most.
 const MAX_INPUT: usize = 65_536;
-const MAX_OUTPUT: usize = 65_536;
+pub(super) const MAX_OUTPUT: usize = 65_536;
 
 /// A file's name without its end, and the bundle in it.
+#[derive(Clone)]
 pub struct Recorded {
     pub name: &'static str,
     pub bundle: Vec<u8>,
 }
 
 impl Recorded {
-    /// What the program prints.
+    /// What the program `gather` prints.
     pub fn answer(&self) -> Vec<u8> {
+        self.printed(Asked::Bundle(Mode::Checked, &self.bundle))
+    }
+
+    /// What the program `totals` prints.
+    pub fn page(&self) -> Vec<u8> {
+        self.printed(Asked::Totals(&self.bundle))
+    }
+
+    fn printed(&self, asked: Asked) -> Vec<u8> {
         if self.bundle.len() > MAX_INPUT {
             return refused(Refusal::numbered(NOT_WELL_FORMED));
         }
-        let asked = Asked::Bundle(Mode::Checked, &self.bundle);
         let expected = Expected::of(asked).expect("recorded bundles are UTF-8");
         match expected.limited(asked, INNER_WORDS / WORDS_PER_ENTRY) {
             Ok(printed) if printed.len() > MAX_OUTPUT => {
@@ -40,9 +49,10 @@ fn refused(refusal: Refusal) -> Vec<u8> {
     format!("{refusal}\n").into_bytes()
 }
 
-const FIRST: &str = "TN:a\nSF:m.c\nFN:3,f\nFNDA:2,f\nDA:3,2\nDA:4,0,c1\nend_of_record\n";
-const SECOND: &str = "TN:a\nSF:./m.c\nFNDA:1,g\nBRDA:4,0,0,-\nBRDA:4,0,1,7\nend_of_record\n";
-const THIRD: &str = "TN:a\nSF:.//m.c\nFN:3,g\nBRDA:4,0,0,2\nDA:4,1,c2\nend_of_record\n";
+pub(super) const FIRST: &str = "TN:a\nSF:m.c\nFN:3,f\nFNDA:2,f\nDA:3,2\nDA:4,0,c1\nend_of_record\n";
+pub(super) const SECOND: &str =
+    "TN:a\nSF:./m.c\nFNDA:1,g\nBRDA:4,0,0,-\nBRDA:4,0,1,7\nend_of_record\n";
+pub(super) const THIRD: &str = "TN:a\nSF:.//m.c\nFN:3,g\nBRDA:4,0,0,2\nDA:4,1,c2\nend_of_record\n";
 const MAX: &str = "BRDA:1,0,0,18446744073709551615\nDA:1,1\nend_of_record\n";
 const LINE_MAX: &str = "BRDA:1,0,0,-\nDA:1,18446744073709551615\nend_of_record\n";
 
@@ -55,38 +65,50 @@ const NO_ENDS: &str =
     "SF:a\nFN:1,,x\nFN:1,+2,f\nFN:1, 2,f\nFN:1,2x,f\nFN:1,4294967296x,f\nFN:1,2\nend_of_record\n";
 
 pub fn all() -> Vec<Recorded> {
-    let mut all = Vec::new();
+    let mut all = [of_texts([refusals(), answers(), ends()].concat()), limits()].concat();
     let mut add = |name, bundle| all.push(Recorded { name, bundle });
-    for (name, texts) in [refusals(), answers(), ends()].concat() {
-        add(name, bundles::of(&texts));
-    }
-    add("none", bundles::of::<&str>(&[]));
-    add("empty-input", Vec::new());
-    add("64-texts", bundles::of(&[FIRST; 64]));
-    add("65-texts", bundles::of(&[FIRST; 65]));
     add("overlapping", overlapping());
     add("text-past-the-end", bundles::encoded(b"TN:a\n", &[(1, 5)]));
-    add("65536-bytes", of_length(MAX_INPUT));
-    add("65537-bytes", of_length(MAX_INPUT + 1));
-    add("256-entries", bundles::of(&[ascending(256)]));
-    add("257-entries", bundles::of(&[ascending(257)]));
-    add(
-        "256-joined",
-        bundles::of(&[&ascending(252)[..], FIRST.as_bytes()]),
-    );
-    add(
-        "257-joined",
-        bundles::of(&[&ascending(253)[..], FIRST.as_bytes()]),
-    );
     add("output-65536", printed_as_long_as(MAX_OUTPUT));
     add("output-65537", printed_as_long_as(MAX_OUTPUT + 1));
     all
 }
 
-type Named = (&'static str, Vec<&'static str>);
+/// Each limit from both sides, save for that of the output.
+pub(super) fn limits() -> Vec<Recorded> {
+    let joined = |entries| bundles::of(&[&ascending(entries)[..], FIRST.as_bytes()]);
+    let limits = [
+        ("none", bundles::of::<&str>(&[])),
+        ("empty-input", Vec::new()),
+        ("64-texts", bundles::of(&[FIRST; 64])),
+        ("65-texts", bundles::of(&[FIRST; 65])),
+        ("65536-bytes", of_length(MAX_INPUT)),
+        ("65537-bytes", of_length(MAX_INPUT + 1)),
+        ("256-entries", bundles::of(&[ascending(256)])),
+        ("257-entries", bundles::of(&[ascending(257)])),
+        ("256-joined", joined(252)),
+        ("257-joined", joined(253)),
+    ];
+    let limits = limits.into_iter();
+    limits
+        .map(|(name, bundle)| Recorded { name, bundle })
+        .collect()
+}
+
+pub(super) fn of_texts(named: Vec<Named>) -> Vec<Recorded> {
+    let named = named.into_iter();
+    named
+        .map(|(name, texts)| Recorded {
+            name,
+            bundle: bundles::of(&texts),
+        })
+        .collect()
+}
+
+pub(super) type Named = (&'static str, Vec<&'static str>);
 
 /// One for each refusal that a text can give, and for each of a merge.
-fn refusals() -> Vec<Named> {
+pub(super) fn refusals() -> Vec<Named> {
     vec![
         ("refused-01", vec![FIRST, "TN:a\nXY:1\n"]),
         ("refused-02", vec![FIRST, "TN:a\nSF:b\nFN:5\n"]),
@@ -119,6 +141,14 @@ fn refusals() -> Vec<Named> {
         ("refused-05-then-19", vec!["SF:a\nDA:x,+1\n"]),
         ("refused-25", vec![FIRST, "SF:\nDA:1,1\nSF:a\n"]),
         ("refused-25-same", vec!["SF:a\nSF:a\nend_of_record\n"]),
+        ("refused-23", vec![FIRST, "SF:b\nDA:1,1\nFN:5,4,f\n"]),
+        ("refused-23-no-name", vec!["FN:5,4,\n"]),
+        ("refused-23-then-07", vec!["FN:5,4,f\nTN:a\n"]),
+        ("refused-06-end", vec![FIRST, "SF:b\nFN:1,4294967296,f\n"]),
+        (
+            "refused-11-ends",
+            vec![ENDS, "TN:a\nSF:m.c\nFN:4,9,e\nend_of_record\n"],
+        ),
     ]
 }
 
@@ -154,14 +184,6 @@ fn answers() -> Vec<Named> {
 /// End lines of functions.
 fn ends() -> Vec<Named> {
     vec![
-        ("refused-23", vec![FIRST, "SF:b\nDA:1,1\nFN:5,4,f\n"]),
-        ("refused-23-no-name", vec!["FN:5,4,\n"]),
-        ("refused-23-then-07", vec!["FN:5,4,f\nTN:a\n"]),
-        ("refused-06-end", vec![FIRST, "SF:b\nFN:1,4294967296,f\n"]),
-        (
-            "refused-11-ends",
-            vec![ENDS, "TN:a\nSF:m.c\nFN:4,9,e\nend_of_record\n"],
-        ),
         ("no-ends", vec![NO_ENDS]),
         (
             "ends-in-one-text",

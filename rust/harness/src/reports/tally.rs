@@ -8,7 +8,7 @@ use crate::tally::{numbered, row, rows, NAMES, NUMBERS};
 use oracle::Mode;
 use std::fmt;
 
-const QUESTIONS: usize = 5;
+const QUESTIONS: usize = 6;
 
 #[derive(Default)]
 pub struct Tally {
@@ -24,10 +24,14 @@ pub struct Tally {
     with_end: [[u64; QUESTIONS]; NUMBERS],
     /// Filters by distinct starts that keep other functions than the Rust's filter, by the number of their answer.
     by_starts: [[u64; QUESTIONS]; NUMBERS],
+    /// Pages of totals, compared with what the entries of the Rust's report add up to.
+    pub pages: u64,
     /// Questions asked with every length of scratch, output and answer.
     pub thorough: u64,
     /// Written texts that were read back.
     pub read_back: u64,
+    /// Pages of what a gather wrote.
+    pub pages_again: u64,
     /// What the two filters print, held against each other.
     pub beside: Beside,
 }
@@ -52,6 +56,7 @@ fn column(asked: Asked) -> usize {
         },
         Asked::Bundle(Mode::Checked, _) => 3,
         Asked::Bundle(Mode::Lossy, _) => 4,
+        Asked::Totals(_) => 5,
     }
 }
 
@@ -63,6 +68,7 @@ fn number(told: &Told) -> usize {
 impl Tally {
     pub fn count_question(&mut self, asked: Asked, basis: Basis, told: &Told) {
         let counts = match basis {
+            Basis::Page => return self.pages += 1,
             Basis::Rust => &mut self.asked,
             Basis::Refusal => &mut self.apart,
             Basis::Ends => &mut self.with_end,
@@ -87,7 +93,7 @@ impl Tally {
 
     pub fn asked(&self) -> u64 {
         let apart = [&self.apart, &self.with_end, &self.by_starts];
-        self.questions() + apart.into_iter().flatten().flatten().sum::<u64>()
+        self.questions() + self.pages + apart.into_iter().flatten().flatten().sum::<u64>()
     }
 
     pub fn calls(&self) -> u64 {
@@ -104,7 +110,7 @@ fn table(f: &mut fmt::Formatter, what: &str, counts: &[[u64; QUESTIONS]; NUMBERS
     row(
         f,
         what,
-        &["texts", "filters", "distinct", "checked", "lossy"],
+        &["texts", "filters", "distinct", "checked", "lossy", "totals"],
     )?;
     for (number, (name, counts)) in NAMES.iter().zip(counts).enumerate() {
         if number == 0 {
@@ -127,6 +133,7 @@ impl fmt::Display for Tally {
             f,
             &[
                 ("questions", self.questions()),
+                ("pages of totals", self.pages),
                 ("all questions", self.asked()),
                 ("  of them with every length", self.thorough),
             ],
@@ -137,6 +144,7 @@ impl fmt::Display for Tally {
             &[
                 ("calls", self.calls()),
                 ("  of them reading back", self.read_back),
+                ("  of them pages again", self.pages_again),
                 ("both filters, refused", self.beside.refused),
                 ("both filters, starts differ", self.beside.same),
                 ("both filters, equal starts", self.beside.equal_starts),

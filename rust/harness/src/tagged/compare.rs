@@ -29,9 +29,9 @@ enum Asked<'a> {
     Report(reports::Asked<'a>),
 }
 
-const CALLS: usize = 7;
+const CALLS: usize = 8;
 const CALL_NAMES: [&str; CALLS] = [
-    "read", "print", "texts", "filters", "distinct", "checked", "lossy",
+    "read", "print", "texts", "filters", "distinct", "checked", "lossy", "totals",
 ];
 
 impl<'a> Asked<'a> {
@@ -57,14 +57,17 @@ impl<'a> Asked<'a> {
     fn changed(self, change: &impl Change) -> Vec<u8> {
         match self {
             Asked::Read(line) | Asked::Print(line) => change.line(line),
-            Asked::Report(reports::Asked::Bundle(_, bundle)) => change.bundle(bundle),
+            Asked::Report(reports::Asked::Bundle(_, bundle) | reports::Asked::Totals(bundle)) => {
+                change.bundle(bundle)
+            }
             Asked::Report(asked) => change.text(asked.bytes()),
         }
     }
 
-    /// What is printed for it, with other tags.
+    /// What is printed for it, with other tags; a page has none.
     fn printed(self, bytes: &[u8], change: &impl Change) -> Vec<u8> {
         match self {
+            Asked::Report(reports::Asked::Totals(_)) => bytes.to_vec(),
             Asked::Report(_) => change.text(bytes),
             _ => change.line(bytes),
         }
@@ -81,6 +84,7 @@ impl<'a> Asked<'a> {
             },
             Asked::Report(reports::Asked::Bundle(Mode::Checked, _)) => 5,
             Asked::Report(reports::Asked::Bundle(Mode::Lossy, _)) => 6,
+            Asked::Report(reports::Asked::Totals(_)) => 7,
         }
     }
 }
@@ -145,6 +149,7 @@ impl<P: Tagged> Comparison<P> {
         for mode in [Mode::Checked, Mode::Lossy] {
             self.ask(table, Asked::Report(reports::Asked::Bundle(mode, bundle)));
         }
+        self.ask(table, Asked::Report(reports::Asked::Totals(bundle)));
     }
 
     fn ask(&mut self, table: &[u8], default: Asked) {
@@ -401,6 +406,10 @@ mod tests {
             answer(reports::Asked::Bundle(Mode::Lossy, bundle), lent)
         }
 
+        fn totals(&self, bundle: &[u8], lent: Lent) -> u32 {
+            answer(reports::Asked::Totals(bundle), lent)
+        }
+
         fn filter_text(&self, asked: Filter, lent: Lent) -> u32 {
             answer(reports::Asked::Filter(asked), lent)
         }
@@ -452,7 +461,10 @@ mod tests {
             let tags = self
                 .loaded(table)
                 .map_err(|number| Answer { number, words });
-            let is_bundle = matches!(asked, Asked::Report(reports::Asked::Bundle(..)));
+            let is_bundle = matches!(
+                asked,
+                Asked::Report(reports::Asked::Bundle(..) | reports::Asked::Totals(_))
+            );
             if self.0 == Wrong::BundleFirst
                 && is_bundle
                 && bundles::decoded(asked.bytes()).is_none()
@@ -517,6 +529,13 @@ mod tests {
             self.tell(tags, reports::Asked::Bundle(Mode::Lossy, bundle), lent)
         }
 
+        fn totals_tagged(&self, tags: &[u8], bundle: &[u8], lent: Lent) -> u32 {
+            match self.0 {
+                Wrong::TableNotForPages => answer(reports::Asked::Totals(bundle), lent),
+                _ => self.tell(tags, reports::Asked::Totals(bundle), lent),
+            }
+        }
+
         fn filter_text_tagged(&self, tags: &[u8], asked: Filter, lent: Lent) -> u32 {
             self.tell(tags, reports::Asked::Filter(self.0.filter(asked)), lent)
         }
@@ -576,6 +595,7 @@ mod tests {
             Wrong::StartOfDefault,
             Wrong::AlwaysAllStarts,
             Wrong::AlwaysDistinctStarts,
+            Wrong::TableNotForPages,
         ];
         for wrong in Wrong::of_printing().chain(others) {
             assert!(

@@ -1,4 +1,4 @@
-//! Texts read, and bundles gathered.
+//! Texts read, bundles gathered, and their pages of totals.
 
 use crate::kept::Kept;
 use crate::sides::Sides;
@@ -6,7 +6,7 @@ use crate::table::{grouped, Table, Unit, Work};
 use crate::{rust, SEED};
 use harness::reports::expected::Expected;
 use harness::reports::workloads::{self, Order};
-use harness::reports::{bundles, Asked};
+use harness::reports::{bundles, page, Asked};
 use harness::tagged::tables::{self, HOUSE};
 use harness::tagged::translated::{Change, Outwards};
 use harness::{Build, Gatherer, Rng, Tagged};
@@ -47,7 +47,13 @@ pub fn measure(sides: &Sides) {
         tagged_rows(&table, &text);
     }
     bundle_rows(&table);
-    bundle_row(&table, "one text of 60,000 entries", &bundles::of(&[text]));
+    let bundle = bundles::of(&[text]);
+    bundle_row(&table, "one text of 60,000 entries", &bundle);
+    if sides.has_all_calls() {
+        totals_row(&table, "one text of 60,000 entries", &bundle);
+        let bundle = workloads::same_files(TEXTS, 1000);
+        totals_row(&table, "50 × 1,000 entries in 250 files", &bundle);
+    }
     inner_row(&table, &workloads::filled(PROGRAM_BYTES));
 }
 
@@ -211,6 +217,18 @@ fn inner_row(table: &Table, bundle: &[u8]) {
     let what = format!("{} bytes, scratch inside", grouped(bundle.len()));
     gather_row(table, &what, bundle, &|port| {
         kept.call(|lent| port.gather(black_box(bundle), lent.out, lent.answer))
+    });
+}
+
+/// The Rust has no pages: it gathers and prints the same bundle.
+fn totals_row(table: &Table, what: &str, bundle: &[u8]) {
+    let page = page::of(rust::gather(bundle).as_bytes());
+    let kept = Kept::roomy(&String::from_utf8(page).expect("names in ASCII"));
+    table.row(Work {
+        what: &format!("totals of {what}, where the Rust gathers"),
+        times: 1,
+        port: &|port| kept.call(|lent| port.totals(black_box(bundle), lent)),
+        rust: &[("", &|| drop(black_box(rust::gather(black_box(bundle)))))],
     });
 }
 

@@ -1,0 +1,4 @@
+pub mod TableLaws
+pub mod OneLaws
+pub mod GatherLaws
+pub mod BundleLaws

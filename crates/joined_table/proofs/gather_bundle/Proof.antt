@@ -1,0 +1,18 @@
+-- `joined_table::gather_bundle` meets its contract. Assumes nothing.
+use borrow.Author.Needs.{needs}
+use Rattle.scratch_layout.proofs.LimitLaws.{limit-space}
+use Rattle.joined_table.proofs.BundleLaws.{well, bundle-gathered, bundle-refused}
+use Rattle.joined_table.proofs.gather_bundle.Statement.{statement}
+use Rattle.joined_table.proofs.gather_bundle.Tie as tie
+
+pub gather-bundle-spec : {M : Type 1} → statement M
+gather-bundle-spec =
+    tie.close
+    (tie.spec
+    (λ c κs. search needs)
+    (λ c κs. search needs)
+    (λ c κs. (search needs, (search (well, needs), search (limit-space, needs))))
+    (λ c. search needs)
+    (λ c. search (bundle-gathered, needs))
+    (λ c κs. search needs)
+    (λ c. search (bundle-refused, needs)))

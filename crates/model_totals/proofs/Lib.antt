@@ -1,0 +1,4 @@
+pub mod HitLaws
+pub mod Lines
+pub mod TotalsLaws
+pub mod Examples
