@@ -77,6 +77,7 @@ enum lcov_refusal {
     LCOV_PART_OUTSIDE = 17,            /* record's text part outside the lent text */
     LCOV_MALFORMED_RANGES = 18,        /* range list not well formed */
     LCOV_SIGNED_NUMBER = 19,           /* number with a plus sign: text, line, field */
+    LCOV_REPEATED_REVISION = 20,       /* run with the same revision twice: text */
     LCOV_MALFORMED_TAGS = 21,          /* table of tags not well formed */
     LCOV_EQUAL_TAGS = 22,              /* two equal tags in the table */
     LCOV_END_BEFORE_START = 23,        /* end line below the start line: text, line */
@@ -143,6 +144,15 @@ uint32_t lcov_gather_lossy(const uint8_t *bundle, size_t bundle_len, uint64_t *s
 uint32_t lcov_totals(const uint8_t *bundle, size_t bundle_len, uint64_t *scratch, size_t scratch_len, uint8_t *out, size_t out_len,
                      uint64_t *answer, size_t answer_len);
 
+/* Gathers a bundle with revisions as lcov_gather_with does one without: of each run the text with the highest revision is gathered, in the
+ * order of the bundle. The others are not read, so that neither their faults nor their entries count. Such a bundle is n and T, then n
+ * starts, n lengths, n run numbers and n revisions, all little-endian u32, then T bytes of text. n is at most LCOV_MAX_TEXTS, the slice is
+ * exactly 8 + 16n + T long, and each start + length is at most T, also of a text that is not read (16). A run may not have the same revision
+ * twice, be it the highest or not: 20 tells the first text that has the run and revision of an earlier one, whatever the texts hold. Text
+ * indexes count all texts of the bundle. Refuses with 16, then 20, then as lcov_gather_with does. */
+uint32_t lcov_gather_revisions(const uint8_t *bundle, size_t bundle_len, uint64_t *scratch, size_t scratch_len, uint8_t *out,
+                               size_t out_len, uint64_t *answer, size_t answer_len);
+
 /* Ranges of lines are pairs of start and end, both in the range, in a lent list of which the first `used` pairs count. They are well formed
  * if used is at most the list's length, each start is at most its end, and they ascend with at least one line between two. pairs_len
  * counts pairs. What is not well formed is refused with 18 and stays. */
@@ -202,6 +212,9 @@ uint32_t lcov_gather_lossy_tagged(const uint8_t *tags, size_t tags_len, const ui
 /* The page has no tags. */
 uint32_t lcov_totals_tagged(const uint8_t *tags, size_t tags_len, const uint8_t *bundle, size_t bundle_len, uint64_t *scratch,
                             size_t scratch_len, uint8_t *out, size_t out_len, uint64_t *answer, size_t answer_len);
+
+uint32_t lcov_gather_revisions_tagged(const uint8_t *tags, size_t tags_len, const uint8_t *bundle, size_t bundle_len, uint64_t *scratch,
+                                      size_t scratch_len, uint8_t *out, size_t out_len, uint64_t *answer, size_t answer_len);
 
 uint32_t lcov_filter_tagged(const uint8_t *tags, size_t tags_len, const uint8_t *text, size_t text_len, const uint32_t (*pairs)[2],
                             size_t pairs_len, size_t used, uint64_t *scratch, size_t scratch_len, uint8_t *out, size_t out_len,

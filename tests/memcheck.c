@@ -140,6 +140,11 @@ static uint32_t totals(struct lent *lent)
     return lcov_totals(TEXT, SCRATCH, OUT, ANSWER);
 }
 
+static uint32_t gather_revisions(struct lent *lent)
+{
+    return lcov_gather_revisions(TEXT, SCRATCH, OUT, ANSWER);
+}
+
 static uint32_t filter(struct lent *lent)
 {
     return lcov_filter(TEXT, CONST_LIST, SCRATCH, OUT, ANSWER);
@@ -201,6 +206,11 @@ static uint32_t totals_tagged(struct lent *lent)
     return lcov_totals_tagged(TABLE, TEXT, SCRATCH, OUT, ANSWER);
 }
 
+static uint32_t gather_revisions_tagged(struct lent *lent)
+{
+    return lcov_gather_revisions_tagged(TABLE, TEXT, SCRATCH, OUT, ANSWER);
+}
+
 static uint32_t filter_tagged(struct lent *lent)
 {
     return lcov_filter_tagged(TABLE, TEXT, CONST_LIST, SCRATCH, OUT, ANSWER);
@@ -220,6 +230,7 @@ enum {
     GATHER_WITH,
     GATHER_LOSSY,
     TOTALS,
+    GATHER_REVISIONS,
     FILTER,
     FILTER_DISTINCT_STARTS,
     INSERT_RANGE,
@@ -232,6 +243,7 @@ enum {
     GATHER_TAGGED,
     GATHER_LOSSY_TAGGED,
     TOTALS_TAGGED,
+    GATHER_REVISIONS_TAGGED,
     FILTER_TAGGED,
     FILTER_DISTINCT_STARTS_TAGGED,
 };
@@ -254,6 +266,7 @@ static const struct call CALLS[] = {
     [GATHER_WITH] = { "gather_with", gather_with, true, true, true, false, OF_CHECKED },
     [GATHER_LOSSY] = { "gather_lossy", gather_lossy, true, true, true, false, OF_LOSSY },
     [TOTALS] = { "totals", totals, true, true, true, false, OF_CHECKED },
+    [GATHER_REVISIONS] = { "gather_revisions", gather_revisions, true, true, true, false, OF_CHECKED | BIT(20) },
     [FILTER] = { "filter", filter, true, true, true, false, OF_FILTER },
     [FILTER_DISTINCT_STARTS] = { "filter_distinct_starts", filter_distinct_starts, true, true, true, false, OF_FILTER },
     [INSERT_RANGE] = { "insert_range", insert_range, false, false, true, true, BIT(0) | BIT(15) | BIT(18) },
@@ -266,6 +279,8 @@ static const struct call CALLS[] = {
     [GATHER_TAGGED] = { "gather_tagged", gather_tagged, true, true, true, false, OF_CHECKED | OF_TAGS },
     [GATHER_LOSSY_TAGGED] = { "gather_lossy_tagged", gather_lossy_tagged, true, true, true, false, OF_LOSSY | OF_TAGS },
     [TOTALS_TAGGED] = { "totals_tagged", totals_tagged, true, true, true, false, OF_CHECKED | OF_TAGS },
+    [GATHER_REVISIONS_TAGGED] = { "gather_revisions_tagged", gather_revisions_tagged, true, true, true, false,
+                                  OF_CHECKED | BIT(20) | OF_TAGS },
     [FILTER_TAGGED] = { "filter_tagged", filter_tagged, true, true, true, false, OF_FILTER | OF_TAGS },
     [FILTER_DISTINCT_STARTS_TAGGED] = { "filter_distinct_starts_tagged", filter_distinct_starts_tagged, true, true, true, false,
                                         OF_FILTER | OF_TAGS },
@@ -510,6 +525,24 @@ static void ask_bundle(struct text bundle, struct text tags)
     free_input(&in);
 }
 
+static void ask_revised(struct text bundle, struct text tags)
+{
+    struct input in = { .bytes = bundle, .tags = tags, .has_largest = one_in(40) };
+    ask_report(GATHER_REVISIONS, &in);
+    ask_report(GATHER_REVISIONS_TAGGED, &in);
+    free_input(&in);
+}
+
+/* Both texts are read. */
+static void ask_two(const char *first, const char *second)
+{
+    static const size_t RUNS[] = { 9, 1 }, REVISIONS[] = { 1, 1 };
+    struct text revised = bundle_of_two(first, second);
+    put_revisions(&revised, RUNS, REVISIONS, 2);
+    ask_revised(revised, default_tags());
+    ask_bundle(bundle_of_two(first, second), default_tags());
+}
+
 static void ask_line(struct text line, struct text tags)
 {
     struct input in = { .bytes = line, .tags = tags };
@@ -535,10 +568,10 @@ static void ask_faults(void)
         put(&text, "%s", FAULTS[k]);
         ask_line(line, default_tags());
         ask_text(text, default_tags());
-        ask_bundle(bundle_of_two("SF:m\nDA:1,1\nend_of_record\n", FAULTS[k]), default_tags());
+        ask_two("SF:m\nDA:1,1\nend_of_record\n", FAULTS[k]);
     }
     for (size_t k = 0; k < COUNT(CONFLICTS); k++)
-        ask_bundle(bundle_of_two(CONFLICTS[k][0], CONFLICTS[k][1]), default_tags());
+        ask_two(CONFLICTS[k][0], CONFLICTS[k][1]);
 
     /* more entries than lcov_gather has words for */
     struct text many = { NULL, 0 };
@@ -611,6 +644,24 @@ static void ask_page(void)
     free_input(&in);
 }
 
+/* Of a run the second text is read, whatever the first holds. Equal revisions are refused, whatever both hold. */
+static void ask_replaced(size_t place)
+{
+    static const char CHOSEN[] = "TN:\nSF:m\nDA:1,1\nLF:1\nLH:1\nend_of_record\n";
+    static const size_t RUNS[] = { 7, 7 }, DIFFERENT[] = { 255, 256 }, EQUAL[] = { 256, 256 };
+    struct input in = { .bytes = bundle_of_two("x\n", CHOSEN), .tags = default_tags() };
+    put_revisions(&in.bytes, RUNS, DIFFERENT, 2);
+    ask_printed(place, &in, CHOSEN, "another text is gathered");
+    free(in.bytes.bytes);
+    in.bytes = bundle_of_two("x\n", CHOSEN);
+    put_revisions(&in.bytes, RUNS, EQUAL, 2);
+    if (chosen[place]) {
+        struct told told = ask(&CALLS[place], &in, 0, 0);
+        expect(told.number == LCOV_REPEATED_REVISION && told.words[0] == 1, CALLS[place].name, "equal revisions are not refused as such");
+    }
+    free_input(&in);
+}
+
 static void ask_texts(void)
 {
     for (size_t k = 0; k < TEXTS; k++) {
@@ -624,6 +675,7 @@ static void ask_bundles(void)
     for (size_t k = 0; k < BUNDLES; k++) {
         names_used = 1 + below(COUNT(TESTS));
         ask_bundle(some_bundle(), some_tags());
+        ask_revised(some_revisions(), some_tags());
     }
 }
 
@@ -753,6 +805,8 @@ int main(int argc, char **argv)
     ask_faults();
     ask_starts();
     ask_page();
+    ask_replaced(GATHER_REVISIONS);
+    ask_replaced(GATHER_REVISIONS_TAGGED);
     ask_lines();
     ask_numbers();
     ask_lists();

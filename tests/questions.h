@@ -278,10 +278,11 @@ static struct text bundle_of_two(const char *first, const char *second)
     return bundle;
 }
 
-static void damage_bundle(struct text *bundle, size_t many)
+/* Numbers may be changed in the head, of which each text has so many. */
+static void damage_bundle(struct text *bundle, size_t many, size_t numbers)
 {
     if (one_in(8))
-        bundle->bytes[below(8 + 8 * many)] += (uint8_t)(1 + below(255));
+        bundle->bytes[below(8 + 4 * numbers * many)] += (uint8_t)(1 + below(255));
     if (one_in(12))
         bundle->len = below(bundle->len);
     if (one_in(20))
@@ -289,10 +290,9 @@ static void damage_bundle(struct text *bundle, size_t many)
 }
 
 /* Texts that are one after another, or any parts of the same bytes; one of them may be named many times. */
-static struct text some_bundle(void)
+static struct text sound_bundle(size_t many)
 {
     size_t starts[LCOV_MAX_TEXTS + 1], lens[LCOV_MAX_TEXTS + 1];
-    size_t many = one_in(30) ? LCOV_MAX_TEXTS - 1 + below(3) : below(5);
     bool overlapping = many > 5 || one_in(4);
     struct text bytes = some_text(12);
     for (size_t k = 0; k < many; k++) {
@@ -313,7 +313,45 @@ static struct text some_bundle(void)
     }
     struct text bundle = bundle_of(&bytes, starts, lens, many);
     free(bytes.bytes);
-    damage_bundle(&bundle, many);
+    return bundle;
+}
+
+static size_t some_count(void)
+{
+    return one_in(30) ? LCOV_MAX_TEXTS - 1 + below(3) : below(5);
+}
+
+static struct text some_bundle(void)
+{
+    size_t many = some_count();
+    struct text bundle = sound_bundle(many);
+    damage_bundle(&bundle, many, 2);
+    return bundle;
+}
+
+/* Makes a bundle with revisions of one without: they stand after the lengths. */
+static void put_revisions(struct text *bundle, const size_t *runs, const size_t *revisions, size_t many)
+{
+    struct text numbers = { NULL, 0 };
+    for (size_t k = 0; k < many; k++)
+        put_number(&numbers, runs[k]);
+    for (size_t k = 0; k < many; k++)
+        put_number(&numbers, revisions[k]);
+    insert(bundle, 8 + 8 * many, numbers.bytes, numbers.len);
+    free(numbers.bytes);
+}
+
+/* Few runs, so that some texts are not read; few have a revision twice. */
+static struct text some_revisions(void)
+{
+    size_t runs[LCOV_MAX_TEXTS + 1], revisions[LCOV_MAX_TEXTS + 1], many = some_count();
+    for (size_t k = 0; k < many; k++) {
+        runs[k] = one_in(4) ? UINT32_MAX - below(2) : below(3);
+        revisions[k] = one_in(20) ? below(3) : 255 + k * (one_in(2) ? 1 : 256);
+    }
+    struct text bundle = sound_bundle(many);
+    put_revisions(&bundle, runs, revisions, many);
+    damage_bundle(&bundle, many, 4);
     return bundle;
 }
 

@@ -6,16 +6,20 @@ ghost use Prim.Native.Nat.{_+_, _*_, _≤_, _<_};
 ghost use lib.ListN.{length};
 ghost use Rattle.model.specs.Limits.{u32-max, max-texts};
 ghost use Rattle.model.specs.Bundle.{u32At, textCount, textStart, textLength, wellFormed};
-ghost use Rattle.bundle.specs.Places.{partAt, fitsFrom};
+ghost use Rattle.bundle.specs.Marks.{isMarked, NextMarked};
+ghost use Rattle.bundle.specs.Places.{partFrom, TextsInside, fitsFrom, wellFormedAs};
 
 // "n at most 64": `max-texts` in model/specs/Limits.antt.
 const MAX_TEXTS: usize = 64;
 
 // The sizes n and T.
-const SIZES: usize = 8;
+pub const SIZES: usize = 8;
+
+// A text's start and length.
+const WIDTH: usize = 8;
 
 // The little-endian u32 at an offset.
-fn u32_at(bundle: &[u8], at: usize) -> usize
+pub fn u32_at(bundle: &[u8], at: usize) -> usize
     requires { ⌜ at + 4 ≤ length (now bundle) ⌝ }
     ensures { λ r. ⌜ (r ≡ u32At (now (bundle .entry)) at) × (r ≤ u32-max) ⌝ }
 {
@@ -52,9 +56,10 @@ fn all_fit(bundle: &[u8], n: usize, total: usize) -> bool
     true
 }
 
-// "Well formed: n at most 64, the slice is exactly 8 + 8n + T long, each start + length is at most T."
-pub fn is_well_formed(bundle: &[u8]) -> bool
-    ensures { λ r. ⌜ r ≡ wellFormed (now (bundle .entry)) ⌝ }
+// Well formed, with so many bytes in the arrays for each text.
+pub fn is_well_formed_as(bundle: &[u8], width: usize) -> bool
+    requires { ⌜ (8 ≤ width) × (width ≤ 16) ⌝ }
+    ensures { λ r. ⌜ r ≡ wellFormedAs width (now (bundle .entry)) ⌝ }
 {
     if bundle.len() < SIZES {
         return false;
@@ -64,30 +69,73 @@ pub fn is_well_formed(bundle: &[u8]) -> bool
     if MAX_TEXTS < n {
         return false;
     }
-    if bundle.len() != SIZES + 8 * n + total {
+    if bundle.len() != SIZES + width * n + total {
         return false;
     }
     all_fit(bundle, n, total)
 }
 
+// "Well formed: n at most 64, the slice is exactly 8 + 8n + T long, each start + length is at most T."
+pub fn is_well_formed(bundle: &[u8]) -> bool
+    ensures { λ r. ⌜ r ≡ wellFormed (now (bundle .entry)) ⌝ }
+{
+    is_well_formed_as(bundle, WIDTH)
+}
+
 // The number of texts.
 pub fn text_count(bundle: &[u8]) -> usize
-    requires { ⌜ wellFormed (now bundle) ≡ true ⌝ }
-    ensures { λ r. ⌜ (r ≡ textCount (now (bundle .entry))) × (r ≤ max-texts) ⌝ }
+    requires { ⌜ 8 ≤ length (now bundle) ⌝ }
+    ensures { λ r. ⌜ r ≡ textCount (now (bundle .entry)) ⌝ }
 {
     u32_at(bundle, 0)
 }
 
+// Where the text bytes begin, behind starts and lengths.
+pub fn body_at(bundle: &[u8]) -> usize
+    requires { ⌜ (8 ≤ length (now bundle)) × (textCount (now bundle) ≤ max-texts) ⌝ }
+    ensures { λ r. ⌜ r ≡ 8 + 8 * textCount (now (bundle .entry)) ⌝ }
+{
+    SIZES + 8 * text_count(bundle)
+}
+
 // Where the i-th text lies in the bundle.
-pub fn text_part(bundle: &[u8], i: usize) -> Part
-    requires { ⌜ (wellFormed (now bundle) ≡ true) × (i < textCount (now bundle)) ⌝ }
-    ensures { λ r. ⌜ (r ≡ partAt (now (bundle .entry)) i) × (r .start + r .len ≤ length (now (bundle .entry))) ⌝ }
+pub fn text_part(bundle: &[u8], body: usize, i: usize) -> Part
+    requires { ⌜ TextsInside (now bundle) body × (i < textCount (now bundle)) ⌝ }
+    ensures { λ r. ⌜ (r ≡ partFrom body (now (bundle .entry)) i) × (r .start + r .len ≤ length (now (bundle .entry))) ⌝ }
 {
     let n = text_count(bundle);
     let start = text_start(bundle, i);
     let len = text_len(bundle, n, i);
     Part {
-        start: SIZES + 8 * n + start,
+        start: body + start,
         len,
     }
+}
+
+// Whether the i-th text is chosen: its byte is not 0, or there is none for it.
+fn is_marked(marks: &[u8], i: usize) -> bool
+    ensures { λ r. ⌜ r ≡ isMarked (now (marks .entry)) i ⌝ }
+{
+    if i < marks.len() {
+        if marks[i] == 0 {
+            return false;
+        }
+        return true;
+    }
+    true
+}
+
+// The first of the texts from the i-th on that is chosen; n where none is.
+pub fn next_marked(marks: &[u8], n: usize, i: usize) -> usize
+    requires { ⌜ i ≤ n ⌝ }
+    ensures { λ r. ⌜ NextMarked (now (marks .entry)) n i r ⌝ }
+{
+    let mut at = i;
+    while at < n {
+        if is_marked(marks, at) {
+            return at;
+        }
+        at += 1;
+    }
+    n
 }

@@ -1,10 +1,9 @@
--- One text gathered, and then all of a bundle's. Assumes nothing.
-use Prim.Native.Nat.{ℕ, suc, _+_, _*_, _-_, _≤_, _<_}
+-- One text gathered, and then all that are marked. Assumes nothing.
+use Prim.Native.Nat.{ℕ, zero, suc, _+_, _*_, _-_, _≤_, _<_}
 use native.Mathlib.Omega.{arith}
-use native.Mathlib.Numerals.{add-one}
 use mathlib.Core.Path.{_≡_, refl, sym, ap, subst, _∙_}
-use mathlib.Core.Bool.{true}
-use mathlib.Core.List.{List, [], _∷_, map}
+use mathlib.Core.Bool.{Bool, true, false}
+use mathlib.Core.List.{List, [], _∷_}
 use lib.ListN.{length, take, drop}
 use lib.Seq.{length-take-le}
 use Rattle.table.specs.Places.{tabulate}
@@ -12,16 +11,19 @@ use Rattle.model.specs.declared.Kind.{Kind}
 use Rattle.model.specs.declared.Fault.{Fault}
 use Rattle.model.specs.declared.Mode.{Mode}
 use Rattle.model.specs.declared.Refusal.{Refusal}
-use Rattle.model.specs.Lists.{from}
+use Rattle.model.specs.Lists.{filter, from}
 use Rattle.model.specs.Bytes.{Bytes}
 use Rattle.model.specs.Answer.{Answer, accepted, refused, _>>=_, refuse, unplaced, inText}
 use Rattle.model.specs.Report.{Report, merge, within}
 use Rattle.model.specs.Reading.{readText}
 use Rattle.model.specs.Limits.{max-texts}
-use Rattle.model.specs.Bundle.{textCount, textAt, texts, wellFormed}
+use Rattle.model.specs.Bundle.{textCount, Text}
 use Rattle.model.specs.Gather.{gatherText, gatherTexts}
 use Rattle.model.proofs.OneText.{read-alone}
-use Rattle.bundle.proofs.BundleLaws.{well-few}
+use Rattle.bundle.specs.Marks.{isMarked, NextMarked}
+use Rattle.bundle.specs.Places.{textFrom, TextsInside}
+use Rattle.text_choice.specs.Choice.{chooseTexts}
+use Rattle.text_choice.proofs.Positions.{choose-next, choose-past}
 use Rattle.table_section.specs.Sections.{entriesAt}
 use Rattle.section.specs.Table.{Table}
 use Rattle.section.specs.Reading.{capacity}
@@ -34,33 +36,33 @@ use Rattle.merge.specs.Merging.{Tables, seenJoined, HeldJoined, MergedAsModel}
 use Rattle.joined_table.specs.declared.Gathered.{Gathered}
 use Rattle.joined_table.specs.declared.Gathered.the-variants as G
 use Rattle.scratch_layout.specs.Layout.{index-at, base-at, ScratchRoom}
-use Rattle.joined_table.specs.Gathering.{inTextOf, joinedAt, JoinedTable, ReadOne, ReadBehind, seenGathered, GatheredAs}
+use Rattle.joined_table.specs.Gathering.{inTextOf, joinedAt, JoinedTable, ReadOne, ReadBehind, markedTexts, seenGathered, GatheredAs}
 use Rattle.joined_table.proofs.TableLaws.{table-none}
 
 -- ---- as the code meets them
 
 -- a text's number is small
-pub text-few : (bundle : Bytes) (i : ℕ) → wellFormed bundle ≡ true → i < textCount bundle → i < max-texts
-text-few bundle i well h = omega (arith, well-few bundle well)
+pub text-few : (bundle : Bytes) (body i : ℕ) → TextsInside bundle body → i < textCount bundle → i < max-texts
+text-few bundle body i inside h = omega (arith, inside .few)
 
 pub space-same : (ws ws′ : List ℕ) (limit : ℕ) → ScratchRoom ws limit → length ws′ ≡ length ws → ScratchRoom ws′ limit
 space-same ws ws′ limit s e = record { most = s .most; words = rw e (s .words) }
 
 -- ---- one text, read behind the joined table
 
-module _ (tag : Kind → Bytes) (bundle ws ws′ : List ℕ) (mode : Mode) (limit n i : ℕ) (got : TextAnswer) (b : ReadBehind tag bundle ws ws′ limit i got) where
+module _ (tag : Kind → Bytes) (bundle : Bytes) (body : ℕ) (ws ws′ : List ℕ) (mode : Mode) (limit n i : ℕ) (got : TextAnswer) (b : ReadBehind tag bundle body ws ws′ limit i got) where
   abbrev answer : Answer Report
-  answer = gatherText tag mode limit (textAt bundle i .bytes) (joinedAt bundle ws limit n)
+  answer = gatherText tag mode limit (textFrom body bundle i .bytes) (joinedAt bundle ws limit n)
 
   -- it is not readable
   pub text-refused : (q r : Refusal) → got ≡ T.Refused q → r ≡ inTextOf i q → GatheredAs (inText i answer) bundle ws′ limit (G.Refused r)
   unfolding gatherText
   text-refused q r e h =
-      let read : refused q ≡ readText tag limit (textAt bundle i .bytes) = rw e at (b .read .is) in
+      let read : refused q ≡ readText tag limit (textFrom body bundle i .bytes) = rw e at (b .read .is) in
       record { is = rw (h, ← read); held = tt }
 
   module _ (kept used : ℕ) (e : got ≡ T.Read kept used) where
-    read-is : accepted (entriesAt bundle (drop (base-at limit) ws′) (index-at limit) kept) ≡ readText tag limit (textAt bundle i .bytes)
+    read-is : accepted (entriesAt bundle (drop (base-at limit) ws′) (index-at limit) kept) ≡ readText tag limit (textFrom body bundle i .bytes)
     read-is = rw e at (b .read .is)
 
     read-held : Table bundle (drop (base-at limit) ws′) (index-at limit) used kept × (used ≤ capacity limit) × (kept ≤ limit)
@@ -102,13 +104,13 @@ module _ (tag : Kind → Bytes) (bundle ws ws′ : List ℕ) (mode : Mode) (limi
 
 -- ---- one text, read in front
 
-module _ (tag : Kind → Bytes) (bundle ws ys us : List ℕ) (mode : Mode) (limit n i : ℕ) (got : TextAnswer) (o : ReadOne tag bundle ys limit i got) (none-yet : n ≡ 0) where
+module _ (tag : Kind → Bytes) (bundle : Bytes) (body : ℕ) (ws ys us : List ℕ) (mode : Mode) (limit n i : ℕ) (got : TextAnswer) (o : ReadOne tag bundle body ys limit i got) (none-yet : n ≡ 0) where
   abbrev alone : Answer Report
-  alone = gatherText tag mode limit (textAt bundle i .bytes) (joinedAt bundle ws limit n)
+  alone = gatherText tag mode limit (textFrom body bundle i .bytes) (joinedAt bundle ws limit n)
 
   alone-is : alone ≡ seenText bundle ys (index-at limit) got
   unfolding tabulate
-  alone-is = rw none-yet (read-alone tag limit mode (textAt bundle i .bytes)) ∙ sym (o .is)
+  alone-is = rw none-yet (read-alone tag limit mode (textFrom body bundle i .bytes)) ∙ sym (o .is)
 
   -- it is not readable
   pub front-refused : (q r : Refusal) → got ≡ T.Refused q → r ≡ inTextOf i q → GatheredAs (inText i alone) bundle us limit (G.Refused r)
@@ -130,49 +132,94 @@ joining-none bundle ws limit space =
     record { table = table-none bundle (take (base-at limit) ws) (index-at limit) (omega arith); most = omega arith }
 
 -- what was read in front doesn't matter
-pub text-again : (tag : Kind → Bytes) (bundle ws us ws′ : List ℕ) (mode : Mode) (limit n i : ℕ) (got : Gathered) → n ≡ 0
-    → GatheredAs (inText i (gatherText tag mode limit (textAt bundle i .bytes) (joinedAt bundle us limit 0))) bundle ws′ limit got
-    → GatheredAs (inText i (gatherText tag mode limit (textAt bundle i .bytes) (joinedAt bundle ws limit n))) bundle ws′ limit got
+pub text-again : (tag : Kind → Bytes) (bundle : Bytes) (body : ℕ) (ws us ws′ : List ℕ) (mode : Mode) (limit n i : ℕ) (got : Gathered) → n ≡ 0
+    → GatheredAs (inText i (gatherText tag mode limit (textFrom body bundle i .bytes) (joinedAt bundle us limit 0))) bundle ws′ limit got
+    → GatheredAs (inText i (gatherText tag mode limit (textFrom body bundle i .bytes) (joinedAt bundle ws limit n))) bundle ws′ limit got
 unfolding tabulate
-text-again tag bundle ws us ws′ mode limit n i got z g = rw z g
+text-again tag bundle body ws us ws′ mode limit n i got z g = rw z g
 
--- ---- all texts
+-- ---- all marked texts
 
--- n entries are joined of the texts before the i-th, and what is left gives the whole bundle's answer
-pub record Left (tag : Kind → Bytes) (bundle ws : List ℕ) (mode : Mode) (limit count n i : ℕ) : Type 0 where
+-- texts that are not marked are passed over
+module _ (body : ℕ) (bundle : Bytes) (marks : List ℕ) (count : ℕ) where
+  abbrev chosen : ℕ → List Text
+  chosen i = chooseTexts (isMarked marks) (textFrom body bundle) i (count - i)
+
+  one-passed : (i : ℕ) → i < count → isMarked marks i ≡ false → chosen i ≡ chosen (i + 1)
+  one-passed i h e =
+      let this : count - i ≡ suc (count - (i + 1)) = omega arith in
+      let next : suc i ≡ i + 1 = omega arith in
+      ap (chooseTexts (isMarked marks) (textFrom body bundle) i) this
+      ∙ choose-past (isMarked marks) (textFrom body bundle) i (count - (i + 1)) e
+      ∙ ap (λ (k : ℕ). chooseTexts (isMarked marks) (textFrom body bundle) k (count - (i + 1))) next
+
+  some-passed : (many i r : ℕ) → i + many ≡ r → r ≤ count → ((k : ℕ) → i ≤ k → k < r → isMarked marks k ≡ false) → chosen i ≡ chosen r
+  some-passed zero i r e m p = ap chosen (let z : i ≡ r = omega arith in z)
+  some-passed (suc many) i r e m p =
+      one-passed i (omega arith) (p i (omega arith) (omega arith)) ∙ some-passed many (i + 1) r (omega arith) m (λ k l h. p k (omega arith) h)
+
+  pub next-passed : (i r : ℕ) → NextMarked marks count i r → chosen i ≡ chosen r
+  next-passed i r ν = some-passed (r - i) i r (omega (arith, ν .least)) (ν .most) (ν .passed)
+
+  pub next-chosen : (i : ℕ) → i < count → isMarked marks i ≡ true → chosen i ≡ textFrom body bundle i ∷ chosen (i + 1)
+  next-chosen i h e =
+      let this : count - i ≡ suc (count - (i + 1)) = omega arith in
+      let next : suc i ≡ i + 1 = omega arith in
+      ap (chooseTexts (isMarked marks) (textFrom body bundle) i) this
+      ∙ choose-next (isMarked marks) (textFrom body bundle) i (count - (i + 1)) e
+      ∙ ap (λ (k : ℕ). textFrom body bundle i ∷ chooseTexts (isMarked marks) (textFrom body bundle) k (count - (i + 1))) next
+
+-- n entries are joined of the marked texts before the i-th, and what is left gives the whole answer. The i-th is marked, or there is none left
+pub record Left (tag : Kind → Bytes) (bundle : Bytes) (body : ℕ) (marks ws : List ℕ) (mode : Mode) (limit count n i : ℕ) : Type 0 where
   pub joining : JoinedTable bundle ws limit n
-  pub left : gatherTexts tag mode limit (map (textAt bundle) (from i (count - i))) (joinedAt bundle ws limit n)
-      ≡ gatherTexts tag mode limit (texts bundle) []
+  pub left : gatherTexts tag mode limit (chosen body bundle marks count i) (joinedAt bundle ws limit n)
+      ≡ gatherTexts tag mode limit (markedTexts body marks bundle) []
+  pub marked : i < count → isMarked marks i ≡ true
+  pub most : i ≤ count
 
-module _ (tag : Kind → Bytes) (bundle ws : List ℕ) (mode : Mode) (limit count : ℕ) where
+module _ (tag : Kind → Bytes) (bundle : Bytes) (body : ℕ) (marks ws : List ℕ) (mode : Mode) (limit count : ℕ) where
+  abbrev whole : Answer Report
+  whole = gatherTexts tag mode limit (markedTexts body marks bundle) []
+
   pub left-count : (i : ℕ) → count ≡ textCount bundle → i < count → i < textCount bundle
   left-count i e h = omega arith
 
-  pub left-start : ScratchRoom ws limit → count ≡ textCount bundle → Left tag bundle ws mode limit count 0 0
-  unfolding tabulate texts
-  left-start space e =
+  pub left-start : (i : ℕ) → ScratchRoom ws limit → count ≡ textCount bundle → NextMarked marks count 0 i → Left tag bundle body marks ws mode limit count 0 i
+  unfolding tabulate
+  left-start i space e ν =
       let all-of : count - 0 ≡ textCount bundle = omega arith in
-      record { joining = joining-none bundle ws limit space; left = rw all-of }
+      let every : chosen body bundle marks count i ≡ markedTexts body marks bundle =
+      sym (next-passed body bundle marks count 0 i ν) ∙ ap (chooseTexts (isMarked marks) (textFrom body bundle) 0) all-of in
+      record {
+        joining = joining-none bundle ws limit space;
+        left = ap (λ (ts : List Text). gatherTexts tag mode limit ts []) every;
+        marked = ν .marked;
+        most = ν .most;
+      }
 
-  module _ (n i : ℕ) (l : Left tag bundle ws mode limit count n i) where
-    pub left-done : count ≤ i → GatheredAs (gatherTexts tag mode limit (texts bundle) []) bundle ws limit (G.Entries n)
-    unfolding from gatherTexts
+  module _ (n i : ℕ) (l : Left tag bundle body marks ws mode limit count n i) where
+    pub left-done : count ≤ i → GatheredAs whole bundle ws limit (G.Entries n)
+    unfolding chooseTexts filter from gatherTexts
     left-done h =
         let none-left : count - i ≡ 0 = omega arith in
         let is = rw none-left at (l .left) in
         record { is = is; held = l .joining }
 
     module _ (more : i < count) (ws′ : List ℕ) (got : Gathered)
-        (g : GatheredAs (inText i (gatherText tag mode limit (textAt bundle i .bytes) (joinedAt bundle ws limit n))) bundle ws′ limit got) where
-      one-more : (seenGathered bundle ws′ limit got >>= λ next. gatherTexts tag mode limit (map (textAt bundle) (from (i + 1) (count - (i + 1)))) next)
-          ≡ gatherTexts tag mode limit (texts bundle) []
-      unfolding from gatherTexts textAt
+        (g : GatheredAs (inText i (gatherText tag mode limit (textFrom body bundle i .bytes) (joinedAt bundle ws limit n))) bundle ws′ limit got) where
+      one-more : (seenGathered bundle ws′ limit got >>= λ joined. gatherTexts tag mode limit (chosen body bundle marks count (i + 1)) joined) ≡ whole
+      unfolding gatherTexts
       one-more =
-          let this : count - i ≡ suc (count - suc i) = omega arith in
-          rw (g .is, add-one i) (rw this at (l .left))
+          rw (g .is)
+          (ap (λ (ts : List Text). gatherTexts tag mode limit ts (joinedAt bundle ws limit n)) (sym (next-chosen body bundle marks count i more (l .marked more))) ∙ l .left)
 
-      pub left-refused : (r : Refusal) → got ≡ G.Refused r → GatheredAs (gatherTexts tag mode limit (texts bundle) []) bundle ws′ limit (G.Refused r)
-      left-refused r e = record { is = rw e at one-more; held = tt }
+      pub left-refused : (r : Refusal) → got ≡ G.Refused r → GatheredAs whole bundle ws′ limit (G.Refused r)
+      left-refused r h = record { is = rw h at one-more; held = tt }
 
-      pub left-next : (k : ℕ) → got ≡ G.Entries k → Left tag bundle ws′ mode limit count k (i + 1)
-      left-next k e = record { joining = rw e at (g .held); left = rw e at one-more }
+      pub left-next : (k j : ℕ) → got ≡ G.Entries k → NextMarked marks count (i + 1) j → Left tag bundle body marks ws′ mode limit count k j
+      left-next k j h ν = record {
+        joining = rw h at (g .held);
+        left = ap (λ (ts : List Text). gatherTexts tag mode limit ts (joinedAt bundle ws′ limit k)) (sym (next-passed body bundle marks count (i + 1) j ν)) ∙ rw h at one-more;
+        marked = ν .marked;
+        most = ν .most;
+      }

@@ -12,7 +12,6 @@ use Rattle.model.specs.Bytes.{Bytes}
 use Rattle.model.specs.Answer.{Answer, accepted}
 use Rattle.model.specs.Report.{Report}
 use Rattle.model.specs.Reading.{readText}
-use Rattle.model.specs.Bundle.{textAt}
 use Rattle.model.proofs.Read.{readText-valid}
 use Rattle.table_section.specs.Sections.{entriesAt}
 use Rattle.section.specs.Table.{Table}
@@ -20,7 +19,7 @@ use Rattle.section.specs.Reading.{SectionRoom}
 use Rattle.report_parser.specs.declared.TextAnswer.{TextAnswer}
 use Rattle.report_parser.specs.declared.TextAnswer.the-variants as T
 use Rattle.report_parser.specs.Reader.{TextRead}
-use Rattle.bundle.specs.Places.{partAt}
+use Rattle.bundle.specs.Places.{partFrom, textFrom}
 use Rattle.scratch_layout.specs.Layout.{index-at, base-at, ScratchRoom}
 use Rattle.joined_table.specs.Gathering.{ReadOne, ReadBehind}
 use Rattle.joined_table.proofs.TableLaws.{entries-longer, table-longer}
@@ -83,18 +82,17 @@ starts-inside bundle start len h = omega (arith, length-take-le (start + len) bu
 
 -- ---- the reading
 
-module _ (tag : Kind → Bytes) (bundle ws : List ℕ) (limit i : ℕ) (p : Part) (place : p ≡ partAt bundle i) (inside : p .start + p .len ≤ length bundle) where
+module _ (tag : Kind → Bytes) (bundle : Bytes) (body : ℕ) (ws : List ℕ) (limit i : ℕ) (p : Part) (place : p ≡ partFrom body bundle i) (inside : p .start + p .len ≤ length bundle) where
   abbrev end : ℕ
   end = p .start + p .len
 
-  text-is : drop (p .start) (take end bundle) ≡ textAt bundle i .bytes
-  unfolding textAt
+  text-is : drop (p .start) (take end bundle) ≡ textFrom body bundle i .bytes
   text-is = text-bytes bundle (p .start) (p .len) inside ∙ ap (λ (q : Part). take (q .len) (drop (q .start) bundle)) place
 
   whole-is : take end bundle ++ drop end bundle ≡ bundle
   whole-is = take-append-drop end bundle
 
-  one-as : (r : TextAnswer) → TextRead tag (take end bundle) ws (index-at limit) limit (p .start) r → ReadOne tag bundle ws limit i r
+  one-as : (r : TextAnswer) → TextRead tag (take end bundle) ws (index-at limit) limit (p .start) r → ReadOne tag bundle body ws limit i r
   one-as (T.Refused q) t = record { is = t .is ∙ ap (readText tag limit) text-is; held = tt }
   one-as (T.Read kept used) t =
       let table = read-table tag (take end bundle) ws (index-at limit) limit (p .start) kept used t in
@@ -113,13 +111,13 @@ module _ (tag : Kind → Bytes) (bundle ws : List ℕ) (limit i : ℕ) (p : Part
       }
 
   -- as the code has the place in a local
-  pub read-one : (index : ℕ) → index ≡ index-at limit → (r : TextAnswer) → TextRead tag (take end bundle) ws index limit (p .start) r → ReadOne tag bundle ws limit i r
+  pub read-one : (index : ℕ) → index ≡ index-at limit → (r : TextAnswer) → TextRead tag (take end bundle) ws index limit (p .start) r → ReadOne tag bundle body ws limit i r
   read-one index e r t = one-as r (rw e at t)
 
 -- and behind the joined table
-pub read-behind : (tag : Kind → Bytes) (bundle ws ys : List ℕ) (limit i base : ℕ) (r : TextAnswer) → ScratchRoom ws limit → base ≡ base-at limit → ReadOne tag bundle ys limit i r
-    → ReadBehind tag bundle ws (lent ws ys base) limit i r
-read-behind tag bundle ws ys limit i base r space e o =
+pub read-behind : (tag : Kind → Bytes) (bundle : Bytes) (body : ℕ) (ws ys : List ℕ) (limit i base : ℕ) (r : TextAnswer) → ScratchRoom ws limit → base ≡ base-at limit → ReadOne tag bundle body ys limit i r
+    → ReadBehind tag bundle body ws (lent ws ys base) limit i r
+read-behind tag bundle body ws ys limit i base r space e o =
     let inside = base-inside ws limit space base e in
     let here = lent-behind ws ys base inside in
     let there = lent-before ws ys base inside in

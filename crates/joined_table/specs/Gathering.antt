@@ -10,7 +10,10 @@ use Rattle.model.specs.Bytes.{Bytes}
 use Rattle.model.specs.Answer.{Answer, accepted, refused, unplaced}
 use Rattle.model.specs.Report.{Report}
 use Rattle.model.specs.Reading.{readText}
-use Rattle.model.specs.Bundle.{textAt}
+use Rattle.model.specs.Bundle.{textCount, Text}
+use Rattle.text_choice.specs.Choice.{chooseTexts}
+use Rattle.bundle.specs.Marks.{isMarked}
+use Rattle.bundle.specs.Places.{textFrom}
 use Rattle.table_section.specs.Sections.{entriesAt}
 use Rattle.section.specs.Table.{Table}
 use Rattle.section.specs.Reading.{capacity}
@@ -42,17 +45,21 @@ abbrev pub HeldOne : Bytes → List ℕ → ℕ → TextAnswer → Type 0
 HeldOne text ws limit (T.Read kept used) = Table text ws (index-at limit) used kept × (used ≤ capacity limit) × (kept ≤ limit)
 HeldOne text ws limit (T.Refused r) = Unit {0}
 
--- the answer is the model's for the i-th text
-pub record ReadOne (tag : Kind → Bytes) (bundle ws : List ℕ) (limit i : ℕ) (r : TextAnswer) : Type 0 where
-  pub is : seenText bundle ws (index-at limit) r ≡ readText tag limit (textAt bundle i .bytes)
+-- the answer is the model's for the i-th text of a bundle whose text bytes begin at `body`
+pub record ReadOne (tag : Kind → Bytes) (bundle : Bytes) (body : ℕ) (ws : List ℕ) (limit i : ℕ) (r : TextAnswer) : Type 0 where
+  pub is : seenText bundle ws (index-at limit) r ≡ readText tag limit (textFrom body bundle i .bytes)
   pub held : HeldOne bundle ws limit r
 
 -- the same in the words behind the joined table, which stays
-pub record ReadBehind (tag : Kind → Bytes) (bundle ws ws′ : List ℕ) (limit i : ℕ) (r : TextAnswer) : Type 0 where
-  pub read : ReadOne tag bundle (drop (base-at limit) ws′) limit i r
+pub record ReadBehind (tag : Kind → Bytes) (bundle : Bytes) (body : ℕ) (ws ws′ : List ℕ) (limit i : ℕ) (r : TextAnswer) : Type 0 where
+  pub read : ReadOne tag bundle body (drop (base-at limit) ws′) limit i r
   pub stays : take (base-at limit) ws′ ≡ take (base-at limit) ws
 
 -- ---- texts gathered
+
+-- the marked texts of a bundle whose text bytes begin at `body`, in order
+abbrev pub markedTexts : ℕ → List ℕ → Bytes → List Text
+markedTexts body marks bundle = chooseTexts (isMarked marks) (textFrom body bundle) 0 (textCount bundle)
 
 abbrev pub seenGathered : Bytes → List ℕ → ℕ → Gathered → Answer Report
 seenGathered text ws limit (G.Entries n) = accepted (joinedAt text ws limit n)

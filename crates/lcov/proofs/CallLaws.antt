@@ -44,7 +44,9 @@ use Rattle.model_totals.specs.Totals.{page, totals}
 use Rattle.scratch_layout.specs.Layout.{index-at, spare-at}
 use Rattle.joined_table.specs.declared.Gathered.{Gathered}
 use Rattle.joined_table.specs.declared.Gathered.the-variants as G
-use Rattle.joined_table.specs.Gathering.{BundleGathered}
+use Rattle.joined_table.specs.Gathering.{seenBundle, HeldBundle, BundleGathered}
+use Rattle.text_choice.specs.Revisions.{gatherHighest, gatherRevisions}
+use Rattle.lcov.specs.Printed.{printedBy}
 use Rattle.lcov.specs.Demand.{refusedTags}
 use Rattle.joined_table.proofs.OneLaws.{read-table}
 
@@ -76,49 +78,59 @@ module _ (text ws : List ℕ) (words index spare limit used n : ℕ) (is : limit
 
 -- ---- a bundle gathered
 
--- the answer of a call that gathers a bundle and prints what it makes of the report
-abbrev gatherThen : (tag : Kind → Bytes) → (Report → Bytes) → Mode → Bytes → ℕ → Bytes → Answer Bytes
-gatherThen tag print mode bundle words out = gatherBundle tag mode bundle words >>= λ report. written (length out) (print report)
+-- the words hold what was gathered, and there are as many as before
+module _ (made : Answer Report) (bundle : Bytes) (words : ℕ) (ws : List ℕ) (got : Gathered) (g : BundleGathered made bundle ws (entryLimit words) got)
+    (long : length ws ≡ words) where
+  pub gathered-held : HeldBundle bundle ws (entryLimit (length ws)) got
+  gathered-held = rw long (g .held)
+
+  pub gathered-called : (print : Report → Bytes) (out out′ : Bytes) (r : WriteAnswer) (answer : Answer Bytes) → answer ≡ printedBy print made (length out)
+      → WriteCall (printedBy print (seenBundle bundle ws (entryLimit (length ws)) got) (length out)) out out′ r → WriteCall answer out out′ r
+  gathered-called print out out′ r answer means c =
+      let seen : seenBundle bundle ws (entryLimit (length ws)) got ≡ made = rw long (g .is) in
+      rw means (rw seen at c)
 
 pub gather-means : (tag : Kind → Bytes) (mode : Mode) (bundle : Bytes) (words : ℕ) (out : Bytes)
-    → gather tag mode bundle words (length out) ≡ gatherThen tag (printReport tag) mode bundle words out
+    → gather tag mode bundle words (length out) ≡ printedBy (printReport tag) (gatherBundle tag mode bundle words) (length out)
 unfolding gather
 gather-means tag mode bundle words out = refl
 
-pub totals-means : (tag : Kind → Bytes) (bundle : Bytes) (words : ℕ) (out : Bytes) → totals tag bundle words (length out) ≡ gatherThen tag page Checked bundle words out
+pub totals-means : (tag : Kind → Bytes) (bundle : Bytes) (words : ℕ) (out : Bytes) → totals tag bundle words (length out) ≡ printedBy page (gatherBundle tag Checked bundle words) (length out)
 unfolding totals
 totals-means tag bundle words out = refl
 
-module _ (tag : Kind → Bytes) (bundle : Bytes) (mode : Mode) (words : ℕ) (ws : List ℕ) (got : Gathered)
-    (g : BundleGathered (gatherBundle tag mode bundle words) bundle ws (entryLimit words) got) where
-  module _ (n : ℕ) (e : got ≡ G.Entries n) (limit : ℕ) (is : limit ≡ entryLimit words) (index : ℕ) (at-index : index ≡ index-at limit) where
-    pub gathered-table : Table bundle ws index n n × (n ≤ max-entries)
-    gathered-table =
-        let held : Table bundle ws (index-at (entryLimit words)) n n × (n ≤ entryLimit words) = rw e at (g .held) in
-        (rw (at-index, is) (held .0), omega (arith, held .1))
+pub revisions-means : (tag : Kind → Bytes) (bundle : Bytes) (words : ℕ) (out : Bytes)
+    → gatherRevisions tag bundle words (length out) ≡ printedBy (printReport tag) (gatherHighest tag bundle words) (length out)
+unfolding gatherRevisions
+revisions-means tag bundle words out = refl
 
-    pub gathered-ready : length ws ≡ words → (spare : ℕ) → spare ≡ spare-at limit → Ready bundle ws index spare n n
-    gathered-ready long spare at-spare =
-        let held : Table bundle ws (index-at (entryLimit words)) n n × (n ≤ entryLimit words) = rw e at (g .held) in
-        ready bundle ws words index spare limit n n is long at-index at-spare (gathered-table .0) (omega (arith, held .1)) (omega (arith, held .1))
+-- what the words hold is printed
+module _ (print : Report → Bytes) (bundle : Bytes) (ws : List ℕ) (got : Gathered) (held : HeldBundle bundle ws (entryLimit (length ws)) got) (out : Bytes) where
+  abbrev printing : Answer Bytes
+  printing = printedBy print (seenBundle bundle ws (entryLimit (length ws)) got) (length out)
 
-  module _ (print : Report → Bytes) (out : Bytes) (answer : Answer Bytes) (means : answer ≡ gatherThen tag print mode bundle words out) where
-    pub gathered-refused : (r : Refusal) → got ≡ G.Refused r → Told answer out out (W.Refused r)
-    gathered-refused r e =
-        let none : refused r ≡ gatherBundle tag mode bundle words = rw e at (g .is) in
-        told-refused answer r out (sym (means ∙ rw (← none)))
+  pub joined-refused : (r : Refusal) → got ≡ G.Refused r → Told printing out out (W.Refused r)
+  joined-refused r e = told-refused printing r out (rw e)
 
-    pub gathered-printed : (n : ℕ) → got ≡ G.Entries n → (limit : ℕ) → limit ≡ entryLimit words → (index : ℕ) → index ≡ index-at limit
-        → (out′ : Bytes) (r : WriteAnswer) → Told (written (length out) (print (entriesAt bundle ws index n))) out out′ r → Told answer out out′ r
-    gathered-printed n e limit is index at-index out′ r t =
-        let all : accepted (entriesAt bundle ws (index-at (entryLimit words)) n) ≡ gatherBundle tag mode bundle words = rw e at (g .is) in
-        told-as (written (length out) (print (entriesAt bundle ws index n))) answer out out′ r (sym (means ∙ rw (← all, at-index, is))) t
+  module _ (n : ℕ) (e : got ≡ G.Entries n) (limit : ℕ) (is : limit ≡ entryLimit (length ws)) (index : ℕ) (at-index : index ≡ index-at limit) where
+    held-table : Table bundle ws (index-at (entryLimit (length ws))) n n × (n ≤ entryLimit (length ws))
+    held-table = rw e at held
+
+    pub joined-table : Table bundle ws index n n × (n ≤ max-entries)
+    joined-table = (rw (at-index, is) (held-table .0), omega (arith, held-table .1))
+
+    pub joined-ready : (spare : ℕ) → spare ≡ spare-at limit → Ready bundle ws index spare n n
+    joined-ready spare at-spare =
+        ready bundle ws (length ws) index spare limit n n is refl at-index at-spare (joined-table .0) (omega (arith, held-table .1)) (omega (arith, held-table .1))
+
+    pub joined-printed : (out′ : Bytes) (r : WriteAnswer) → Told (written (length out) (print (entriesAt bundle ws index n))) out out′ r → Told printing out out′ r
+    joined-printed out′ r t = told-as (written (length out) (print (entriesAt bundle ws index n))) printing out out′ r (rw (e, at-index, is)) t
 
 -- ---- one text
 
 -- the answer of a call that reads a text and prints what it makes of the report
 abbrev readThen : (tag : Kind → Bytes) → (Report → Bytes) → Bytes → ℕ → Bytes → Answer Bytes
-readThen tag print text words out = readText tag (entryLimit words) text >>= λ report. written (length out) (print report)
+readThen tag print text words out = printedBy print (readText tag (entryLimit words) text) (length out)
 
 pub read-means : (tag : Kind → Bytes) (text : Bytes) (words : ℕ) (out : Bytes) → readAndPrint tag text words (length out) ≡ readThen tag (printReport tag) text words out
 unfolding readAndPrint

@@ -1,9 +1,10 @@
 // The calls that read texts (SPEC 1.6): a bundle gathered, checked or lossy, one text read, and one filtered, with two rules for where a
-// function ends, each printed to the output; the page of totals of a bundle; beside them the calls for one line, for range lists, and for
+// function ends, each printed to the output; the page of totals of a bundle, and the gather of a bundle with revisions; beside them the calls for one line, for range lists, and for
 // paths and bytes. This is the public surface.
 // The scratch is lent; "After a call the scratch is free to hold anything, and no call reads what it held."
 mod lines;
 mod page;
+mod revisions;
 
 pub use compare::Order;
 pub use compare::compare_bytes;
@@ -33,6 +34,8 @@ pub use page::totals;
 pub use page::totals_tagged;
 pub use record_parse::read_number;
 use report_parser::TextAnswer;
+pub use revisions::gather_revisions;
+pub use revisions::gather_revisions_tagged;
 use tag_table::Loading;
 ghost use mathlib.Core.Path.{_≡_};
 ghost use mathlib.Core.Bool.{true};
@@ -45,9 +48,13 @@ ghost use Rattle.model.specs.Bytes.{Bytes};
 ghost use Rattle.model.specs.Tags.{defaultTag};
 ghost use Rattle.model.specs.TagTable.{loadTags, tagged, tagsOf, areTags};
 ghost use Rattle.model.specs.Calls.{WriteCall};
+ghost use Rattle.model.specs.Gather.{entryLimit};
 ghost use Rattle.model.specs.Gather.{gather as gatherOf};
 ghost use Rattle.model.specs.Filter.{filterText};
+ghost use Rattle.model.specs.Printing.{printReport};
 ghost use Rattle.line_num_pairs.specs.Pairs.{rangesIn};
+ghost use Rattle.joined_table.specs.Gathering.{seenBundle, HeldBundle};
+ghost use Rattle.lcov.specs.Printed.{printedBy};
 ghost use Rattle.lcov.specs.Demand.{GatherCall, ReadCall, GatherTagged, ReadTagged, AcceptsAndWrites, refusedTags};
 
 // The fixed numbers of model/specs/Limits.antt that code outside needs too: `words-per-entry`, and the scratch and the output of the program
@@ -57,6 +64,29 @@ pub const WORDS_PER_ENTRY: usize = scratch_layout::WORDS_PER_ENTRY;
 pub const PROGRAM_WORDS: usize = 8192;
 
 pub const PROGRAM_OUTPUT: usize = 65_536;
+
+// What was gathered of a bundle printed: the joined report, or why there is none.
+fn print_joined(
+    tags: &[u8],
+    bundle: &[u8],
+    scratch: &mut [u64],
+    got: Gathered,
+    out: &mut [u8],
+) -> WriteAnswer
+    requires { ⌜ areTags (now tags) ≡ true ⌝ }
+    requires { ⌜ HeldBundle (now bundle) (now scratch) (entryLimit (length (now scratch))) got ⌝ }
+    ensures { λ r. ⌜ WriteCall (printedBy (printReport (tagsOf (now (tags .entry)))) (seenBundle (now (bundle .entry)) (now (scratch .entry)) (entryLimit (length (now (scratch .entry)))) got) (length (now (out .entry)))) (now (out .entry)) (now (out .exit)) r ⌝ }
+{
+    match got {
+        Gathered::Refused(refusal) => WriteAnswer::Refused(refusal),
+        Gathered::Entries(n) => {
+            let limit = scratch_layout::entry_limit(scratch.len());
+            let index = scratch_layout::index_at(limit);
+            let spare = scratch_layout::spare_at(limit);
+            print_report::print_report(tags, bundle, scratch, index, n, n, spare, out)
+        }
+    }
+}
 
 // The texts of a bundle gathered in one of the two modes, the joined report printed.
 fn gather(
@@ -69,15 +99,8 @@ fn gather(
     requires { ⌜ areTags (now tags) ≡ true ⌝ }
     ensures { λ r. ⌜ WriteCall (gatherOf (tagsOf (now (tags .entry))) mode (now (bundle .entry)) (length (now (scratch .entry))) (length (now (out .entry)))) (now (out .entry)) (now (out .exit)) r ⌝ }
 {
-    let limit = scratch_layout::entry_limit(scratch.len());
-    match joined_table::gather_bundle(tags, bundle, scratch, mode) {
-        Gathered::Refused(refusal) => WriteAnswer::Refused(refusal),
-        Gathered::Entries(n) => {
-            let index = scratch_layout::index_at(limit);
-            let spare = scratch_layout::spare_at(limit);
-            print_report::print_report(tags, bundle, scratch, index, n, n, spare, out)
-        }
-    }
+    let got = joined_table::gather_bundle(tags, bundle, scratch, mode);
+    print_joined(tags, bundle, scratch, got, out)
 }
 
 // One text read, its report printed.

@@ -12,6 +12,7 @@ ghost use Rattle.model.specs.Number.{readField};
 ghost use Rattle.model.specs.Gather.{readAndPrint, gather};
 ghost use Rattle.model.specs.Filter.{filterText};
 ghost use Rattle.model_totals.specs.Totals.{totals};
+ghost use Rattle.text_choice.specs.Revisions.{gatherRevisions};
 ghost use Rattle.model.specs.Path.{components, comparePaths};
 ghost use Rattle.lcov_c_words.specs.Words.{withPrefix};
 ghost use Rattle.model.specs.Ranges.{halfOpen, insertCall, queryCall};
@@ -160,6 +161,35 @@ pub extern "C" fn lcov_gather_lossy_tagged(
     ensures { λ r. ⌜ AnswerStored (tagged (now (tags .entry)) (λ tag. gather tag Lossy (now (bundle .entry)) (length (now (scratch .entry))) (length (now (out .entry))))) (now (answer .entry)) (now (answer .exit)) (now (out .entry)) (now (out .exit)) r ⌝ }
 {
     let got = lcov::gather_lossy_tagged(tags, bundle, scratch, out);
+    lcov_c_words::store_answer(got, answer)
+}
+
+// Gathers a bundle with revisions, checked: of each run the text with the highest revision.
+#[no_mangle]
+pub extern "C" fn lcov_gather_revisions(
+    bundle: &[u8],
+    scratch: &mut [u64],
+    out: &mut [u8],
+    answer: &mut [u64],
+) -> u32
+    ensures { λ r. ⌜ AnswerStored (gatherRevisions defaultTag (now (bundle .entry)) (length (now (scratch .entry))) (length (now (out .entry)))) (now (answer .entry)) (now (answer .exit)) (now (out .entry)) (now (out .exit)) r ⌝ }
+{
+    let got = lcov::gather_revisions(bundle, scratch, out);
+    lcov_c_words::store_answer(got, answer)
+}
+
+// The same under the tags of a lent table.
+#[no_mangle]
+pub extern "C" fn lcov_gather_revisions_tagged(
+    tags: &[u8],
+    bundle: &[u8],
+    scratch: &mut [u64],
+    out: &mut [u8],
+    answer: &mut [u64],
+) -> u32
+    ensures { λ r. ⌜ AnswerStored (tagged (now (tags .entry)) (λ tag. gatherRevisions tag (now (bundle .entry)) (length (now (scratch .entry))) (length (now (out .entry))))) (now (answer .entry)) (now (answer .exit)) (now (out .entry)) (now (out .exit)) r ⌝ }
+{
+    let got = lcov::gather_revisions_tagged(tags, bundle, scratch, out);
     lcov_c_words::store_answer(got, answer)
 }
 

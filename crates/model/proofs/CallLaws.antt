@@ -5,8 +5,8 @@ use mathlib.Core.Bool.{Bool, cond}
 use mathlib.Core.List.{List}
 use lib.Dec.{eqb}
 use lib.ListN.{length, getD}
-use Rattle.ordmap.specs.Result.{Result, mapAccepted}
-use Rattle.ordmap.proofs.Results.{accepted-inj, not-accepted, not-refused}
+use Rattle.ordmap.specs.Result.{mapAccepted}
+use Rattle.ordmap.proofs.Results.{accepted-inj, refused-inj, not-accepted, not-refused}
 use Rattle.model.specs.declared.Fault.{Fault}
 use Rattle.model.specs.declared.Fault.the-variants.{
   UnknownRecord,
@@ -28,6 +28,7 @@ use Rattle.model.specs.declared.Fault.the-variants.{
   PartOutside,
   MalformedRanges,
   SignedNumber,
+  RepeatedRevision,
   MalformedTags,
   EqualTags,
   EndBeforeStart,
@@ -78,8 +79,9 @@ faultOf n =
     (cond (eqb n 5) InvalidDigit (cond (eqb n 6) NumberOverflow (cond (eqb n 7) UnexpectedRecord (cond (eqb n 8) UnexpectedEof
     (cond (eqb n 9) CallOverflow (cond (eqb n 10) TooManyEntries (cond (eqb n 11) UnmatchedFunctionLine (cond (eqb n 12) UnmatchedChecksum
     (cond (eqb n 13) CountOverflow (cond (eqb n 14) OutputTooShort (cond (eqb n 15) RangesFull (cond (eqb n 16) MalformedBundle
-    (cond (eqb n 17) PartOutside (cond (eqb n 18) MalformedRanges (cond (eqb n 19) SignedNumber (cond (eqb n 21) MalformedTags (cond (eqb n 22) EqualTags (cond (eqb n 23) EndBeforeStart
-    SecondSourceFile)))))))))))))))))))))
+    (cond (eqb n 17) PartOutside (cond (eqb n 18) MalformedRanges (cond (eqb n 19) SignedNumber (cond (eqb n 20) RepeatedRevision
+    (cond (eqb n 21) MalformedTags (cond (eqb n 22) EqualTags (cond (eqb n 23) EndBeforeStart
+    SecondSourceFile))))))))))))))))))))))
 
 fault-of : (fault : Fault) → faultOf (numberOf fault) ≡ fault
 fault-of UnknownRecord = refl
@@ -101,6 +103,7 @@ fault-of MalformedBundle = refl
 fault-of PartOutside = refl
 fault-of MalformedRanges = refl
 fault-of SignedNumber = refl
+fault-of RepeatedRevision = refl
 fault-of MalformedTags = refl
 fault-of EqualTags = refl
 fault-of EndBeforeStart = refl
@@ -119,9 +122,6 @@ refusal-of r = rw (fault-of (r .fault))
 
 refusal-inj : {r s : Refusal} → refusalValues r ≡ refusalValues s → r ≡ s
 refusal-inj {r} {s} e = sym (refusal-of r) ∙ ap refusalOf e ∙ refusal-of s
-
-refused-inj : {A : Type 0} {a b : List ℕ} → _≡_ {A = Result (List ℕ) A} (refused a) (refused b) → a ≡ b
-refused-inj p = cc
 
 -- ---- the answer of a call is that of its values
 

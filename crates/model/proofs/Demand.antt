@@ -13,7 +13,7 @@ use borrow.Author.Tests.{le-leb, leb-true}
 use Rattle.ordmap.specs.Result.{bind, value, IsAccepted}
 use Rattle.ordmap.specs.Keyed.{addAll}
 use Rattle.ordmap.specs.Gathering.{flat, gatherAll, times, readAll as readEach}
-use Rattle.ordmap.proofs.Results.{accepted-inj, not-accepted, isAccepted, accepted-is, bind-next, bind-accepted, value-both, value-bind}
+use Rattle.ordmap.proofs.Results.{impossible, accepted-inj, not-accepted, isAccepted, accepted-is, bind-next, bind-accepted, value-both, value-bind, value-bind-next}
 use Rattle.ordmap.proofs.Members.{flat-member}
 use Rattle.ordmap.proofs.Perms.{perm-of-times}
 use Rattle.ordmap.proofs.Gathered.{gather-accepted, readAll-cons, readAll-perm, within-accepted, mapRefused-accepted}
@@ -25,7 +25,7 @@ use Rattle.model.specs.declared.Refusal.{Refusal}
 use Rattle.model.specs.Order.{if_then_else_}
 use Rattle.model.specs.Bytes.{Bytes, sameBytes}
 use Rattle.model.specs.Limits.{u32-max}
-use Rattle.model.specs.Answer.{Answer, accepted, _>>=_, unplaced, refuse, refuseLength, inText}
+use Rattle.model.specs.Answer.{Answer, accepted, refused, _>>=_, unplaced, refuse, refuseLength, inText}
 use Rattle.model.specs.Tags.{defaultTag, Lawful}
 use Rattle.model.specs.Report.{
   Item,
@@ -72,7 +72,7 @@ counted (lineItem line count checksum) f = f .1
 
 -- ---- written bytes
 
-written-accepted : (room : ℕ) (bytes : Bytes) {out : Bytes} → written room bytes ≡ accepted out → (out ≡ bytes) × (length bytes ≤ room)
+pub written-accepted : (room : ℕ) (bytes : Bytes) {out : Bytes} → written room bytes ≡ accepted out → (out ≡ bytes) × (length bytes ≤ room)
 unfolding written
 written-accepted room bytes {out} p = go (leb (length bytes) room) refl p
   where
@@ -81,7 +81,7 @@ written-accepted room bytes {out} p = go (leb (length bytes) room) refl p
     go true e q = (sym (accepted-inj q), leb-true (length bytes) room e)
     go false e q = absurd (not-accepted q)
 
-written-fits : (room : ℕ) (bytes : Bytes) → length bytes ≤ room → written room bytes ≡ accepted bytes
+pub written-fits : (room : ℕ) (bytes : Bytes) → length bytes ≤ room → written room bytes ≡ accepted bytes
 unfolding written
 written-fits room bytes h = rw (le-leb (length bytes) room h)
 
@@ -116,6 +116,31 @@ module _ (tag : Kind → Bytes) (mode : Mode) where
           → (wellFormed bundle ≡ true) × (gatherTexts tag mode (entryLimit words) (texts bundle) [] ≡ accepted n)
       go true w q = (w, q)
       go false w q = absurd (not-accepted q)
+
+  -- ALIKE: texts that hold the same, whatever their indexes, which only refusals have
+  pub texts-alike : (limit : ℕ) (ts us : List Text) (into : Report) → contents ts ≡ contents us
+      → value (gatherTexts tag mode limit ts into) ≡ value (gatherTexts tag mode limit us into)
+  unfolding gatherTexts
+  texts-alike limit [] [] into e = refl
+  texts-alike limit [] (u ∷ us) into e = impossible cc
+  texts-alike limit (t ∷ ts) [] into e = impossible cc
+  texts-alike limit (t ∷ ts) (u ∷ us) into e =
+      value-bind (gathered t) (gathered u) (gatherTexts tag mode limit ts)
+      (renumbered (gatherText tag mode limit (t .bytes) into) ∙ ap (λ (b : Bytes). value (inText (u .index) (gatherText tag mode limit b into))) (head e))
+      ∙ value-bind-next (gathered u) (gatherTexts tag mode limit ts) (gatherTexts tag mode limit us) (λ next p. texts-alike limit ts us next (tail e))
+    where
+      gathered : Text → Answer Report
+      gathered t = inText (t .index) (gatherText tag mode limit (t .bytes) into)
+
+      renumbered : (r : Answer Report) → value (inText (t .index) r) ≡ value (inText (u .index) r)
+      renumbered (accepted a) = refl
+      renumbered (refused c) = refl
+
+      head : {b c : Bytes} {bs cs : List Bytes} → _≡_ {A = List Bytes} (b ∷ bs) (c ∷ cs) → b ≡ c
+      head e = cc
+
+      tail : {b c : Bytes} {bs cs : List Bytes} → _≡_ {A = List Bytes} (b ∷ bs) (c ∷ cs) → bs ≡ cs
+      tail e = cc
 
   -- a well-formed bundle: its texts are gathered, and the report is written
   pub gather-texts : (bundle : Bytes) (words room : ℕ) → wellFormed bundle ≡ true

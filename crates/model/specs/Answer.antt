@@ -25,6 +25,7 @@ use Rattle.model.specs.declared.Fault.the-variants.{
   PartOutside,
   MalformedRanges,
   SignedNumber,
+  RepeatedRevision,
   MalformedTags,
   EqualTags,
   EndBeforeStart,
@@ -72,6 +73,8 @@ numberOf PartOutside = 17
 numberOf MalformedRanges = 18
 -- number with a plus sign
 numberOf SignedNumber = 19
+-- run with the same revision twice
+numberOf RepeatedRevision = 20
 -- table of tags not well formed; two equal tags in it
 numberOf MalformedTags = 21
 numberOf EqualTags = 22

@@ -54,6 +54,10 @@ module _ (tag : Kind → Bytes) where
   unfoldable pub gather : Mode → Bytes → ℕ → ℕ → Answer Bytes
   gather mode bundle words room = gatherBundle mode bundle words >>= λ report. written room (printReport tag report)
 
+  -- the same of any number of texts
+  abbrev pub gatherMany : Mode → List Text → ℕ → ℕ → Answer Bytes
+  gatherMany mode texts words room = gatherTexts mode (entryLimit words) texts [] >>= λ joined. written room (printReport tag joined)
+
 -- ---- programs
 
 -- what a program prints for an answer

@@ -23,6 +23,7 @@ pub enum Fault {
     PartOutside,
     MalformedRanges,
     SignedNumber,
+    RepeatedRevision,
     MalformedTags,
     EqualTags,
     EndBeforeStart,

@@ -19,7 +19,6 @@ use Rattle.ordmap.proofs.Results.{
   bind-accepted,
   bind-refused,
   value-bind,
-  value-bind-next,
   bind-assoc,
 }
 use Rattle.model.specs.declared.Fault.the-variants.{OutputTooShort}
@@ -35,13 +34,12 @@ use Rattle.model.specs.Report.{Report}
 use Rattle.model.specs.Output.{written}
 use Rattle.model.specs.Printing.{printReport}
 use Rattle.model.specs.Bundle.{Text, contents, wellFormed, texts}
-use Rattle.model.specs.Gather.{entryLimit, gatherText, gatherTexts, gather}
+use Rattle.model.specs.Gather.{entryLimit, gatherText, gatherTexts, gatherMany, gather}
 use Rattle.model.proofs.TagLaws.{defaultTag-lawful}
 use Rattle.model.proofs.Read.{empty-valid}
 use Rattle.model.proofs.ReadBack.{readText-print}
-use Rattle.model.proofs.Demand.{gather-texts, gather-wrote, gathered-valid}
+use Rattle.model.proofs.Demand.{texts-alike, gather-texts, gather-wrote, gathered-valid}
 use Rattle.model.proofs.OneText.{read-alone}
-use Rattle.model_incremental.specs.Regather.{gatherMany}
 use Rattle.model_incremental.specs.Folded.{Round, first-round, next-round, Folded}
 
 -- texts by what they hold
@@ -73,35 +71,13 @@ module _ (tag : Kind → Bytes) (mode : Mode) (limit : ℕ) where
   gathers-append (t ∷ ts) us into =
       bind-next (joins t into) _ _ (gathers-append ts us) ∙ sym (bind-assoc (joins t into) (gathers ts) (gathers us))
 
-  -- NUMBERS: only refusals have them
-  gathers-alike : (ts us : List Text) (into : Report) → contents ts ≡ contents us → value (gathers ts into) ≡ value (gathers us into)
-  unfolding gatherTexts
-  gathers-alike [] [] into e = refl
-  gathers-alike [] (u ∷ us) into e = impossible cc
-  gathers-alike (t ∷ ts) [] into e = impossible cc
-  gathers-alike (t ∷ ts) (u ∷ us) into e =
-      value-bind (joins t into) (joins u into) (gathers ts)
-      (renumbered (gatherText tag mode limit (t .bytes) into)
-      ∙ ap (λ (b : Bytes). value (joins (record { index = u .index; bytes = b }) into)) (head e))
-      ∙ value-bind-next (joins u into) (gathers ts) (gathers us) (λ next p. gathers-alike ts us next (tail e))
-    where
-      renumbered : (r : Answer Report) → value (inText (t .index) r) ≡ value (inText (u .index) r)
-      renumbered (accepted a) = refl
-      renumbered (refused c) = refl
-
-      head : {b c : Bytes} {bs cs : List Bytes} → _≡_ {A = List Bytes} (b ∷ bs) (c ∷ cs) → b ≡ c
-      head e = cc
-
-      tail : {b c : Bytes} {bs cs : List Bytes} → _≡_ {A = List Bytes} (b ∷ bs) (c ∷ cs) → bs ≡ cs
-      tail e = cc
-
   -- PARTS: a first part of what is accepted
   part-accepted : (first all : List Text) (rest : List Bytes) → contents all ≡ contents first ++ rest → IsAccepted (gathers all [])
       → IsAccepted (gathers first [])
   part-accepted first all rest e i =
       let (n, p) = accepted-is (gathers all []) i in
       let same : value (gathers all []) ≡ value (gathers (first ++ unnumbered rest) []) =
-      gathers-alike all (first ++ unnumbered rest) []
+      texts-alike tag mode limit all (first ++ unnumbered rest) []
       (e ∙ ap (λ (l : List Bytes). contents first ++ l) (sym (unnumbered-hold rest)) ∙ sym (map-append (λ t. t .bytes) first (unnumbered rest))) in
       let q : bind (gathers first []) (gathers (unnumbered rest)) ≡ accepted n =
       sym (gathers-append first (unnumbered rest) []) ∙ value-accepted (gathers (first ++ unnumbered rest) []) (sym same ∙ ap value p) in
@@ -133,7 +109,7 @@ module _ (tag : Kind → Bytes) (mode : Mode) (limit : ℕ) where
         let made : gathers (unnumbered before ++ added) [] ≡ accepted report =
         sym s ∙ ap (λ (n : ℕ). gatherTexts tag mode n (texts earlier) []) (sym l) ∙ p in
         let same : value (gathers first []) ≡ value (gathers (unnumbered before ++ added) []) =
-        gathers-alike first (unnumbered before ++ added) [] (e ∙ sym (holds-append before added)) in
+        texts-alike tag mode limit first (unnumbered before ++ added) [] (e ∙ sym (holds-append before added)) in
         ap (λ (ts : List Text). gathers ts []) t
         ∙ ap (λ (b : Bytes). gathers (record { index = 0; bytes = b } ∷ new) []) o
         ∙ folds 0 first new report (value-accepted (gathers first []) (same ∙ ap value made))
@@ -183,7 +159,7 @@ module _ (tag : Kind → Bytes) (L : Lawful tag) (mode : Mode) where
       ap value (round-again bundle before new (unnumbered before) words room w s (unnumbered-hold before))
       ∙ value-bind (gatherTexts tag mode (entryLimit words) (unnumbered before ++ new) []) (gatherTexts tag mode (entryLimit words) all [])
       (λ report. written room (printReport tag report))
-      (gathers-alike tag mode (entryLimit words) (unnumbered before ++ new) all [] (holds-append before new ∙ sym e))
+      (texts-alike tag mode (entryLimit words) (unnumbered before ++ new) all [] (holds-append before new ∙ sym e))
 
   round-wrote : (bundle output : Bytes) (before : List Bytes) (new all : List Text) (words room room′ : ℕ)
       → Round tag mode (entryLimit words) bundle before new → contents all ≡ before ++ contents new
@@ -224,7 +200,7 @@ pub folded : (tag : Kind → Bytes) → Lawful tag → Folded tag
 folded tag L =
     record {
       fold-texts = λ mode words. folds tag mode (entryLimit words) L (omega arith);
-      numbers = λ mode limit some others. gathers-alike tag mode limit some others [];
+      numbers = λ mode limit some others. texts-alike tag mode limit some others [];
       each-part = part-accepted tag;
       each-round = round-again tag L;
       total = round-total tag L;

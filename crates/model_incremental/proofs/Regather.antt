@@ -22,7 +22,7 @@ use Rattle.model.specs.Reading.{readText}
 use Rattle.model.specs.Output.{written}
 use Rattle.model.specs.Printing.{printReport}
 use Rattle.model.specs.Bundle.{Text, contents, wellFormed, texts}
-use Rattle.model.specs.Gather.{entryLimit, gatherTexts, gather}
+use Rattle.model.specs.Gather.{entryLimit, gatherTexts, gatherMany, gather}
 use Rattle.model.specs.Groups.{textsOf, Written}
 use Rattle.model.specs.Joined.{joinedReport, readAll, startsAgree, checksumsAgree, sumsFit}
 use Rattle.model.proofs.TagLaws.{defaultTag-lawful}
@@ -30,7 +30,7 @@ use Rattle.model.proofs.Read.{empty-valid}
 use Rattle.model.proofs.ReadBack.{readText-print}
 use Rattle.model.proofs.Demand.{texts-exactly, gather-texts, gather-wrote, gathered-valid}
 use Rattle.model.proofs.OneText.{read-alone}
-use Rattle.model_incremental.specs.Regather.{gatherMany, Gathered, StandFor, no-file, text-file, output-file, Regather}
+use Rattle.model_incremental.specs.Regather.{Gathered, StandFor, no-file, text-file, output-file, Regather}
 use Rattle.model_incremental.proofs.Rejoined.{joined-again, starts-again, checksums-again, sums-again}
 use Rattle.model_incremental.proofs.Parts.{Joins, joins-split, readAll-split}
 use Rattle.model_incremental.proofs.Folded.{unnumbered, unnumbered-hold}

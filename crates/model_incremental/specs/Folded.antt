@@ -22,8 +22,7 @@ use Rattle.model.specs.Answer.{accepted, refused}
 use Rattle.model.specs.Report.{Report}
 use Rattle.model.specs.Printing.{printReport}
 use Rattle.model.specs.Bundle.{Text, contents, wellFormed, texts}
-use Rattle.model.specs.Gather.{entryLimit, gatherTexts, gather}
-use Rattle.model_incremental.specs.Regather.{gatherMany}
+use Rattle.model.specs.Gather.{entryLimit, gatherTexts, gatherMany, gather}
 
 module _ (tag : Kind → Bytes) where
   -- the bundle of a round, what the texts of the rounds before it hold, and the texts that it adds, as it numbers them

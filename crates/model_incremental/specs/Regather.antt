@@ -18,20 +18,15 @@ use Rattle.model.specs.declared.Kind.{Kind}
 use Rattle.model.specs.declared.Mode.{Mode}
 use Rattle.model.specs.declared.Mode.the-variants.{Checked}
 use Rattle.model.specs.Bytes.{Bytes}
-use Rattle.model.specs.Answer.{Answer, accepted, _>>=_}
+use Rattle.model.specs.Answer.{accepted}
 use Rattle.model.specs.Report.{Report}
-use Rattle.model.specs.Output.{written}
 use Rattle.model.specs.Printing.{printReport}
 use Rattle.model.specs.Bundle.{Text, contents, wellFormed, texts}
-use Rattle.model.specs.Gather.{entryLimit, gatherTexts, gather}
+use Rattle.model.specs.Gather.{entryLimit, gatherTexts, gatherMany, gather}
 use Rattle.model.specs.Groups.{textsOf, Written}
 use Rattle.model.specs.Joined.{joinedReport, startsAgree, checksumsAgree, sumsFit}
 
 module _ (tag : Kind → Bytes) where
-  -- the gather of any number of texts: of a well-formed bundle's texts, its gather
-  abbrev pub gatherMany : Mode → List Text → ℕ → ℕ → Answer Bytes
-  gatherMany mode texts words room = gatherTexts tag mode (entryLimit words) texts [] >>= λ report. written room (printReport tag report)
-
   -- each group of texts is accepted by itself, and its report, printed, is the output beside it
   abbrev pub Gathered : ℕ → List (List Text) → List Bytes → Type 0
   Gathered limit [] [] = Unit {0}
@@ -69,12 +64,12 @@ module _ (tag : Kind → Bytes) where
         → (group : List Text) → Member group groups → IsAccepted (gatherTexts tag Checked (entryLimit words) group [])
     -- a bundle's gather is that of its texts
     pub bundled : (mode : Mode) (bundle : Bytes) (words room : ℕ) → wellFormed bundle ≡ true
-        → gather tag mode bundle words room ≡ gatherMany mode (texts bundle) words room
+        → gather tag mode bundle words room ≡ gatherMany tag mode (texts bundle) words room
     -- bundles, each gathered by itself, and a bundle of what that wrote
     pub same : (parts outputs : List Bytes) (outer : Bytes) (all : List Text) (words room : ℕ) → Written tag (entryLimit words) parts outputs
         → wellFormed outer ≡ true → textsOf outer ≡ outputs → contents all ≡ flat (map textsOf parts)
-        → value (gather tag Checked outer words room) ≡ value (gatherMany Checked all words room)
+        → value (gather tag Checked outer words room) ≡ value (gatherMany tag Checked all words room)
     -- a bundle of files, whatever rounds of gathers they come from
     pub rounds : (outer : Bytes) (all : List Text) (words room : ℕ) → wellFormed outer ≡ true
         → StandFor (entryLimit words) (textsOf outer) (contents all)
-        → value (gather tag Checked outer words room) ≡ value (gatherMany Checked all words room)
+        → value (gather tag Checked outer words room) ≡ value (gatherMany tag Checked all words room)

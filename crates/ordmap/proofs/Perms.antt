@@ -97,3 +97,18 @@ module _ {T : Type 0} (same : T → T → Bool) (S : Same same) where
       go (p, q, e) ih =
           rw e
           (p-trans (p-cons refl (ih (p ++ q) (λ a. times-tail a x xs (p ++ q) (h a ∙ ap (times same a) e ∙ times-middle a x p q)))) (p-symm (p-middle x p q)))
+
+-- a permutation holds each element equally often
+pub perm-times : {T : Type 0} (same : T → T → Bool) (a : T) {l m : List T} → Perm l m → times same a l ≡ times same a m
+perm-times same a p-nil = refl
+perm-times same a (p-cons {a = x} {b = y} {l₂ = m} e d) =
+    ap (λ (n : ℕ). cond (same a x) (suc n) n) (perm-times same a d)
+    ∙ ap (λ z. cond (same a z) (suc (times same a m)) (times same a m)) e
+perm-times same a (p-swap {a = x} {b = y} {l = l} e f) = rw (← e, ← f) (go (same a x) (same a y) (times same a l))
+  where
+    go : (b c : Bool) (n : ℕ) → cond b (suc (cond c (suc n) n)) (cond c (suc n) n) ≡ cond c (suc (cond b (suc n) n)) (cond b (suc n) n)
+    go true true n = refl
+    go true false n = refl
+    go false true n = refl
+    go false false n = refl
+perm-times same a (p-trans c d) = perm-times same a c ∙ perm-times same a d

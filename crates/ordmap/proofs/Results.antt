@@ -14,6 +14,9 @@ module _ {R A : Type 0} where
   pub accepted-inj : {a b : A} → _≡_ {A = Result R A} (accepted a) (accepted b) → a ≡ b
   accepted-inj p = cc
 
+  pub refused-inj : {m n : R} → _≡_ {A = Result R A} (refused m) (refused n) → m ≡ n
+  refused-inj p = cc
+
   pub not-accepted : {a : A} {n : R} → _≡_ {A = Result R A} (refused n) (accepted a) → ⊥
   not-accepted p = impossible cc
 

@@ -27,6 +27,7 @@ pub fn number_of(fault: Fault) -> u32
         Fault::PartOutside => 17,
         Fault::MalformedRanges => 18,
         Fault::SignedNumber => 19,
+        Fault::RepeatedRevision => 20,
         Fault::MalformedTags => 21,
         Fault::EqualTags => 22,
         Fault::EndBeforeStart => 23,

@@ -50,6 +50,11 @@ impl Gatherer for Build {
         self.0.totals(bundle, lent.scratch, lent.out, lent.answer)
     }
 
+    fn gather_revisions(&self, bundle: &[u8], lent: Lent) -> u32 {
+        self.0
+            .gather_revisions(bundle, lent.scratch, lent.out, lent.answer)
+    }
+
     fn filter_text(&self, asked: Filter, lent: Lent) -> u32 {
         let Filter { starts, text, list } = asked;
         let filter = match starts {
@@ -101,6 +106,11 @@ impl Tagged for Build {
     fn totals_tagged(&self, tags: &[u8], bundle: &[u8], lent: Lent) -> u32 {
         self.0
             .totals_tagged(tags, bundle, lent.scratch, lent.out, lent.answer)
+    }
+
+    fn gather_revisions_tagged(&self, tags: &[u8], bundle: &[u8], lent: Lent) -> u32 {
+        self.0
+            .gather_revisions_tagged(tags, bundle, lent.scratch, lent.out, lent.answer)
     }
 
     fn filter_text_tagged(&self, tags: &[u8], asked: Filter, lent: Lent) -> u32 {

@@ -64,6 +64,9 @@ pub trait Gatherer {
     /// The page of totals of the checked gather.
     fn totals(&self, bundle: &[u8], lent: Lent) -> u32;
 
+    /// The checked gather of a bundle with revisions.
+    fn gather_revisions(&self, bundle: &[u8], lent: Lent) -> u32;
+
     fn filter_text(&self, asked: Filter, lent: Lent) -> u32;
 }
 
@@ -87,6 +90,8 @@ pub trait Tagged: Port + Gatherer {
     fn gather_lossy_tagged(&self, tags: &[u8], bundle: &[u8], lent: Lent) -> u32;
 
     fn totals_tagged(&self, tags: &[u8], bundle: &[u8], lent: Lent) -> u32;
+
+    fn gather_revisions_tagged(&self, tags: &[u8], bundle: &[u8], lent: Lent) -> u32;
 
     fn filter_text_tagged(&self, tags: &[u8], asked: Filter, lent: Lent) -> u32;
 }

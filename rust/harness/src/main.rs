@@ -2,14 +2,16 @@
 //! single number fields. Where an FN has an end line, the Rust is asked about the same without end lines, and these are put in here. The filter by
 //! distinct starts is compared with a reference that agrees with the Rust by all starts, and with the port's other filter. What takes
 //! a table of tags is compared with the port's own calls without one, on the same in default tags. A page of totals is compared with what the
-//! entries of the Rust's report add up to. Cutting before adding is compared with cutting after it, by the port's own calls.
+//! entries of the Rust's report add up to. A gather of a bundle with revisions is compared with the Rust's gather of the texts that are chosen here.
+//! Cutting before adding is compared with cutting after it, by the port's own calls.
 //!
-//!     harness [--seed N] [--minutes M | [--lines N] [--numbers N] [--ranges N] [--reports N] [--tables N] [--cuts N]]
+//!     harness [--seed N] [--minutes M | [--lines N] [--numbers N] [--ranges N] [--reports N] [--revisions N] [--tables N] [--cuts N]]
 //!
-//! Every run asks the systematic lines, number fields and bundles, all pairs of paths and the recorded cuts. Random questions follow: so many
-//! lines, number fields, lists of ranges, texts, filters and bundles, tables of tags, and bundles that are cut, or rounds of all of them until so
-//! many minutes have passed since the start. It prints how often each answer came, ten differences of each kind in full (of texts and bundles the
-//! smallest), how many calls there were, and a last line `N compared, M differences`; the exit status is 0 only if M is 0.
+//! Every run asks the systematic lines, number fields and bundles, all pairs of paths, the recorded revisions and the recorded cuts. Random
+//! questions follow: so many lines, number fields, lists of ranges, texts, filters and bundles, bundles with revisions, tables of tags, and bundles
+//! that are cut, or rounds of all of them until so many minutes have passed since the start. It prints how often each answer came, ten differences
+//! of each kind in full (of texts and bundles the smallest), how many calls there were, and a last line `N compared, M differences`; the exit status
+//! is 0 only if M is 0.
 
 use harness::differences::Differences;
 use harness::files::files_in;
@@ -24,7 +26,7 @@ use std::process::ExitCode;
 use std::time::{Duration, Instant};
 
 const USAGE: &str =
-    "usage: harness [--seed N] [--minutes M | [--lines N] [--numbers N] [--ranges N] [--reports N] [--tables N] [--cuts N]]";
+    "usage: harness [--seed N] [--minutes M | [--lines N] [--numbers N] [--ranges N] [--reports N] [--revisions N] [--tables N] [--cuts N]]";
 
 /// The number of random questions.
 #[derive(Clone, Copy)]
@@ -36,7 +38,10 @@ struct Round {
     /// Half of them texts, each filtered too, half bundles, each asked checked and lossy and for its page of totals. Texts with many equal starts
     /// are filtered besides.
     reports: u64,
-    /// Tables of tags, each with lines, a text, which is filtered too, one with many equal starts, filtered alone, and a bundle.
+    /// Bundles with revisions.
+    revisions: u64,
+    /// Tables of tags, each with lines, a text, which is filtered too, one with many equal starts, filtered alone, and a bundle of
+    /// each kind.
     tables: u64,
     /// Bundles that are cut before and after adding, by a list that inserts fill.
     cuts: u64,
@@ -48,6 +53,7 @@ const USUAL: Round = Round {
     numbers: 500_000,
     ranges: 20_000,
     reports: 200_000,
+    revisions: 60_000,
     tables: 40_000,
     cuts: 30_000,
 };
@@ -58,6 +64,7 @@ const AGAIN: Round = Round {
     numbers: 100_000,
     ranges: 4_000,
     reports: 40_000,
+    revisions: 12_000,
     tables: 8_000,
     cuts: 6_000,
 };
@@ -116,6 +123,7 @@ fn options(mut words: impl Iterator<Item = String>) -> Option<Options> {
             "--numbers" => options.round.numbers = number,
             "--ranges" => options.round.ranges = number,
             "--reports" => options.round.reports = number,
+            "--revisions" => options.round.revisions = number,
             "--tables" => options.round.tables = number,
             "--cuts" => options.round.cuts = number,
             _ => return None,
@@ -173,8 +181,22 @@ impl Run {
         }
         reports::systematic::replaced(self.seed, &mut |text| reports.text(text));
         reports::systematic::starts(&mut |text, list| reports.filter(text, list));
+        reports::revisions::systematic::bundles(&mut |bundle| reports.revisions(bundle));
+        self.recorded_revisions();
         self.recorded_with_tables();
         self.recorded_cuts();
+    }
+
+    fn recorded_revisions(&mut self) {
+        let files = files_in(reports::revisions::recorded::FOLDER);
+        let files = files.expect("the recorded revisions are there");
+        for recorded in reports::revisions::recorded::all() {
+            let [bundle, printed] = ["in", "out"].map(|end| {
+                let file = files.get(&format!("{}.{end}", recorded.name));
+                file.expect("all recorded revisions are there")
+            });
+            self.reports.recorded_revisions(bundle, printed);
+        }
     }
 
     fn recorded_cuts(&mut self) {
@@ -203,6 +225,12 @@ impl Run {
                 self.tagged.bundle(table, &recorded.bundle);
             }
         }
+        for recorded in reports::revisions::recorded::all() {
+            let random = tables::random(&mut self.rng);
+            for table in special.iter().chain([&random]) {
+                self.tagged.revisions(table, &recorded.bundle);
+            }
+        }
     }
 
     fn round(&mut self, round: Round) {
@@ -218,6 +246,9 @@ impl Run {
         }
         for _ in 0..round.reports / 2 {
             random_reports(&mut self.reports, &mut self.rng);
+        }
+        for _ in 0..round.revisions {
+            random_revisions(&mut self.reports, &mut self.rng);
         }
         for _ in 0..round.tables {
             random_table(&mut self.tagged, &mut self.rng);
@@ -327,10 +358,19 @@ fn random_reports(comparison: &mut reports::compare::Comparison<Build>, rng: &mu
     }
 }
 
+fn random_revisions(comparison: &mut reports::compare::Comparison<Build>, rng: &mut Rng) {
+    comparison.revisions(&reports::revisions::random::bundle(rng));
+    if rng.one_in(ORDERS_ONE_IN) {
+        for bundle in reports::revisions::random::in_all_orders(rng) {
+            comparison.revisions(&bundle);
+        }
+    }
+}
+
 /// So many lines for a text.
 const LINES_OF_TABLE: usize = 6;
 
-/// The default table, one that loads, or one that does not, with lines, a text, read and filtered, and a bundle.
+/// The default table, one that loads, or one that does not, with lines, a text, read and filtered, and a bundle of each kind.
 fn random_table(comparison: &mut tagged::Comparison<Build>, rng: &mut Rng) {
     let table = match rng.below(8) {
         0 | 1 => DEFAULT_TAGS.to_vec(),
@@ -348,4 +388,5 @@ fn random_table(comparison: &mut tagged::Comparison<Build>, rng: &mut Rng) {
     comparison.filter(&table, &text, &reports::random::lines_kept(rng));
     comparison.filter(&table, &crowded, &reports::random::lines_at_starts(rng));
     comparison.bundle(&table, &reports::random::bundle(rng));
+    comparison.revisions(&table, &reports::revisions::random::bundle(rng));
 }

@@ -58,6 +58,19 @@ pub enum Wrong {
     PageOfLossy,
     NothingForNothing,
 
+    // with revisions
+    RepeatOfHighestAlone,
+    RepeatNamesEarlier,
+    RepeatFirst,
+    AllRunsCompared,
+    LowestChosen,
+    LaterChosen,
+    LastByteCompared,
+    OrderOfRuns,
+    PlaceAmongChosen,
+    RestRead,
+    RestCounted,
+
     // with tables of tags
     SlotsCompared,
     EqualFirst,
@@ -69,6 +82,7 @@ pub enum Wrong {
     DefaultPrinted,
     StartOfDefault,
     TableNotForPages,
+    TableNotForRevisions,
 }
 
 impl Wrong {

@@ -33,7 +33,7 @@ pub const NAMES: [&str; NUMBERS] = [
     "",
     "ranges ill formed",
     "plus sign",
-    "",
+    "revision twice",
     "",
     "",
     "end before start",

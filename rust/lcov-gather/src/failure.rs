@@ -4,7 +4,7 @@ use crate::audit::Difference;
 use crate::choice::ChoiceError;
 use crate::guard::Replacements;
 use crate::shown::shown;
-use crate::tag_file::Wrong;
+use crate::wrong::Wrong;
 use lcov_sys::Refusal;
 use std::fmt;
 use std::io;
@@ -35,8 +35,8 @@ pub enum Failure {
     Replaced(Replacements),
     /// The counts of the files are not those of the result.
     Audit(Box<Difference>),
-    /// The file of `--tags` gives no table.
-    Tags(PathBuf, Wrong),
+    /// The file of `--tags` gives no table, or the list of `--revisions` no choice.
+    Wrong(PathBuf, Wrong),
     /// The file that is to be cut is not that of one section, or of none.
     Choice(ChoiceError),
 }
@@ -102,7 +102,7 @@ impl fmt::Display for Failure {
                 let all: Vec<String> = all.iter().map(Failure::to_string).collect();
                 write!(f, "{}", all.join("\nlcov-gather: "))
             }
-            Failure::Tags(path, wrong) => write!(f, "{}{wrong}", name(path)),
+            Failure::Wrong(path, wrong) => write!(f, "{}{wrong}", name(path)),
             Failure::Choice(error) => write!(f, "{error}"),
             Failure::Replaced(replaced) => write!(f, "{replaced}"),
             Failure::Audit(difference) => write!(f, "{difference}; nothing is written"),

@@ -3,6 +3,7 @@
 use crate::failure::Failure;
 use crate::gathering::{Mode, Reading, ROUND};
 use crate::lines::{Cut, Starts};
+use crate::list::{List, Names};
 use crate::meaning::Meaning;
 use crate::rewrite::Rewriting;
 use crate::tag_file;
@@ -67,14 +68,13 @@ pub struct Options {
     /// The totals of the result are printed, and the result only to `output`.
     pub totals: Option<Form>,
     pub files: Vec<PathBuf>,
-    pub files_from: Option<PathBuf>,
-    pub null: bool,
+    pub list: Option<List>,
 }
 
 pub enum Asked {
     /// Help, version or a completion script.
     Print(Vec<u8>),
-    Gather(Options),
+    Gather(Box<Options>),
 }
 
 /// The words begin with the command's name.
@@ -85,7 +85,7 @@ pub fn parse(words: impl Iterator<Item = OsString>) -> Result<Asked, Failure> {
     };
     match matches.get_one::<String>("completions") {
         Some(shell) => Ok(Asked::Print(script(shell))),
-        None => options(matches).map(Asked::Gather),
+        None => Ok(Asked::Gather(Box::new(options(matches)?))),
     }
 }
 
@@ -119,9 +119,19 @@ fn options(mut matches: ArgMatches) -> Result<Options, Failure> {
         files: matches
             .remove_many("files")
             .map_or(Vec::new(), |files| files.collect()),
-        files_from: matches.remove_one("files-from"),
-        null: matches.get_flag("null"),
+        list: list(&mut matches),
     })
+}
+
+/// Of both options one is given at most.
+fn list(matches: &mut ArgMatches) -> Option<List> {
+    let names = match matches.get_flag("null") {
+        true => Names::UpToZero,
+        false => Names::Lines,
+    };
+    let of = |names| move |path| List { path, names };
+    let from = matches.remove_one("files-from").map(of(names));
+    from.or_else(|| matches.remove_one("revisions").map(of(Names::Revisions)))
 }
 
 fn action(matches: &ArgMatches) -> Action {
@@ -259,9 +269,12 @@ fn rewriting_arguments() -> [Arg; 3] {
     ]
 }
 
-fn file_arguments() -> [Arg; 4] {
+fn file_arguments() -> [Arg; 5] {
     let output = "Write to OUT, which is replaced only when all is done; a device, fifo or socket is written to";
     let from = "Read the tracefiles' names from FILE, one a line; '-' is standard input";
+    let revisions =
+        "Read lines 'RUN REVISION TRACEFILE' from FILE, and of each run only the tracefile with the \
+        highest revision; '-' is standard input; no other tracefiles may be named";
     [
         value("output", "OUT", value_parser!(PathBuf))
             .short('o')
@@ -276,6 +289,10 @@ fn file_arguments() -> [Arg; 4] {
         )
         .short('0')
         .requires("files-from"),
+        value("revisions", "FILE", value_parser!(PathBuf))
+            .value_hint(ValueHint::FilePath)
+            .conflicts_with_all(["files-from", "null", "files"])
+            .help(revisions),
         Arg::new("files")
             .value_name("TRACEFILE")
             .num_args(0..)

@@ -1,35 +1,18 @@
 //! The file of `--tags`: thirteen lines, each a default tag, a blank, and the house's tag.
 
-use crate::excerpt::excerpt;
 use crate::explain::help;
 use crate::failure::Failure;
 use crate::record::without_end;
 use crate::tags::Tags;
+use crate::wrong::{refusal, Wrong};
 use lcov_sys::{Fault, DEFAULT_TAG_NAMES, KINDS, TAG_SLOT};
-use std::fmt;
 use std::fs;
 use std::ops::Range;
 use std::path::Path;
 
-/// What is wrong, with the lines that follow, and on which line; 0 where it is none.
-#[derive(Debug, PartialEq, Eq)]
-pub struct Wrong {
-    line: u64,
-    what: String,
-}
-
-impl fmt::Display for Wrong {
-    fn fmt(&self, f: &mut fmt::Formatter) -> fmt::Result {
-        match self.line {
-            0 => write!(f, ": {}", self.what),
-            line => write!(f, ":{line}: {}", self.what),
-        }
-    }
-}
-
 pub fn load(path: &Path) -> Result<Tags, Failure> {
     let text = fs::read(path).map_err(|error| Failure::File(path.to_owned(), error))?;
-    parse(&text).map_err(|wrong| Failure::Tags(path.to_owned(), wrong))
+    parse(&text).map_err(|wrong| Failure::Wrong(path.to_owned(), wrong))
 }
 
 /// A line of the file, and where the house's tag begins in it.
@@ -62,11 +45,7 @@ impl<'a> Line<'a> {
     }
 
     fn wrong(&self, part: Range<usize>, what: &str, advice: &str) -> Wrong {
-        let what = what.to_owned() + &excerpt(self.number, self.bytes, part) + &help(advice);
-        Wrong {
-            line: self.number,
-            what,
-        }
+        Wrong::in_line(self.number, self.bytes, part, what, advice)
     }
 
     /// Which kind it is for.
@@ -94,11 +73,6 @@ impl<'a> Line<'a> {
         let what = refusal(Fault::MalformedTags);
         Err(self.wrong(self.start..self.bytes.len(), &what, &advice))
     }
-}
-
-/// In the words of other refusals.
-fn refusal(fault: Fault) -> String {
-    format!("{} (refusal {})", fault.meaning(), fault.number())
 }
 
 fn parse(text: &[u8]) -> Result<Tags, Wrong> {

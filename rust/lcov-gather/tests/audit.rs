@@ -32,7 +32,7 @@ fn options(folder: &Folder, option: &str) -> Options {
     let words = ["lcov-gather", "--quiet", option, "-o"].map(OsString::from);
     let words = words.into_iter().filter(|word| !word.is_empty());
     match options::parse(words.chain([path("out"), path("a"), path("b")])) {
-        Ok(Asked::Gather(options)) => options,
+        Ok(Asked::Gather(options)) => *options,
         _ => panic!("a gather"),
     }
 }

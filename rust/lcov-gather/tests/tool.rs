@@ -201,6 +201,7 @@ fn help_tells_every_option() {
         "--files-from",
         "-0",
         "--null",
+        "--revisions",
         "-q",
         "--quiet",
         "--stats",
@@ -239,7 +240,9 @@ fn completion_scripts() {
     let folder = Folder::new();
     for shell in ["bash", "zsh", "fish"] {
         let script = printed(&folder.run(&["--completions", shell]));
-        assert!(script.contains("files-from"), "{shell}");
+        for option in ["files-from", "revisions"] {
+            assert!(script.contains(option), "{shell}: {option}");
+        }
         fs::write(folder.path(shell), script).unwrap();
         let mut check = Command::new(shell);
         match check.arg("-n").arg(folder.path(shell)).output() {

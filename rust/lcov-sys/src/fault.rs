@@ -48,6 +48,7 @@ faults! {
     17 PartOutside "a record's text part is outside the lent text" "",
     18 MalformedRanges "the range list is not well formed" "",
     19 SignedNumber "number with a plus sign" "text, line, field",
+    20 RepeatedRevision "a run has the same revision twice" "text",
     21 MalformedTags "the table of tags is not well formed" "",
     22 EqualTags "two tags of the table are equal" "",
     23 EndBeforeStart "end line below the start line" "text, line",
@@ -78,7 +79,7 @@ mod tests {
         for &fault in Fault::ALL {
             assert_eq!(Fault::of(fault.number()), Some(fault));
         }
-        for free in [0, 20, 24, 26] {
+        for free in [0, 24, 26] {
             assert_eq!(Fault::of(free), None);
         }
     }

@@ -80,6 +80,10 @@ calls! {
     /// include/lcov.h tells. Refuses as [`gather_with`] does.
     fn totals = lcov_totals(bundle: &[u8], scratch: &mut [u64], out: &mut [u8], answer: &mut [u64]) -> u32;
 
+    /// The checked gather of a bundle with revisions, which has run numbers and revisions after the lengths: of each run the text with the
+    /// highest revision is gathered, and the others are not read. Refuses with 16, then 20, then as [`gather_with`] does.
+    fn gather_revisions = lcov_gather_revisions(bundle: &[u8], scratch: &mut [u64], out: &mut [u8], answer: &mut [u64]) -> u32;
+
     /// Reads one text and prints what of its report the first `used` pairs hold. Refuses with 18, 1 to 10, 14, 19, 23 and 25.
     fn filter = lcov_filter(
         text: &[u8],
@@ -145,6 +149,15 @@ calls! {
 
     /// As [`totals`].
     fn totals_tagged = lcov_totals_tagged(
+        tags: &[u8],
+        bundle: &[u8],
+        scratch: &mut [u64],
+        out: &mut [u8],
+        answer: &mut [u64]
+    ) -> u32;
+
+    /// As [`gather_revisions`].
+    fn gather_revisions_tagged = lcov_gather_revisions_tagged(
         tags: &[u8],
         bundle: &[u8],
         scratch: &mut [u64],

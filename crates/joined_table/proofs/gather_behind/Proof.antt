@@ -18,7 +18,7 @@ gather-behind-spec =
     (λ c. search needs)
     (λ c. search needs)
     (λ c κs. search needs)
-    (λ c κs. let s = c .before .before .before .before .before .before .before .before .before .before .before .before .before .before .before .before .before .before .before .before in text-few _ _ (s .pre .1 .0) (s .pre .1 .1))
+    (λ c κs. let s = c .before .before .before .before .before .before .before .before .before .before .before .before .before .before .before .before .before .before .before .before in text-few _ _ _ (s .pre .1 .0) (s .pre .1 .1))
     (λ c. search needs)
     (λ c. search (text-refused, needs))
     (λ c. search needs)

@@ -1,6 +1,7 @@
 //! Writes the recorded sample, tests/lines.in and tests/lines.out, from a fixed seed, the recorded calls on range structs,
 //! crates/test_line_num/stdin and stdout, the recorded bundles, tests/bundles/NAME.in and NAME.out, those whose pages of totals are recorded,
-//! tests/totals/NAME.in and NAME.out, and the recorded cuts, tests/cutting; see tests/README.md.
+//! tests/totals/NAME.in and NAME.out, those with revisions, tests/revisions/NAME.in and NAME.out, and the recorded cuts, tests/cutting; see
+//! tests/README.md.
 //!
 //!     record             writes the files
 //!     record --check     writes nothing, and fails unless the files are what would be written and what the Rust answers, or what it lacks
@@ -8,8 +9,8 @@
 use harness::cutting::recorded as cuts;
 use harness::files::{file, files_in, write_in, Files};
 use harness::ranges::recorded::{self as calls, Calls};
-use harness::reports::pages;
 use harness::reports::recorded::{self, Recorded};
+use harness::reports::{pages, revisions};
 use harness::sample::{self, Sample};
 use std::process::ExitCode;
 use std::{env, fs, io};
@@ -111,14 +112,14 @@ fn check_ranges() -> Result<(), String> {
 
 // ---- bundles
 
-/// A program that reads a bundle, and the folder of what is recorded of it.
+/// A program that reads a bundle, or would, and the folder of what is recorded of it.
 struct Program {
     folder: &'static str,
     all: fn() -> Vec<Recorded>,
     prints: fn(&Recorded) -> Vec<u8>,
 }
 
-const PROGRAMS: [Program; 2] = [
+const PROGRAMS: [Program; 3] = [
     Program {
         folder: "bundles",
         all: recorded::all,
@@ -128,6 +129,11 @@ const PROGRAMS: [Program; 2] = [
         folder: pages::FOLDER,
         all: pages::all,
         prints: Recorded::page,
+    },
+    Program {
+        folder: revisions::recorded::FOLDER,
+        all: revisions::recorded::all,
+        prints: Recorded::revised,
     },
 ];
 

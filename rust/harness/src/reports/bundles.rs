@@ -1,19 +1,39 @@
-//! Bundles as bytes: made, and taken apart by SPEC 7.1's words.
+//! Bundles of both kinds as bytes: made, and taken apart by the words of SPEC 7.1 and 7.4.
 
 pub use lcov_sys::MAX_TEXTS;
 
 const WORD: usize = 4;
 
+/// So many numbers a bundle has of each text: start and length, and with revisions the run and the revision too.
+const PLAIN: usize = 2;
+const REVISED: usize = 4;
+
+/// A text of a bundle with revisions.
+#[derive(Debug, Clone, Copy, PartialEq, Eq)]
+pub struct Sent<T> {
+    pub run: u32,
+    pub revision: u32,
+    pub text: T,
+}
+
 /// The bundle with these text bytes, each text a start and a length in them.
 pub fn encoded(bytes: &[u8], texts: &[(usize, usize)]) -> Vec<u8> {
+    let rows: Vec<[usize; PLAIN]> = texts.iter().map(|&(start, len)| [start, len]).collect();
+    laid_out(bytes, &rows)
+}
+
+/// The same with revisions: of each text start, length, run and revision.
+pub fn encoded_revisions(bytes: &[u8], texts: &[[usize; REVISED]]) -> Vec<u8> {
+    laid_out(bytes, texts)
+}
+
+/// The first numbers of all texts stand before the second ones, and so on.
+fn laid_out<const NUMBERS: usize>(bytes: &[u8], texts: &[[usize; NUMBERS]]) -> Vec<u8> {
     let mut bundle = Vec::new();
     put(&mut bundle, texts.len());
     put(&mut bundle, bytes.len());
-    for &(start, _) in texts {
-        put(&mut bundle, start);
-    }
-    for &(_, len) in texts {
-        put(&mut bundle, len);
+    for place in 0..NUMBERS {
+        texts.iter().for_each(|text| put(&mut bundle, text[place]));
     }
     bundle.extend_from_slice(bytes);
     bundle
@@ -26,42 +46,84 @@ fn put(bundle: &mut Vec<u8>, number: usize) {
 
 /// The bundle of these texts, one after another.
 pub fn of<T: AsRef<[u8]>>(texts: &[T]) -> Vec<u8> {
-    let mut bytes = Vec::new();
-    let mut named = Vec::new();
+    let (bytes, places) = in_a_row(texts.iter().map(AsRef::as_ref));
+    encoded(&bytes, &places)
+}
+
+/// The same with revisions.
+pub fn of_revisions<T: AsRef<[u8]>>(sent: &[Sent<T>]) -> Vec<u8> {
+    let (bytes, places) = in_a_row(sent.iter().map(|sent| sent.text.as_ref()));
+    let rows: Vec<[usize; REVISED]> = places
+        .iter()
+        .zip(sent)
+        .map(|(&(start, len), sent)| [start, len, sent.run as usize, sent.revision as usize])
+        .collect();
+    encoded_revisions(&bytes, &rows)
+}
+
+/// The texts one after another, and where each of them is.
+fn in_a_row<'a>(texts: impl Iterator<Item = &'a [u8]>) -> (Vec<u8>, Vec<(usize, usize)>) {
+    let (mut bytes, mut places) = (Vec::new(), Vec::new());
     for text in texts {
-        let text = text.as_ref();
-        named.push((bytes.len(), text.len()));
+        places.push((bytes.len(), text.len()));
         bytes.extend_from_slice(text);
     }
-    encoded(&bytes, &named)
+    (bytes, places)
 }
 
 /// Where the numbers end and the text bytes begin.
 pub fn head_len(texts: usize) -> usize {
-    2 * WORD + 2 * WORD * texts
+    head::<PLAIN>(texts)
+}
+
+/// The same with revisions.
+pub fn revisions_head_len(texts: usize) -> usize {
+    head::<REVISED>(texts)
+}
+
+fn head<const NUMBERS: usize>(texts: usize) -> usize {
+    2 * WORD + NUMBERS * WORD * texts
 }
 
 /// The texts in their order; None where the bundle is not well formed.
 pub fn decoded(bundle: &[u8]) -> Option<Vec<&[u8]>> {
-    let many = number(bundle, 0)?;
-    let total = number(bundle, 1)?;
-    if many > MAX_TEXTS || bundle.len() != head_len(many) + total {
+    let texts = taken_apart::<PLAIN>(bundle)?;
+    Some(texts.into_iter().map(|(_, text)| text).collect())
+}
+
+/// The same of a bundle with revisions.
+pub fn decoded_revisions(bundle: &[u8]) -> Option<Vec<Sent<&[u8]>>> {
+    let texts = taken_apart::<REVISED>(bundle)?.into_iter();
+    let sent = texts.map(|([_, _, run, revision], text)| Sent {
+        run,
+        revision,
+        text,
+    });
+    Some(sent.collect())
+}
+
+/// Each text with its numbers.
+fn taken_apart<const NUMBERS: usize>(bundle: &[u8]) -> Option<Vec<([u32; NUMBERS], &[u8])>> {
+    let many = number(bundle, 0)? as usize;
+    let total = number(bundle, 1)? as usize;
+    if many > MAX_TEXTS || bundle.len() != head::<NUMBERS>(many) + total {
         return None;
     }
-    let bytes = &bundle[head_len(many)..];
+    let bytes = &bundle[head::<NUMBERS>(many)..];
     (0..many)
         .map(|text| {
-            let start = number(bundle, 2 + text)?;
-            let len = number(bundle, 2 + many + text)?;
-            bytes.get(start..start + len)
+            let numbers = std::array::from_fn(|place| number(bundle, 2 + place * many + text));
+            let numbers = numbers.map(|number| number.expect("the head is there"));
+            let (start, len) = (numbers[0] as usize, numbers[1] as usize);
+            Some((numbers, bytes.get(start..start + len)?))
         })
         .collect()
 }
 
 /// The number at a place, counted in numbers. Sums of two of them don't pass 64 bits.
-fn number(bundle: &[u8], place: usize) -> Option<usize> {
+fn number(bundle: &[u8], place: usize) -> Option<u32> {
     let bytes = bundle.get(place * WORD..place * WORD + WORD)?;
-    Some(u32::from_le_bytes(bytes.try_into().ok()?) as usize)
+    Some(u32::from_le_bytes(bytes.try_into().ok()?))
 }
 
 #[cfg(test)]
@@ -75,6 +137,28 @@ mod tests {
         let overlapping = encoded(b"abc", &[(0, 2), (1, 2), (0, 2)]);
         assert_eq!(decoded(&overlapping).unwrap(), [b"ab", b"bc", b"ab"]);
         assert!(decoded(&of::<&[u8]>(&[])).unwrap().is_empty());
+    }
+
+    #[test]
+    fn so_is_one_with_revisions() {
+        let sent = |run, revision, text: &'static [u8]| Sent {
+            run,
+            revision,
+            text,
+        };
+        let all = [
+            sent(9, 1, b"TN:a\n"),
+            sent(u32::MAX, 0, b""),
+            sent(9, 2, b"x"),
+        ];
+        let bundle = of_revisions(&all);
+        assert_eq!(decoded_revisions(&bundle).unwrap(), all);
+        assert_eq!(bundle.len(), revisions_head_len(3) + 6);
+        assert!(decoded(&bundle).is_none());
+        let numbers: Vec<u8> = [1, 2, 0, 2, 7, 8].map(u32::to_le_bytes).concat();
+        let expected = [&numbers[..], b"ab"].concat();
+        assert_eq!(of_revisions(&[sent(7, 8, b"ab")]), expected);
+        assert_eq!(of_revisions::<&[u8]>(&[]), of::<&[u8]>(&[]));
     }
 
     #[test]

@@ -3,6 +3,8 @@
 
 use super::beside::{misfit, starts_differ};
 use super::expected::{may_refuse, Expected, Told};
+use super::recorded::{self, MAX_OUTPUT};
+use super::revisions::Chosen;
 use super::tally::Tally;
 use super::{bundles, page, Asked};
 use crate::compare::{shown, BYTES_PAST, MOST_WORDS, THOROUGH_AT_MOST};
@@ -10,12 +12,13 @@ use crate::differences::Difference;
 use crate::expected::{printing, refused, Answer};
 use crate::guarded::{self, Left};
 use crate::interface::{
-    Filter, Gatherer, Starts, INNER_WORDS, MAX_ENTRIES, WORDS, WORDS_PER_ENTRY, WRITTEN,
+    Filter, Gatherer, Starts, FIELD, INNER_WORDS, LINE, MAX_ENTRIES, TEXT, WORDS, WORDS_PER_ENTRY,
+    WRITTEN,
 };
 use crate::ranges::List;
 use crate::tally::NUMBERS;
 use crate::with_scratch;
-use oracle::Mode;
+use oracle::{Mode, Refusal};
 
 /// Of how many questions one is asked with every length; a prime.
 const THOROUGH_ONE_IN: u64 = 97;
@@ -105,6 +108,28 @@ impl<P: Gatherer> Comparison<P> {
         self.ask(Asked::Bundle(Mode::Checked, bundle));
         self.ask(Asked::Bundle(Mode::Lossy, bundle));
         self.ask(Asked::Totals(bundle));
+    }
+
+    pub fn revisions(&mut self, bundle: &[u8]) {
+        self.tally.revisions.count(bundle);
+        self.ask(Asked::Revisions(bundle));
+    }
+
+    /// The recorded answer comes again, with the sizes of the program `gather`.
+    pub fn recorded_revisions(&mut self, bundle: &[u8], recorded: &[u8]) {
+        let asked = Asked::Revisions(bundle);
+        let lengths = Lengths {
+            scratch: Scratch::Words(INNER_WORDS),
+            room: MAX_OUTPUT,
+            words: WORDS,
+        };
+        let left = self.asked_with(asked, lengths);
+        self.tally.revisions.recorded += 1;
+        let came = answered_by(&left).map_or_else(refusal_printed, <[u8]>::to_vec);
+        if came != recorded {
+            let wanted = format!("as recorded, {}", shown(recorded));
+            self.differ(asked, lengths, wanted, &left);
+        }
     }
 
     fn ask(&mut self, asked: Asked) {
@@ -225,12 +250,10 @@ impl<P: Gatherer> Comparison<P> {
     }
 
     /// The Rust can't be asked: still no number comes that the call does not have, no refused call writes, what is written reads back as
-    /// itself, and a page is that of the gather.
+    /// itself, a page is that of the gather, and of revisions the gather of the chosen texts alone tells.
     fn without_the_rust(&mut self, asked: Asked) {
         let lengths = Lengths::ample(asked);
-        if let Asked::Totals(bundle) = asked {
-            let gathered = self.asked_amply(Asked::Bundle(Mode::Checked, bundle));
-            let told = answered_by(&gathered).map(page::of);
+        if let Some(told) = self.told_by_gather(asked) {
             let told = told.as_deref().map_err(|answer| *answer);
             return self.held_against(asked, told, lengths);
         }
@@ -241,6 +264,27 @@ impl<P: Gatherer> Comparison<P> {
         } else if !may_refuse(asked, left.number) || !left.out.holds(&[]) {
             let wanted = "a refusal of the call, nothing written".to_owned();
             self.differ(asked, lengths, wanted, &left);
+        }
+    }
+
+    /// What the port's own gather tells of another call; None of the others.
+    fn told_by_gather(&mut self, asked: Asked) -> Option<Result<Vec<u8>, Answer>> {
+        match asked {
+            Asked::Totals(bundle) => {
+                let gathered = self.asked_amply(Asked::Bundle(Mode::Checked, bundle));
+                Some(answered_by(&gathered).map(page::of))
+            }
+            Asked::Revisions(bundle) => {
+                let chosen = Chosen::of(bundle).expect("texts that are not UTF-8 are chosen");
+                let alone = bundles::of(&chosen.texts);
+                let gathered = self.asked_amply(Asked::Bundle(Mode::Checked, &alone));
+                let in_whole = |mut answer: Answer| {
+                    answer.words[TEXT] = chosen.in_whole(answer.words[TEXT] as usize) as u64;
+                    answer
+                };
+                Some(answered_by(&gathered).map(<[u8]>::to_vec).map_err(in_whole))
+            }
+            _ => None,
         }
     }
 
@@ -303,6 +347,7 @@ impl<P: Gatherer> Comparison<P> {
             Asked::Bundle(Mode::Checked, _) => "gather".to_owned(),
             Asked::Bundle(Mode::Lossy, _) => "gather lossy".to_owned(),
             Asked::Totals(_) => "totals".to_owned(),
+            Asked::Revisions(_) => "gather revisions".to_owned(),
         };
         self.differences.add(asked.bytes().len(), || Difference {
             asked: format!("{call} {}, {}", shown(asked.bytes()), lengths.shown()),
@@ -336,6 +381,16 @@ fn answered_by(left: &Left) -> Result<&[u8], Answer> {
     }
 }
 
+/// A refusal as a program prints it.
+fn refusal_printed(answer: Answer) -> Vec<u8> {
+    recorded::refused(Refusal {
+        number: answer.number,
+        text: answer.words[TEXT] as usize,
+        line: answer.words[LINE] as usize,
+        field: answer.words[FIELD] as u32,
+    })
+}
+
 /// What a call wrote; nothing where it refused.
 fn printed(left: &Left) -> &[u8] {
     answered_by(left).unwrap_or_default()
@@ -355,21 +410,24 @@ mod tests {
     use super::*;
     use crate::ends::taken_out;
     use crate::interface::Lent;
+    use crate::reports::revisions;
     use crate::stand_in::Wrong;
 
     struct StandIn(Wrong);
 
     impl StandIn {
-        fn tell(&self, asked: Asked, lent: &mut Lent) -> u32 {
-            let mut entries = Scratch::Words(lent.scratch.len()).entries();
+        fn entries(&self, lent: &Lent) -> usize {
+            let entries = Scratch::Words(lent.scratch.len()).entries();
             match self.0 {
-                Wrong::OneEntryFewer => entries = entries.saturating_sub(1),
-                Wrong::OneEntryMore => entries += 1,
-                Wrong::ScratchRead if lent.scratch.first().is_some_and(|word| word % 7 == 3) => {
-                    entries = 0
-                }
-                _ => {}
+                Wrong::OneEntryFewer => entries.saturating_sub(1),
+                Wrong::OneEntryMore => entries + 1,
+                Wrong::ScratchRead if lent.scratch.first().is_some_and(|word| word % 7 == 3) => 0,
+                _ => entries,
             }
+        }
+
+        fn tell(&self, asked: Asked, lent: &mut Lent) -> u32 {
+            let entries = self.entries(lent);
             let unsigned: Vec<u8> = without_signs(asked.bytes());
             let endless = taken_out(asked.bytes());
             let asked = match (asked, self.0) {
@@ -438,6 +496,11 @@ mod tests {
             }
         }
 
+        fn gather_revisions(&self, bundle: &[u8], lent: Lent) -> u32 {
+            let told = revisions::stand_in::told(self.0, bundle, self.entries(&lent));
+            self.0.print(in_words(&told), lent.out, lent.answer)
+        }
+
         fn filter_text(&self, asked: Filter, mut lent: Lent) -> u32 {
             let asked = if self.0 == Wrong::FilterKeepsAll && asked.list.held().is_some() {
                 Asked::Text(asked.text)
@@ -447,6 +510,9 @@ mod tests {
             self.tell(asked, &mut lent)
         }
     }
+
+    /// The recorded bundles with revisions that take little time have fewer bytes.
+    const SMALL: usize = 500;
 
     /// A list of line 2 that says that so many of its pairs count.
     fn line_two(used: usize) -> List {
@@ -480,6 +546,11 @@ mod tests {
             comparison.bundle(&bundles::of(&[texts[0], texts[0]]));
             comparison.bundle(b"");
             comparison.bundle(&bundles::of::<&str>(&[]));
+            for recorded in revisions::recorded::all() {
+                if recorded.bundle.len() < SMALL {
+                    comparison.revisions(&recorded.bundle);
+                }
+            }
         }
         comparison
     }
@@ -488,7 +559,7 @@ mod tests {
     fn a_port_that_answers_as_expected_has_no_differences() {
         let comparison = compared(Wrong::Nothing);
         assert_eq!(comparison.differences.count, 0);
-        for number in [0, 8, 10, 11, 14, 16, 18, 19, 23] {
+        for number in [0, 8, 10, 11, 14, 16, 18, 19, 20, 23] {
             assert!(comparison.tally.calls_refused(number) > 0, "{number}");
         }
     }
@@ -510,6 +581,17 @@ mod tests {
             Wrong::ReportMeasured,
             Wrong::PageOfLossy,
             Wrong::NothingForNothing,
+            Wrong::RepeatOfHighestAlone,
+            Wrong::RepeatNamesEarlier,
+            Wrong::RepeatFirst,
+            Wrong::AllRunsCompared,
+            Wrong::LowestChosen,
+            Wrong::LaterChosen,
+            Wrong::LastByteCompared,
+            Wrong::OrderOfRuns,
+            Wrong::PlaceAmongChosen,
+            Wrong::RestRead,
+            Wrong::RestCounted,
         ];
         for wrong in Wrong::of_printing().chain(others) {
             assert!(
@@ -554,6 +636,10 @@ mod tests {
 
             fn totals(&self, _: &[u8], lent: Lent) -> u32 {
                 Wrong::Nothing.print(Ok(self.0), lent.out, lent.answer)
+            }
+
+            fn gather_revisions(&self, _: &[u8], _: Lent) -> u32 {
+                unreachable!("no bundle has revisions here")
             }
 
             fn filter_text(&self, _: Filter, _: Lent) -> u32 {

@@ -1,11 +1,13 @@
 //! What a reading, a filter, a gather or a page of totals must answer: the Rust's answer, and where SPEC 9.1 added a number, the count's. Where an FN has an
 //! end line, the Rust answers to the texts without end lines, and the count has these. Of a filter by distinct starts, which the Rust lacks,
 //! the count answers; by all starts, the count and the Rust agree on the same text and list. A page of totals, which the Rust lacks too, is
-//! counted from the report that both print.
+//! counted from the report that both print. Of a bundle with revisions, a third thing that the Rust lacks, the texts are chosen here, and the Rust and the
+//! count gather these alone.
 
 use super::reference::{
     self, Entries, Sections, SECOND_PATH, SUM_OF_CALLS, SUM_OF_RUNS, TOO_MANY_ENTRIES,
 };
+use super::revisions::{Chosen, REPEATED_REVISION};
 use super::{bundles, page, Asked};
 use crate::ends::{self, END_BEFORE_START, END_FIELD, NUMBER_TOO_LARGE};
 use crate::expected::Basis;
@@ -34,11 +36,14 @@ impl Expected {
     pub fn of(asked: Asked) -> Option<Self> {
         let texts = match texts_of(asked) {
             Ok(texts) => texts,
-            Err(number) => {
+            Err(refusal) => {
                 return Some(Expected {
-                    told: Err(Refusal::numbered(number)),
+                    told: Err(refusal),
                     entries: 0,
-                    basis: Basis::Rust,
+                    basis: match refusal.number {
+                        REPEATED_REVISION => Basis::Refusal,
+                        _ => Basis::Rust,
+                    },
                 })
             }
         };
@@ -49,7 +54,7 @@ impl Expected {
         let counted = kept(asked, &texts, &mut entries);
         let (told, basis) = settled(asked, &texts, counted);
         Some(Expected {
-            told,
+            told: told.map_err(|refusal| in_whole(asked, refusal)),
             entries: entries.most,
             basis,
         })
@@ -62,18 +67,35 @@ impl Expected {
         }
         let texts = texts_of(asked).expect("entries were read");
         let counted = kept(asked, &texts, &mut Entries::limited(limit));
-        counted.map(|sections| finished(asked, sections))
+        counted
+            .map(|sections| finished(asked, sections))
+            .map_err(|refusal| in_whole(asked, refusal))
     }
 }
 
-/// A number where the bundle or the list of ranges is not well formed.
-fn texts_of(asked: Asked<'_>) -> Result<Vec<&[u8]>, u32> {
+/// The texts that are read, or a refusal where the bundle or the list of ranges is not well formed, or where a run has the same revision twice.
+fn texts_of(asked: Asked<'_>) -> Result<Vec<&[u8]>, Refusal> {
     match asked {
-        Asked::Filter(filter) if filter.list.held().is_none() => Err(RANGES_NOT_WELL_FORMED),
+        Asked::Filter(filter) if filter.list.held().is_none() => {
+            Err(Refusal::numbered(RANGES_NOT_WELL_FORMED))
+        }
         Asked::Text(_) | Asked::Filter(_) => Ok(vec![asked.bytes()]),
         Asked::Bundle(_, bundle) | Asked::Totals(bundle) => {
-            bundles::decoded(bundle).ok_or(NOT_WELL_FORMED)
+            bundles::decoded(bundle).ok_or(Refusal::numbered(NOT_WELL_FORMED))
         }
+        Asked::Revisions(bundle) => Chosen::of(bundle).map(|chosen| chosen.texts),
+    }
+}
+
+/// A refusal of the texts that are read, with the text's place in the whole bundle.
+fn in_whole(asked: Asked, refusal: Refusal) -> Refusal {
+    let text = match asked {
+        Asked::Revisions(bundle) => Chosen::of(bundle).map(|chosen| chosen.in_whole(refusal.text)),
+        _ => Ok(refusal.text),
+    };
+    Refusal {
+        text: text.expect("a text was read"),
+        ..refusal
     }
 }
 
@@ -82,7 +104,7 @@ fn kept(asked: Asked, texts: &[&[u8]], entries: &mut Entries) -> reference::Told
     match asked {
         Asked::Text(_) | Asked::Filter(_) => reference::read(asked.bytes(), entries),
         Asked::Bundle(mode, _) => reference::gather(mode, texts, entries),
-        Asked::Totals(_) => reference::gather(Mode::Checked, texts, entries),
+        Asked::Totals(_) | Asked::Revisions(_) => reference::gather(Mode::Checked, texts, entries),
     }
 }
 
@@ -144,7 +166,7 @@ fn rust(asked: Asked, texts: &[&[u8]]) -> Result<Vec<u8>, Fault> {
             oracle::filter(texts[0], &told(&list.pairs[..list.used]))
         }
         Asked::Bundle(mode, _) => oracle::gather(mode, texts),
-        Asked::Totals(_) => unreachable!("the Rust has no pages"),
+        Asked::Totals(_) | Asked::Revisions(_) => unreachable!("the Rust has no such call"),
     }
 }
 
@@ -208,6 +230,7 @@ pub fn may_refuse(asked: Asked, number: u32) -> bool {
             Asked::Bundle(Mode::Checked, _) | Asked::Totals(_) => {
                 matches!(number, 11..=13 | NOT_WELL_FORMED)
             }
+            Asked::Revisions(_) => matches!(number, 11..=13 | NOT_WELL_FORMED | REPEATED_REVISION),
             Asked::Bundle(Mode::Lossy, _) => matches!(number, 13 | NOT_WELL_FORMED),
         }
 }

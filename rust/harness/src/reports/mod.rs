@@ -1,4 +1,4 @@
-//! Questions about readings, filters, gathers and pages of totals: texts and bundles, what SPEC 7 expects of them, and the comparison with the port.
+//! Questions about readings, filters, gathers, also of bundles with revisions, and pages of totals: texts and bundles, what SPEC 7 expects of them, and the comparison with the port.
 
 pub mod beside;
 pub mod bundles;
@@ -10,6 +10,7 @@ pub mod pages;
 pub mod random;
 pub mod recorded;
 pub mod reference;
+pub mod revisions;
 pub mod systematic;
 pub mod tally;
 pub mod workloads;
@@ -25,12 +26,17 @@ pub enum Asked<'a> {
     Bundle(Mode, &'a [u8]),
     /// The page of totals of a bundle.
     Totals(&'a [u8]),
+    /// A bundle with revisions.
+    Revisions(&'a [u8]),
 }
 
 impl<'a> Asked<'a> {
     pub fn bytes(self) -> &'a [u8] {
         match self {
-            Asked::Text(bytes) | Asked::Bundle(_, bytes) | Asked::Totals(bytes) => bytes,
+            Asked::Text(bytes)
+            | Asked::Bundle(_, bytes)
+            | Asked::Totals(bytes)
+            | Asked::Revisions(bytes) => bytes,
             Asked::Filter(filter) => filter.text,
         }
     }
@@ -48,6 +54,7 @@ impl<'a> Asked<'a> {
             }),
             Asked::Bundle(mode, _) => Asked::Bundle(mode, bytes),
             Asked::Totals(_) => Asked::Totals(bytes),
+            Asked::Revisions(_) => Asked::Revisions(bytes),
         }
     }
 
@@ -58,6 +65,7 @@ impl<'a> Asked<'a> {
             Asked::Bundle(Mode::Checked, bundle) => port.gather_with(bundle, lent),
             Asked::Bundle(Mode::Lossy, bundle) => port.gather_lossy(bundle, lent),
             Asked::Totals(bundle) => port.totals(bundle, lent),
+            Asked::Revisions(bundle) => port.gather_revisions(bundle, lent),
         }
     }
 
@@ -68,17 +76,20 @@ impl<'a> Asked<'a> {
             Asked::Bundle(Mode::Checked, bundle) => port.gather_tagged(table, bundle, lent),
             Asked::Bundle(Mode::Lossy, bundle) => port.gather_lossy_tagged(table, bundle, lent),
             Asked::Totals(bundle) => port.totals_tagged(table, bundle, lent),
+            Asked::Revisions(bundle) => port.gather_revisions_tagged(table, bundle, lent),
         }
     }
 
-    /// The question that the Rust can be asked.
+    /// The question that the Rust can be asked; of a bundle with revisions, about the texts that are chosen.
     pub fn of_the_rust(self) -> Self {
         match self {
             Asked::Filter(filter) => Asked::Filter(Filter {
                 starts: Starts::All,
                 ..filter
             }),
-            Asked::Totals(bundle) => Asked::Bundle(Mode::Checked, bundle),
+            Asked::Totals(bundle) | Asked::Revisions(bundle) => {
+                Asked::Bundle(Mode::Checked, bundle)
+            }
             asked => asked,
         }
     }

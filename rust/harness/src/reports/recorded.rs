@@ -30,6 +30,11 @@ impl Recorded {
         self.printed(Asked::Totals(&self.bundle))
     }
 
+    /// What a program of the same sizes would print that gathers a bundle with revisions.
+    pub fn revised(&self) -> Vec<u8> {
+        self.printed(Asked::Revisions(&self.bundle))
+    }
+
     fn printed(&self, asked: Asked) -> Vec<u8> {
         if self.bundle.len() > MAX_INPUT {
             return refused(Refusal::numbered(NOT_WELL_FORMED));
@@ -45,7 +50,7 @@ impl Recorded {
     }
 }
 
-fn refused(refusal: Refusal) -> Vec<u8> {
+pub(super) fn refused(refusal: Refusal) -> Vec<u8> {
     format!("{refusal}\n").into_bytes()
 }
 
@@ -69,8 +74,14 @@ pub fn all() -> Vec<Recorded> {
     let mut add = |name, bundle| all.push(Recorded { name, bundle });
     add("overlapping", overlapping());
     add("text-past-the-end", bundles::encoded(b"TN:a\n", &[(1, 5)]));
-    add("output-65536", printed_as_long_as(MAX_OUTPUT));
-    add("output-65537", printed_as_long_as(MAX_OUTPUT + 1));
+    add(
+        "output-65536",
+        bundles::of(&[printed_as_long_as(MAX_OUTPUT)]),
+    );
+    add(
+        "output-65537",
+        bundles::of(&[printed_as_long_as(MAX_OUTPUT + 1)]),
+    );
     all
 }
 
@@ -211,9 +222,8 @@ fn of_length(len: usize) -> Vec<u8> {
     bundles::encoded(&bytes, &[(0, FIRST.len()), (0, FIRST.len())])
 }
 
-/// A bundle of one text whose report is so long: a function's name is printed twice where it has a start, and so the report is longer
-/// than the text.
-fn printed_as_long_as(len: usize) -> Vec<u8> {
+/// A text whose report is so long: a function's name is printed twice where it has a start, and so the report is longer than the text.
+pub(super) fn printed_as_long_as(len: usize) -> String {
     let text = |name: usize, path: usize| {
         format!(
             "SF:{}\nFN:1,{}\nend_of_record\n",
@@ -228,7 +238,7 @@ fn printed_as_long_as(len: usize) -> Vec<u8> {
     let shortest = printed(&text(20_000, 0));
     let made = text(20_000, len - shortest);
     assert_eq!(printed(&made), len);
-    bundles::of(&[made])
+    made
 }
 
 #[cfg(test)]

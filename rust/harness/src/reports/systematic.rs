@@ -37,7 +37,8 @@ pub fn bundles(visit: &mut dyn FnMut(&[u8])) {
         visit(&bundles::of(&vec![TEXTS[2]; texts]));
         visit(&bundles::of(&vec![TEXTS[0]; texts]));
     }
-    heads(visit);
+    let bundle = bundles::of(&[TEXTS[2], TEXTS[1], TEXTS[3]]);
+    heads(&bundle, bundles::head_len(3), visit);
 }
 
 fn sequences(begun: &mut Vec<&'static str>, visit: &mut dyn FnMut(&[u8])) {
@@ -52,12 +53,11 @@ fn sequences(begun: &mut Vec<&'static str>, visit: &mut dyn FnMut(&[u8])) {
     }
 }
 
-/// Every byte of a head changed by one, and every length of a bundle.
-fn heads(visit: &mut dyn FnMut(&[u8])) {
-    let bundle = bundles::of(&[TEXTS[2], TEXTS[1], TEXTS[3]]);
-    for place in 0..bundles::head_len(3) {
+/// Every byte of a head changed, every length of a bundle, and large numbers in the head.
+pub(super) fn heads(bundle: &[u8], head_len: usize, visit: &mut dyn FnMut(&[u8])) {
+    for place in 0..head_len {
         for step in [1, 128, 255u8] {
-            let mut changed = bundle.clone();
+            let mut changed = bundle.to_vec();
             changed[place] = changed[place].wrapping_add(step);
             visit(&changed);
         }
@@ -66,9 +66,9 @@ fn heads(visit: &mut dyn FnMut(&[u8])) {
         visit(&bundle[..len]);
     }
     for number in [u32::MAX, 1 << 31, 65] {
-        for place in 0..8 {
-            let mut changed = bundle.clone();
-            changed[place * 4..place * 4 + 4].copy_from_slice(&number.to_le_bytes());
+        for place in (0..head_len).step_by(4) {
+            let mut changed = bundle.to_vec();
+            changed[place..place + 4].copy_from_slice(&number.to_le_bytes());
             visit(&changed);
         }
     }

@@ -1,6 +1,7 @@
 //! How often each kind of answer came to texts and bundles.
 
 use super::expected::Told;
+use super::revisions;
 use super::Asked;
 use crate::expected::Basis;
 use crate::interface::Starts;
@@ -8,7 +9,7 @@ use crate::tally::{numbered, row, rows, NAMES, NUMBERS};
 use oracle::Mode;
 use std::fmt;
 
-const QUESTIONS: usize = 6;
+const QUESTIONS: usize = 7;
 
 #[derive(Default)]
 pub struct Tally {
@@ -18,7 +19,8 @@ pub struct Tally {
     calls: [[u64; QUESTIONS]; NUMBERS],
     /// Questions that are not UTF-8.
     pub outside: [u64; QUESTIONS],
-    /// Questions that the Rust answers otherwise, by the number of their answer: a section has a second SF, or a number a plus sign.
+    /// Questions that the Rust answers otherwise, by the number of their answer: a section has a second SF, a number a plus sign, or a run the same
+    /// revision twice.
     apart: [[u64; QUESTIONS]; NUMBERS],
     /// Questions with an end line, which the Rust does not know, by the number of their answer.
     with_end: [[u64; QUESTIONS]; NUMBERS],
@@ -34,6 +36,8 @@ pub struct Tally {
     pub pages_again: u64,
     /// What the two filters print, held against each other.
     pub beside: Beside,
+    /// What was chosen of bundles with revisions.
+    pub revisions: revisions::Tally,
 }
 
 /// Pairs of filters of one text and one list.
@@ -57,6 +61,7 @@ fn column(asked: Asked) -> usize {
         Asked::Bundle(Mode::Checked, _) => 3,
         Asked::Bundle(Mode::Lossy, _) => 4,
         Asked::Totals(_) => 5,
+        Asked::Revisions(_) => 6,
     }
 }
 
@@ -110,7 +115,15 @@ fn table(f: &mut fmt::Formatter, what: &str, counts: &[[u64; QUESTIONS]; NUMBERS
     row(
         f,
         what,
-        &["texts", "filters", "distinct", "checked", "lossy", "totals"],
+        &[
+            "texts",
+            "filters",
+            "distinct",
+            "checked",
+            "lossy",
+            "totals",
+            "revisions",
+        ],
     )?;
     for (number, (name, counts)) in NAMES.iter().zip(counts).enumerate() {
         if number == 0 {
@@ -149,6 +162,7 @@ impl fmt::Display for Tally {
                 ("both filters, starts differ", self.beside.same),
                 ("both filters, equal starts", self.beside.equal_starts),
             ],
-        )
+        )?;
+        write!(f, "{}", self.revisions)
     }
 }

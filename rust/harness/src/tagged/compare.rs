@@ -29,9 +29,17 @@ enum Asked<'a> {
     Report(reports::Asked<'a>),
 }
 
-const CALLS: usize = 8;
+const CALLS: usize = 9;
 const CALL_NAMES: [&str; CALLS] = [
-    "read", "print", "texts", "filters", "distinct", "checked", "lossy", "totals",
+    "read",
+    "print",
+    "texts",
+    "filters",
+    "distinct",
+    "checked",
+    "lossy",
+    "totals",
+    "revisions",
 ];
 
 impl<'a> Asked<'a> {
@@ -60,6 +68,7 @@ impl<'a> Asked<'a> {
             Asked::Report(reports::Asked::Bundle(_, bundle) | reports::Asked::Totals(bundle)) => {
                 change.bundle(bundle)
             }
+            Asked::Report(reports::Asked::Revisions(bundle)) => change.revisions(bundle),
             Asked::Report(asked) => change.text(asked.bytes()),
         }
     }
@@ -85,6 +94,7 @@ impl<'a> Asked<'a> {
             Asked::Report(reports::Asked::Bundle(Mode::Checked, _)) => 5,
             Asked::Report(reports::Asked::Bundle(Mode::Lossy, _)) => 6,
             Asked::Report(reports::Asked::Totals(_)) => 7,
+            Asked::Report(reports::Asked::Revisions(_)) => 8,
         }
     }
 }
@@ -150,6 +160,10 @@ impl<P: Tagged> Comparison<P> {
             self.ask(table, Asked::Report(reports::Asked::Bundle(mode, bundle)));
         }
         self.ask(table, Asked::Report(reports::Asked::Totals(bundle)));
+    }
+
+    pub fn revisions(&mut self, table: &[u8], bundle: &[u8]) {
+        self.ask(table, Asked::Report(reports::Asked::Revisions(bundle)));
     }
 
     fn ask(&mut self, table: &[u8], default: Asked) {
@@ -346,7 +360,8 @@ mod tests {
     use super::*;
     use crate::expected::{refused, Expected};
     use crate::interface::{Gatherer, Port};
-    use crate::reports::bundles;
+    use crate::reports::bundles::{self, Sent};
+    use crate::reports::revisions::Chosen;
     use crate::stand_in::Wrong;
     use crate::tagged::tables::{special, Tags};
     use lcov_sys::{DEFAULT_TAG_NAMES, KINDS, TAGS_LEN, TAG_SLOT};
@@ -410,6 +425,10 @@ mod tests {
             answer(reports::Asked::Totals(bundle), lent)
         }
 
+        fn gather_revisions(&self, bundle: &[u8], lent: Lent) -> u32 {
+            answer(reports::Asked::Revisions(bundle), lent)
+        }
+
         fn filter_text(&self, asked: Filter, lent: Lent) -> u32 {
             answer(reports::Asked::Filter(asked), lent)
         }
@@ -461,14 +480,14 @@ mod tests {
             let tags = self
                 .loaded(table)
                 .map_err(|number| Answer { number, words });
-            let is_bundle = matches!(
-                asked,
-                Asked::Report(reports::Asked::Bundle(..) | reports::Asked::Totals(_))
-            );
-            if self.0 == Wrong::BundleFirst
-                && is_bundle
-                && bundles::decoded(asked.bytes()).is_none()
-            {
+            let is_malformed = match asked {
+                Asked::Report(reports::Asked::Bundle(..) | reports::Asked::Totals(_)) => {
+                    bundles::decoded(asked.bytes()).is_none()
+                }
+                Asked::Report(reports::Asked::Revisions(bundle)) => Chosen::of(bundle).is_err(),
+                _ => false,
+            };
+            if self.0 == Wrong::BundleFirst && is_malformed {
                 return Ok(asked.bytes().to_vec());
             }
             Ok(asked.changed(&WrongInwards(self.0, Inwards(tags?))))
@@ -536,6 +555,13 @@ mod tests {
             }
         }
 
+        fn gather_revisions_tagged(&self, tags: &[u8], bundle: &[u8], lent: Lent) -> u32 {
+            match self.0 {
+                Wrong::TableNotForRevisions => answer(reports::Asked::Revisions(bundle), lent),
+                _ => self.tell(tags, reports::Asked::Revisions(bundle), lent),
+            }
+        }
+
         fn filter_text_tagged(&self, tags: &[u8], asked: Filter, lent: Lent) -> u32 {
             self.tell(tags, reports::Asked::Filter(self.0.filter(asked)), lent)
         }
@@ -553,6 +579,18 @@ mod tests {
             pairs: vec![[1, 1]],
             used: 1,
         };
+        let sent = |revision, text| Sent {
+            run: 1,
+            revision,
+            text,
+        };
+        let [replaced, repeated] = [[1, 2, 3], [1, 2, 2]].map(|[first, second, third]| {
+            bundles::of_revisions(&[
+                sent(first, texts[2]),
+                sent(second, texts[3]),
+                sent(third, texts[0]),
+            ])
+        });
         let mut comparison = Comparison::new(StandIn(wrong), 1);
         for table in special().iter().cycle().take(400) {
             for line in texts[0].lines() {
@@ -566,6 +604,9 @@ mod tests {
             }
             comparison.bundle(table, &bundles::of(&texts[..2]));
             comparison.bundle(table, b"");
+            for bundle in [&replaced, &repeated, &texts[0].as_bytes().to_vec()] {
+                comparison.revisions(table, bundle);
+            }
         }
         comparison
     }
@@ -575,7 +616,7 @@ mod tests {
         let comparison = compared(Wrong::Nothing);
         let first = comparison.differences.shown().next();
         assert_eq!(comparison.differences.count, 0, "{}", first.unwrap());
-        for number in [0, 1, 8, 10, 16, 21, 22] {
+        for number in [0, 1, 8, 10, 16, 20, 21, 22] {
             let asked: u64 = comparison.tally.asked[number].iter().sum();
             assert!(asked > 0, "{number}");
         }
@@ -596,6 +637,7 @@ mod tests {
             Wrong::AlwaysAllStarts,
             Wrong::AlwaysDistinctStarts,
             Wrong::TableNotForPages,
+            Wrong::TableNotForRevisions,
         ];
         for wrong in Wrong::of_printing().chain(others) {
             assert!(

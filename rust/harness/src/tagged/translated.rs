@@ -2,7 +2,7 @@
 
 use super::tables::Tags;
 use crate::lines::trimmed;
-use crate::reports::bundles;
+use crate::reports::bundles::{self, Sent};
 use lcov_sys::DEFAULT_TAG_NAMES;
 
 /// Too long for a tag, so that no table has it.
@@ -32,6 +32,19 @@ pub trait Change {
         };
         let texts: Vec<Vec<u8>> = texts.into_iter().map(|text| self.text(text)).collect();
         bundles::of(&texts)
+    }
+
+    /// So with revisions; runs and revisions stay.
+    fn revisions(&self, bundle: &[u8]) -> Vec<u8> {
+        let Some(sent) = bundles::decoded_revisions(bundle) else {
+            return bundle.to_vec();
+        };
+        let changed = sent.into_iter().map(|sent| Sent {
+            text: self.text(sent.text),
+            run: sent.run,
+            revision: sent.revision,
+        });
+        bundles::of_revisions(&changed.collect::<Vec<_>>())
     }
 }
 
@@ -78,6 +91,15 @@ mod tests {
         let expected = bundles::of(&[&b"test:DA:1\r\n"[..], b"test:DA:1\r\nfile\n"]);
         assert_eq!(Outwards(HOUSE).bundle(&overlapping), expected);
         assert_eq!(Outwards(HOUSE).bundle(b"DA:1"), b"DA:1");
+        let revised = |text: &'static [u8]| {
+            bundles::of_revisions(&[Sent {
+                run: 7,
+                revision: 9,
+                text,
+            }])
+        };
+        assert_eq!(Outwards(HOUSE).revisions(&revised(text)), revised(house));
+        assert_eq!(Outwards(HOUSE).revisions(b"DA:1"), b"DA:1");
     }
 
     #[test]

@@ -1,12 +1,13 @@
-//! Texts read, bundles gathered, and their pages of totals.
+//! Texts read, bundles gathered, also with revisions, and their pages of totals.
 
 use crate::kept::Kept;
 use crate::sides::Sides;
 use crate::table::{grouped, Table, Unit, Work};
 use crate::{rust, SEED};
+use harness::reports::bundles::{self, Sent, MAX_TEXTS};
 use harness::reports::expected::Expected;
 use harness::reports::workloads::{self, Order};
-use harness::reports::{bundles, page, Asked};
+use harness::reports::{page, Asked};
 use harness::tagged::tables::{self, HOUSE};
 use harness::tagged::translated::{Change, Outwards};
 use harness::{Build, Gatherer, Rng, Tagged};
@@ -53,6 +54,7 @@ pub fn measure(sides: &Sides) {
         totals_row(&table, "one text of 60,000 entries", &bundle);
         let bundle = workloads::same_files(TEXTS, 1000);
         totals_row(&table, "50 × 1,000 entries in 250 files", &bundle);
+        revisions_rows(&table);
     }
     inner_row(&table, &workloads::filled(PROGRAM_BYTES));
 }
@@ -229,6 +231,31 @@ fn totals_row(table: &Table, what: &str, bundle: &[u8]) {
         times: 1,
         port: &|port| kept.call(|lent| port.totals(black_box(bundle), lent)),
         rust: &[("", &|| drop(black_box(rust::gather(black_box(bundle)))))],
+    });
+}
+
+/// A bundle, and the same with as many texts that are not read. The Rust gathers those that are.
+fn revisions_rows(table: &Table) {
+    let runs = MAX_TEXTS / 2;
+    let bundle = workloads::same_files(runs, 1000);
+    let what = format!("{runs} × 1,000 entries in 250 files");
+    bundle_row(table, &what, &bundle);
+    let texts = bundles::decoded(&bundle).expect("a bundle that was made");
+    let sent: Vec<Sent<&[u8]>> = [1, 2]
+        .into_iter()
+        .flat_map(|revision| {
+            (0..).zip(&texts).map(move |(run, &text)| Sent {
+                run,
+                revision,
+                text,
+            })
+        })
+        .collect();
+    let revised = bundles::of_revisions(&sent);
+    let kept = Kept::roomy(&rust::gather(&bundle));
+    let what = format!("{what}, the higher revisions of {} texts", sent.len());
+    gather_row(table, &what, &bundle, &|port| {
+        kept.call(|lent| port.gather_revisions(black_box(&revised), lent))
     });
 }
 

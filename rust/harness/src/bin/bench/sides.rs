@@ -54,10 +54,11 @@ impl Sides {
 
 /// Whether an old build may lack the call.
 fn is_added(name: &str) -> bool {
-    const ADDED: [&str; 3] = [
+    const ADDED: [&str; 4] = [
         "lcov_read_number",
         "lcov_filter_distinct_starts",
         "lcov_totals",
+        "lcov_gather_revisions",
     ];
     ADDED.contains(&name) || name.ends_with("_tagged")
 }

@@ -1,0 +1,4 @@
+pub mod Choice
+pub mod RevisionBundle
+pub mod Revisions
+pub mod Compute
