@@ -1,4 +1,4 @@
-// Texts of a bundle read one after the other and joined in one table (SPEC 5.3): all of them, or those that are marked. What becomes of the
+// Texts of a bundle read one after the other and joined in one table (SPEC 7.2): all of them, or those that are marked. What becomes of the
 // table is the caller's: it is printed, counted or thrown away.
 use merge::Joined;
 use model::Fault;
