@@ -10,7 +10,7 @@ ghost use Rattle.bundle.specs.Marks.{isMarked, NextMarked};
 ghost use Rattle.bundle.specs.Places.{partFrom, TextsInside, fitsFrom, wellFormedAs};
 
 // "n at most 64": `max-texts` in model/specs/Limits.antt.
-const MAX_TEXTS: usize = 64;
+pub const MAX_TEXTS: usize = 64;
 
 // The sizes n and T.
 pub const SIZES: usize = 8;
@@ -95,7 +95,7 @@ pub fn body_at(bundle: &[u8]) -> usize
     requires { ⌜ (8 ≤ length (now bundle)) × (textCount (now bundle) ≤ max-texts) ⌝ }
     ensures { λ r. ⌜ r ≡ 8 + 8 * textCount (now (bundle .entry)) ⌝ }
 {
-    SIZES + 8 * text_count(bundle)
+    SIZES + WIDTH * text_count(bundle)
 }
 
 // Where the i-th text lies in the bundle.

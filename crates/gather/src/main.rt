@@ -11,8 +11,7 @@ ghost use Rattle.program_io.specs.Front.{Fronts};
 use model::Fault;
 use model::WriteAnswer;
 
-// `program-input` in model/specs/Limits.antt.
-const MAX_INPUT: usize = 65_536;
+const MAX_INPUT: usize = program_io::MAX_INPUT;
 
 const SCRATCH_WORDS: usize = lcov::PROGRAM_WORDS;
 

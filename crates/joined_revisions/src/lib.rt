@@ -14,8 +14,7 @@ ghost use Rattle.text_choice.specs.Revisions.{gatherHighest};
 ghost use Rattle.joined_table.specs.Gathering.{BundleGathered};
 ghost use Rattle.joined_revisions.specs.Repeats.{repeatAt};
 
-// `max-texts` in model/specs/Limits.antt.
-const MAX_TEXTS: usize = 64;
+const MAX_TEXTS: usize = bundle::MAX_TEXTS;
 
 // Refusal 20: the i-th text repeats an earlier pair.
 fn repeated(i: usize) -> Refusal

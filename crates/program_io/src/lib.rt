@@ -9,6 +9,9 @@ ghost use Rattle.program_io.specs.Refused.{refusedLine, max-refused, pla
 use model::QueryAnswer;
 use model::Refusal;
 
+// The most bytes of standard input that a bundle may have: `program-input` in model/specs/Limits.antt.
+pub const MAX_INPUT: usize = 65_536;
+
 fn wide(byte: u8) -> usize
     ensures { λ r. ⌜ (r ≡ byte) × (r ≤ 255) ⌝ }
 {
