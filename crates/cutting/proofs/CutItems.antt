@@ -20,7 +20,7 @@ use Rattle.model.specs.Bytes.{compare_bytes}
 use Rattle.model.specs.Report.{Item, section_item, function_item, branch_item, line_item, item_key, compare_items}
 use Rattle.model.specs.Printing.{is_function, is_branch, is_line, compare_printed, functions_of}
 use Rattle.model.specs.Ranges.{holds}
-use Rattle.model.specs.Filter.{is_held, has_start, start_line, end_line_lem, held_functions, filter_items}
+use Rattle.model.specs.Filter.{is_held, has_start, start_line, end_line, held_functions, filter_items}
 use Rattle.model.proofs.KeyOrder.{bytes-order}
 use Rattle.model.proofs.ListLaws.{All, all_append, all_select, all-sort, all_map, select_append, select_all, select_none, select_sorted, select_member}
 use Rattle.model.proofs.SortLaws.{Distinct, distinct_sorted, find-sort, distinct_sort}
@@ -273,7 +273,7 @@ module _ (ranges : List Range) (choose : List Item → List Item) (chosen : (l :
 pub held-sub : (bound : Bound) (ranges : List Range) (l : List Item) → Sub (held_functions bound ranges l) l
 unfolding held_functions
 held-sub bound ranges [] = done
-held-sub bound ranges (f ∷ fs) = go (holds ranges (start_line f) (end_line_lem bound f fs)) (held-sub bound ranges fs)
+held-sub bound ranges (f ∷ fs) = go (holds ranges (start_line f) (end_line bound f fs)) (held-sub bound ranges fs)
   where
     go : (b : Bool) → Sub (held_functions bound ranges fs) fs → Sub (if b then f ∷ held_functions bound ranges fs else held_functions bound ranges fs) (f ∷ fs)
     go true s = keep s

@@ -24,7 +24,7 @@ use Rattle.model.specs.Parts.{end_in}
 use Rattle.model.specs.Report.{Extent, extent_of, given_start, end_of}
 use Rattle.model.specs.declared.Range.{Range}
 use Rattle.model.specs.Ranges.{holds}
-use Rattle.model.specs.Filter.{line_of, is_held, start_line, has_start, bounding, end_before, end_or, end_line_lem}
+use Rattle.model.specs.Filter.{line_of, is_held, start_line, has_start, bounding, end_before, end_or, end_line}
 use Rattle.model.specs.Valid.{ItemFits}
 use Rattle.table_item.specs.Items.{start_key, item_of}
 use Rattle.print_sort.specs.Sorting.{items_by}
@@ -158,7 +158,7 @@ module _ (ranges : List Range) (ws : List ℕ) (at n : ℕ) (rule : Rule) (row :
   pub stays_until : (bound : Bound) → rule ≡ Until bound → (start reckoned end : ℕ) → ((text : Bytes) → start ≡ start_line (item_of text row))
       → ((text : Bytes) → reckoned ≡ end_before (bounding bound start (items_by text ws (at + 1) (n - 1))))
       → ((text : Bytes) → end ≡ end_or reckoned (end_of (item_of text row))) → t ≡ holds ranges start end → Stays
-  unfolding end_line_lem
+  unfolding end_line
   stays_until bound e start reckoned end h i o q text =
       rw (e, ← is)
       (q

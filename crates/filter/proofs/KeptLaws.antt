@@ -13,7 +13,7 @@ use Rattle.model.specs.Printing.{print_records}
 use Rattle.table_item.specs.Items.{branch_kind, line_kind}
 use Rattle.print_sort.specs.Sorting.{items_by}
 use Rattle.print_rows.specs.Emit.{RoomFor, Emitted}
-use Rattle.print_report.specs.Printing.{head_lines, function_lines, group_lines_lem}
+use Rattle.print_report.specs.Printing.{head_lines, function_lines, group_lines}
 use Rattle.print_report.proofs.GoingLaws.{Going, going_start, going_room, going_next, going_done}
 use Rattle.filter.specs.declared.Kept.{Kept}
 use Rattle.filter.specs.Filtered.{kept_lines}
@@ -32,10 +32,10 @@ module _ {tag : Kind → Bytes} {write : Bool} {text ws out : List ℕ} {header 
   functions = function_lines tag (items_by text ws numbers kept.functions)
 
   abbrev branches : Bytes
-  branches = group_lines_lem tag branch_kind (items_by text ws (numbers + kept.functions) kept.branches)
+  branches = group_lines tag branch_kind (items_by text ws (numbers + kept.functions) kept.branches)
 
   abbrev lines : Bytes
-  lines = group_lines_lem tag line_kind (items_by text ws (numbers + kept.functions + kept.branches) kept.lines)
+  lines = group_lines tag line_kind (items_by text ws (numbers + kept.functions + kept.branches) kept.lines)
 
   abbrev end : Bytes
   end = print_records tag (end_of_record ∷ [])

@@ -23,7 +23,7 @@ use Rattle.table_item.specs.SortedItems.{items_at}
 use Rattle.print_rows.specs.Emit.{RoomFor, Emitted}
 use Rattle.print_rows.proofs.EmitLaws.{room-first}
 use Rattle.print_report.specs.declared.KindRanges.{KindRanges}
-use Rattle.print_report.specs.Printing.{entries_from, PrintableTable, AreKindRanges, SectionPrinted, head_lines, function_lines, group_lines_lem}
+use Rattle.print_report.specs.Printing.{entries_from, PrintableTable, AreKindRanges, SectionPrinted, head_lines, function_lines, group_lines}
 use Rattle.print_report.proofs.KindLaws.{next-header}
 use Rattle.print_report.proofs.SplitLaws.{section_lines, lines_of, items, items-functions, items-branches, items-lines, section_at, sections_at}
 use Rattle.print_report.proofs.TableLaws.{entries-kept}
@@ -198,14 +198,14 @@ module _ (tag : Kind → Bytes) {text ws ws' : List ℕ} {index used n lo spare 
   lines_of_items : filtered_from tag bound ranges text index n ws lo
       ≡ head_lines tag text header
       ++ (function_lines tag (functions_left bound ranges fs)
-      ++ (group_lines_lem tag branch_kind (filter (is_held ranges) bs) ++ (group_lines_lem tag line_kind (filter (is_held ranges) ls) ++ (end ++ rest))))
+      ++ (group_lines tag branch_kind (filter (is_held ranges) bs) ++ (group_lines tag line_kind (filter (is_held ranges) ls) ++ (end ++ rest))))
   lines_of_items =
       ap (λ (l : List Section). print_sections tag (map (filter_section bound ranges) l))
       (sections_at π.table kind more ρ.functions ρ.branches ρ.lines)
       ∙ filtered-lines tag bound ranges its fs bs ls F B L (section_at π.table kind more ρ.functions ρ.branches ρ.lines) refl
       (map (filter_section bound ranges) (sections (entries_from text ws index n r.lines)))
       ∙ ap₂ (λ (o : Row) (l : List Item). head_lines tag text o ++ (function_lines tag l
-      ++ (group_lines_lem tag branch_kind (filter (is_held ranges) bs) ++ (group_lines_lem tag line_kind (filter (is_held ranges) ls) ++ (end ++ rest)))))
+      ++ (group_lines tag branch_kind (filter (is_held ranges) bs) ++ (group_lines tag line_kind (filter (is_held ranges) ls) ++ (end ++ rest)))))
       (sym is) (left_again bound ranges its fs bs ls F B L)
     where
       its : List Item
@@ -226,14 +226,14 @@ module _ (tag : Kind → Bytes) {text ws ws' : List ℕ} {index used n lo spare 
   kept-is : kept_lines tag text ws' header spare kept
       ≡ head_lines tag text header
       ++ (function_lines tag (functions_left bound ranges fs)
-      ++ (group_lines_lem tag branch_kind (filter (is_held ranges) bs) ++ (group_lines_lem tag line_kind (filter (is_held ranges) ls) ++ end)))
+      ++ (group_lines tag branch_kind (filter (is_held ranges) bs) ++ (group_lines tag line_kind (filter (is_held ranges) ls) ++ end)))
   kept-is = rw (κ.functions.are, κ.branches.are, κ.lines.are)
 
   pub section-first : filtered_from tag bound ranges text index n ws lo ≡ kept_lines tag text ws' header spare kept ++ rest
   section-first =
       lines_of_items
-      ∙ regroup (head_lines tag text header) (function_lines tag (functions_left bound ranges fs)) (group_lines_lem tag branch_kind (filter (is_held ranges) bs))
-      (group_lines_lem tag line_kind (filter (is_held ranges) ls)) end rest
+      ∙ regroup (head_lines tag text header) (function_lines tag (functions_left bound ranges fs)) (group_lines tag branch_kind (filter (is_held ranges) bs))
+      (group_lines tag line_kind (filter (is_held ranges) ls)) end rest
       ∙ ap (λ (t : Bytes). t ++ rest) (sym kept-is)
 
   pub section-room : (write : Bool) (out : Bytes) (at : ℕ) → RoomFor write out at (filtered_from tag bound ranges text index n ws lo)

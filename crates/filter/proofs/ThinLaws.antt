@@ -14,7 +14,7 @@ use Rattle.model.specs.Lists.{filter, sort, concat_map}
 use Rattle.model.specs.Ranges.{holds}
 use Rattle.model.specs.Report.{Item, Report, compare_items}
 use Rattle.model.specs.Printing.{is_function, is_branch, is_line, functions_of, compare_printed, sections, print_sections}
-use Rattle.model.specs.Filter.{is_held, start_line, has_start, end_line_lem, held_functions, filter_items, filter_section}
+use Rattle.model.specs.Filter.{is_held, start_line, has_start, end_line, held_functions, filter_items, filter_section}
 use Rattle.model.proofs.ListLaws.{each_append}
 use Rattle.table_section.specs.Sections.{entries_at}
 use Rattle.print_bound.specs.Bound.{item_lines, report_most}
@@ -28,7 +28,7 @@ use Rattle.filter.specs.Filtered.{filtered_from}
 held-each-most : {B : Type 0} (f : Item → List B) (bound : Bound) (ranges : List Range) (l : List Item) → length (concat_map f (held_functions bound ranges l)) ≤ length (concat_map f l)
 unfolding concat_map held_functions
 held-each-most f bound ranges [] = omega arith
-held-each-most f bound ranges (x ∷ xs) = go (holds ranges (start_line x) (end_line_lem bound x xs)) (held-each-most f bound ranges xs)
+held-each-most f bound ranges (x ∷ xs) = go (holds ranges (start_line x) (end_line bound x xs)) (held-each-most f bound ranges xs)
   where
     go : (b : Bool) → length (concat_map f (held_functions bound ranges xs)) ≤ length (concat_map f xs)
         → length (concat_map f (if b then x ∷ held_functions bound ranges xs else held_functions bound ranges xs)) ≤ length (f x ++ concat_map f xs)

@@ -17,7 +17,7 @@ use Rattle.table_section.specs.Sections.{NamesInBounds}
 use Rattle.print_sort.specs.Sorting.{items_by}
 use Rattle.print_rows.specs.Emit.{Printable}
 use Rattle.print_report.specs.declared.KindRanges.{KindRanges}
-use Rattle.print_report.specs.Printing.{entries_from, UnchangedBefore, head_lines, function_lines, group_lines_lem}
+use Rattle.print_report.specs.Printing.{entries_from, UnchangedBefore, head_lines, function_lines, group_lines}
 use Rattle.filter.specs.declared.Kept.{Kept}
 use Rattle.filter.specs.Keeping.{Behind}
 
@@ -58,5 +58,5 @@ abbrev pub kept_lines : (tag : Kind → Bytes) → Bytes → List ℕ → Row �
 kept_lines tag text ws header numbers r =
     head_lines tag text header
     ++ (function_lines tag (items_by text ws numbers r.functions)
-    ++ (group_lines_lem tag branch_kind (items_by text ws (numbers + r.functions) r.branches)
-    ++ (group_lines_lem tag line_kind (items_by text ws (numbers + r.functions + r.branches) r.lines) ++ print_records tag (end_of_record ∷ []))))
+    ++ (group_lines tag branch_kind (items_by text ws (numbers + r.functions) r.branches)
+    ++ (group_lines tag line_kind (items_by text ws (numbers + r.functions + r.branches) r.lines) ++ print_records tag (end_of_record ∷ []))))

@@ -7,7 +7,7 @@ use Rattle.model.specs.Bytes.{Bytes}
 use Rattle.model.specs.Lists.{filter}
 use Rattle.model.specs.Report.{Item}
 use Rattle.model.specs.Ranges.{holds}
-use Rattle.model.specs.Filter.{is_held, has_start, start_line, bounding, end_before, end_line_lem, held_functions}
+use Rattle.model.specs.Filter.{is_held, has_start, start_line, bounding, end_before, end_line, held_functions}
 use Rattle.print_sort.specs.Sorting.{items_by}
 use Rattle.print_rows.specs.Emit.{Printable}
 use Rattle.print_report.specs.Printing.{UnchangedBefore}
@@ -25,7 +25,7 @@ chosen (Until bound) ranges items = held_functions bound ranges items
 abbrev pub keeps : Rule → List Range → Item → List Item → Bool
 keeps Started ranges item behind = has_start item
 keeps Held ranges item behind = is_held ranges item
-keeps (Until bound) ranges item behind = holds ranges (start_line item) (end_line_lem bound item behind)
+keeps (Until bound) ranges item behind = holds ranges (start_line item) (end_line bound item behind)
 
 -- where the next greater start bounds functions: the end reckoned for the row looked at last is the one that the rows not looked at yet give
 abbrev pub Ahead : Rule → Looked → List Item → Type 0

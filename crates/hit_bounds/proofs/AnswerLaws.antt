@@ -18,7 +18,7 @@ use Rattle.model.specs.Gather.{entry_limit}
 use Rattle.model_bounds.specs.declared.BoundsAnswer.{BoundsAnswer}
 use Rattle.model_bounds.specs.declared.BoundsAnswer.TheVariants as B
 use Rattle.model_bounds.specs.declared.Hits.{Hits}
-use Rattle.model_bounds.specs.Bounds.{Bounds, same_keys_lem, counts_rise, hits_of, bounds, hit_bounds, bounds_answer}
+use Rattle.model_bounds.specs.Bounds.{Bounds, same_keys, counts_rise, hits_of, bounds, hit_bounds, bounds_answer}
 use Rattle.table_section.specs.Sections.{entries_at, Sections}
 use Rattle.section.specs.Reading.{capacity}
 use Rattle.report_parser.specs.declared.TextAnswer.{TextAnswer}
@@ -33,11 +33,11 @@ use Rattle.hit_bounds.specs.Pairs.{Kept, ReadRest, bounds_behind}
 -- ---- two reports
 
 module _ (low high : Report) where
-  pub other_keys : same_keys_lem low high ≡ false → (r : Refusal) → r ≡ unplaced DifferentKeys → B.Refused r ≡ bounds_answer (bounds low high)
+  pub other_keys : same_keys low high ≡ false → (r : Refusal) → r ≡ unplaced DifferentKeys → B.Refused r ≡ bounds_answer (bounds low high)
   unfolding bounds
   other_keys k r e = rw (e, k)
 
-  module _ (same : same_keys_lem low high ≡ true) where
+  module _ (same : same_keys low high ≡ true) where
     pub count_above : counts_rise low high ≡ false → (r : Refusal) → r ≡ unplaced LeastAboveGreatest → B.Refused r ≡ bounds_answer (bounds low high)
     unfolding bounds
     count_above c r e = rw (e, same, c)

@@ -18,7 +18,7 @@ use Rattle.model.specs.Printing.{is_function, is_branch, is_line, hits}
 use Rattle.model.proofs.ListLaws.{select_append, select_length}
 use Rattle.model_totals.proofs.HitLaws.{one, hit-step, hits-append, hits_at_most}
 use Rattle.model_bounds.specs.declared.Hits.{Hits}
-use Rattle.model_bounds.specs.Bounds.{items_of, hits_in, same_keys_lem, counts_rise, hits_of}
+use Rattle.model_bounds.specs.Bounds.{items_of, hits_in, same_keys, counts_rise, hits_of}
 use Rattle.table.specs.declared.Row.{Row}
 use Rattle.table.specs.Store.{row}
 use Rattle.table.specs.Places.{tabulate}
@@ -46,53 +46,53 @@ pub key_at_lem : (a b : Bytes) (x y x' y' : Row) (r : Bool) → x ≡ x' → y �
     → (t : Bool) → r ≡ t → compare_is_eq (compare_keys (entry_key (entry_of a x')) (entry_key (entry_of b y'))) ≡ t
 key_at_lem a b x y x' y' r p q e t f = rw (← p, ← q) (sym e ∙ f)
 
-keys-all : (f g : ℕ → Entry) (n : ℕ) → ((k : ℕ) → k < n → same_at f g k ≡ true) → same_keys_lem (tabulate f n) (tabulate g n) ≡ true
-unfolding same_keys_lem tabulate
+keys-all : (f g : ℕ → Entry) (n : ℕ) → ((k : ℕ) → k < n → same_at f g k ≡ true) → same_keys (tabulate f n) (tabulate g n) ≡ true
+unfolding same_keys tabulate
 keys-all f g zero h = refl
 keys-all f g (suc n) h = rw (h 0 (omega arith)) (keys-all (λ i. f (suc i)) (λ i. g (suc i)) n (λ k l. h (suc k) (omega arith)))
 
-keys_not : (f g : ℕ → Entry) (n k : ℕ) → k < n → same_at f g k ≡ false → same_keys_lem (tabulate f n) (tabulate g n) ≡ false
-unfolding same_keys_lem tabulate
+keys_not : (f g : ℕ → Entry) (n k : ℕ) → k < n → same_at f g k ≡ false → same_keys (tabulate f n) (tabulate g n) ≡ false
+unfolding same_keys tabulate
 keys_not f g zero k l h = absurd (omega arith)
 keys_not f g (suc n) zero l h = rw h
 keys_not f g (suc n) (suc k) l h = go (same_at f g 0) (keys_not (λ i. f (suc i)) (λ i. g (suc i)) n k (omega arith) h)
   where
-    go : (t : Bool) → same_keys_lem (tabulate (λ i. f (suc i)) n) (tabulate (λ i. g (suc i)) n) ≡ false
-        → (t && same_keys_lem (tabulate (λ i. f (suc i)) n) (tabulate (λ i. g (suc i)) n)) ≡ false
+    go : (t : Bool) → same_keys (tabulate (λ i. f (suc i)) n) (tabulate (λ i. g (suc i)) n) ≡ false
+        → (t && same_keys (tabulate (λ i. f (suc i)) n) (tabulate (λ i. g (suc i)) n)) ≡ false
     go true e = e
     go false e = refl
 
-keys-other : (f g : ℕ → Entry) (n m : ℕ) → n ≢ m → same_keys_lem (tabulate f n) (tabulate g m) ≡ false
-unfolding same_keys_lem tabulate
+keys-other : (f g : ℕ → Entry) (n m : ℕ) → n ≢ m → same_keys (tabulate f n) (tabulate g m) ≡ false
+unfolding same_keys tabulate
 keys-other f g zero zero h = absurd (h refl)
 keys-other f g zero (suc m) h = refl
 keys-other f g (suc n) zero h = refl
 keys-other f g (suc n) (suc m) h = go (same_at f g 0) (keys-other (λ i. f (suc i)) (λ i. g (suc i)) n m (λ e. h (ap suc e)))
   where
-    go : (t : Bool) → same_keys_lem (tabulate (λ i. f (suc i)) n) (tabulate (λ i. g (suc i)) m) ≡ false
-        → (t && same_keys_lem (tabulate (λ i. f (suc i)) n) (tabulate (λ i. g (suc i)) m)) ≡ false
+    go : (t : Bool) → same_keys (tabulate (λ i. f (suc i)) n) (tabulate (λ i. g (suc i)) m) ≡ false
+        → (t && same_keys (tabulate (λ i. f (suc i)) n) (tabulate (λ i. g (suc i)) m)) ≡ false
     go true e = e
     go false e = refl
 
-pub keys-long : (f g : ℕ → Entry) (n m : ℕ) → n ≢ m → false ≡ same_keys_lem (tabulate f n) (tabulate g m)
+pub keys-long : (f g : ℕ → Entry) (n m : ℕ) → n ≢ m → false ≡ same_keys (tabulate f n) (tabulate g m)
 keys-long f g n m h = sym (keys-other f g n m h)
 
-pub keys_differ : (f g : ℕ → Entry) (n m k : ℕ) → n ≡ m → k < n → same_at f g k ≡ false → false ≡ same_keys_lem (tabulate f n) (tabulate g m)
+pub keys_differ : (f g : ℕ → Entry) (n m k : ℕ) → n ≡ m → k < n → same_at f g k ≡ false → false ≡ same_keys (tabulate f n) (tabulate g m)
 keys_differ f g n m k e l h = rw (← e) (sym (keys_not f g n k l h))
 
-pub keys-same : (f g : ℕ → Entry) (n m i : ℕ) → n ≡ m → n ≤ i → ((k : ℕ) → k < i → same_at f g k ≡ true) → true ≡ same_keys_lem (tabulate f n) (tabulate g m)
+pub keys-same : (f g : ℕ → Entry) (n m i : ℕ) → n ≡ m → n ≤ i → ((k : ℕ) → k < i → same_at f g k ≡ true) → true ≡ same_keys (tabulate f n) (tabulate g m)
 keys-same f g n m i e l h = rw (← e) (sym (keys-all f g n (λ k o. h k (omega arith))))
 
 -- lists with the same keys are equally long
-pub same_length : (f g : ℕ → Entry) (n m : ℕ) → same_keys_lem (tabulate f n) (tabulate g m) ≡ true → n ≡ m
-unfolding same_keys_lem tabulate
+pub same_length : (f g : ℕ → Entry) (n m : ℕ) → same_keys (tabulate f n) (tabulate g m) ≡ true → n ≡ m
+unfolding same_keys tabulate
 same_length f g zero zero h = refl
 same_length f g zero (suc m) h = impossible cc
 same_length f g (suc n) zero h = impossible cc
 same_length f g (suc n) (suc m) h = ap suc (same_length (λ i. f (suc i)) (λ i. g (suc i)) n m (go (same_at f g 0) h))
   where
-    go : (t : Bool) → (t && same_keys_lem (tabulate (λ i. f (suc i)) n) (tabulate (λ i. g (suc i)) m)) ≡ true
-        → same_keys_lem (tabulate (λ i. f (suc i)) n) (tabulate (λ i. g (suc i)) m) ≡ true
+    go : (t : Bool) → (t && same_keys (tabulate (λ i. f (suc i)) n) (tabulate (λ i. g (suc i)) m)) ≡ true
+        → same_keys (tabulate (λ i. f (suc i)) n) (tabulate (λ i. g (suc i)) m) ≡ true
     go true e = e
     go false e = impossible cc
 

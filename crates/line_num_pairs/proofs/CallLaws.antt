@@ -14,7 +14,7 @@ use Rattle.model.specs.Answer.{unplaced, accepted, refuse}
 use Rattle.model.specs.Ranges.{well_formed_ranges, join_into, insert_range, insert_call, slice_after, holds, query_call}
 use Rattle.model.specs.Calls.{insert_answer, query_answer}
 use Rattle.table.specs.Places.{PartitionPoint}
-use Rattle.line_num_pairs.specs.Pairs.{pair, range_at_lem, span, ranges_in, EndsBefore, Cleared, replaced_by, filled_up}
+use Rattle.line_num_pairs.specs.Pairs.{pair, range_at, span, ranges_in, EndsBefore, Cleared, replaced_by, filled_up}
 use Rattle.line_num_pairs.proofs.SpanLaws.{length-span, ranges-length}
 use Rattle.line_num_pairs.proofs.WellLaws.{well_inside}
 use Rattle.line_num_pairs.proofs.JoinLaws.{inserted, dropped, length-replaced, cleared_list}
@@ -64,35 +64,35 @@ module _ (ps : List (List ℕ)) (used : ℕ) (r : Range) (well : well_formed_ran
   fits-slice h = rw (call_fits h, ranges-length ps)
 
 module _ (ps : List (List ℕ)) (used start end : ℕ) (well : well_formed_ranges (ranges_in ps) used ≡ true) (turned : end < start) where
-  list : insert_range (pair start end) (take used (ranges_in ps)) ≡ span (range_at_lem ps) 0 used
+  list : insert_range (pair start end) (take used (ranges_in ps)) ≡ span (range_at ps) 0 used
   list = dropped ps used start end (well_inside ps used well) turned
 
   pub dropped_answer : Insert.Used used ≡ insert_answer (insert_call (ranges_in ps) used (pair start end))
-  dropped_answer = fits_answer ps used (pair start end) well (span (range_at_lem ps) 0 used) used list (length-span (range_at_lem ps) 0 used) (well_inside ps used well)
+  dropped_answer = fits_answer ps used (pair start end) well (span (range_at ps) 0 used) used list (length-span (range_at ps) 0 used) (well_inside ps used well)
 
-  pub dropped-slice : (ps' : List (List ℕ)) → length ps' ≡ length ps → Cleared (range_at_lem ps) (range_at_lem ps') used (length ps)
+  pub dropped-slice : (ps' : List (List ℕ)) → length ps' ≡ length ps → Cleared (range_at ps) (range_at ps') used (length ps)
       → ranges_in ps' ≡ slice_after (insert_call (ranges_in ps) used (pair start end)) (ranges_in ps)
   dropped-slice ps' l κ =
       cleared_list ps ps' used l (well_inside ps used well) κ
-      ∙ ap (λ (n : ℕ). span (range_at_lem ps) 0 used ++ replicate (length ps - n) (pair 0 0)) (sym (length-span (range_at_lem ps) 0 used))
-      ∙ fits-slice ps used (pair start end) well (span (range_at_lem ps) 0 used) used list (length-span (range_at_lem ps) 0 used) (well_inside ps used well)
+      ∙ ap (λ (n : ℕ). span (range_at ps) 0 used ++ replicate (length ps - n) (pair 0 0)) (sym (length-span (range_at ps) 0 used))
+      ∙ fits-slice ps used (pair start end) well (span (range_at ps) 0 used) used list (length-span (range_at ps) 0 used) (well_inside ps used well)
 
 -- the pairs from first up to past are those that the range is joined with
 pub record Meets (ps : List (List ℕ)) (used start end first : ℕ) (r : Range) (past : ℕ) : Type 0 where
   pub well : well_formed_ranges (ranges_in ps) used ≡ true
   pub right : start ≤ end
   pub cut : PartitionPoint (EndsBefore ps start) used first
-  pub joined : join_into (pair start end) (span (range_at_lem ps) first (used - first)) ≡ r ∷ span (range_at_lem ps) past (used - past)
+  pub joined : join_into (pair start end) (span (range_at ps) first (used - first)) ≡ r ∷ span (range_at ps) past (used - past)
 
 module _ (ps : List (List ℕ)) (used start end first : ℕ) (r : Range) (past : ℕ) (μ : Meets ps used start end first r past) where
-  list_of : insert_range (pair start end) (take used (ranges_in ps)) ≡ replaced_by (range_at_lem ps) used first r past
+  list_of : insert_range (pair start end) (take used (ranges_in ps)) ≡ replaced_by (range_at ps) used first r past
   list_of = inserted ps used start end first r past (well_inside ps used μ.well) μ.right μ.cut μ.joined
 
   abbrev ranges : List Range
-  ranges = replaced_by (range_at_lem ps) used first r past
+  ranges = replaced_by (range_at ps) used first r past
 
   long : length ranges ≡ first + 1 + (used - past)
-  long = length-replaced (range_at_lem ps) used first r past
+  long = length-replaced (range_at ps) used first r past
 
   module _ (full : length ps < first + 1 + (used - past)) where
     too_many : insert_call (ranges_in ps) used (pair start end) ≡ refuse RangesFull

@@ -6,7 +6,7 @@ use mathlib.Core.List.{List}
 use Rattle.model.specs.declared.Range.{Range}
 use Rattle.table.proofs.PlaceLaws.{by-eq, by-lt}
 use Rattle.table.proofs.WordLaws.{Next}
-use Rattle.line_num_pairs.specs.Pairs.{pair, range_at_lem, RangePlaced, Carried, Cleared}
+use Rattle.line_num_pairs.specs.Pairs.{pair, range_at, RangePlaced, Carried, Cleared}
 
 pub carried_none : (f : ℕ → Range) (from to n : ℕ) → n ≡ 0 → Carried f f from to n
 carried_none f from to n e = record {
@@ -26,12 +26,12 @@ carried_one {f} {g} {h} {p = p} {q = q} {r = r} ν κ π is same = record {
 }
 
 module _ (ps₀ ps ps' : List (List ℕ)) (from to n i : ℕ) (r : Range) where
-  pub down_next : to ≤ from → Carried (range_at_lem ps₀) (range_at_lem ps) from to i → r ≡ range_at_lem ps (from + i)
-      → RangePlaced (range_at_lem ps) (range_at_lem ps') (to + i) r → Carried (range_at_lem ps₀) (range_at_lem ps') from to (i + 1)
+  pub down_next : to ≤ from → Carried (range_at ps₀) (range_at ps) from to i → r ≡ range_at ps (from + i)
+      → RangePlaced (range_at ps) (range_at ps') (to + i) r → Carried (range_at ps₀) (range_at ps') from to (i + 1)
   down_next h κ is π = carried_one {p = from + i} (omega arith) κ π is (κ.above (from + i) (omega arith))
 
-  pub up_next : from ≤ to → i ≤ n → 0 < i → Carried (range_at_lem ps₀) (range_at_lem ps) (from + i) (to + i) (n - i) → r ≡ range_at_lem ps (from + (i - 1))
-      → RangePlaced (range_at_lem ps) (range_at_lem ps') (to + (i - 1)) r → Carried (range_at_lem ps₀) (range_at_lem ps') (from + (i - 1)) (to + (i - 1)) (n - (i - 1))
+  pub up_next : from ≤ to → i ≤ n → 0 < i → Carried (range_at ps₀) (range_at ps) (from + i) (to + i) (n - i) → r ≡ range_at ps (from + (i - 1))
+      → RangePlaced (range_at ps) (range_at ps') (to + (i - 1)) r → Carried (range_at ps₀) (range_at ps') (from + (i - 1)) (to + (i - 1)) (n - (i - 1))
   up_next h l m κ is π = carried_one {p = from + (i - 1)} (omega arith) κ π is (κ.below (from + (i - 1)) (omega arith))
 
 -- the same move, its places and number by equations
@@ -47,16 +47,16 @@ cleared_none f from = record {
   above = λ k h. refl;
 }
 
-pub cleared_next : (ps₀ ps ps' : List (List ℕ)) (from k : ℕ) → from ≤ k → Cleared (range_at_lem ps₀) (range_at_lem ps) from k
-    → RangePlaced (range_at_lem ps) (range_at_lem ps') k (pair 0 0) → Cleared (range_at_lem ps₀) (range_at_lem ps') from (k + 1)
+pub cleared_next : (ps₀ ps ps' : List (List ℕ)) (from k : ℕ) → from ≤ k → Cleared (range_at ps₀) (range_at ps) from k
+    → RangePlaced (range_at ps) (range_at ps') k (pair 0 0) → Cleared (range_at ps₀) (range_at ps') from (k + 1)
 cleared_next ps₀ ps ps' from k h κ π = record {
   zeros = λ j l m. by-eq j k (λ x. rw x π.there) (λ x. π.others j x ∙ κ.zeros j l (omega arith));
   below = λ j l. π.others j (omega arith) ∙ κ.below j l;
   above = λ j l. π.others j (omega arith) ∙ κ.above j (omega arith);
 }
 
-pub cleared_done : (ps₀ ps : List (List ℕ)) (from k end : ℕ) → Cleared (range_at_lem ps₀) (range_at_lem ps) from k → k ≤ max from end → end ≤ k
-    → Cleared (range_at_lem ps₀) (range_at_lem ps) from end
+pub cleared_done : (ps₀ ps : List (List ℕ)) (from k end : ℕ) → Cleared (range_at ps₀) (range_at ps) from k → k ≤ max from end → end ≤ k
+    → Cleared (range_at ps₀) (range_at ps) from end
 cleared_done ps₀ ps from k end κ m h = record {
   zeros = λ j l n. κ.zeros j l (omega arith);
   below = κ.below;

@@ -14,7 +14,7 @@ use Rattle.model.specs.Ranges.{well_formed_ranges, holds}
 use Rattle.table.specs.Places.{PartitionPoint}
 use Rattle.table.proofs.PlaceLaws.{by-eq, by-lt}
 use Rattle.table.proofs.BinarySearch.{by-test}
-use Rattle.line_num_pairs.specs.Pairs.{range_at_lem, span, ranges_in, EndsBefore}
+use Rattle.line_num_pairs.specs.Pairs.{range_at, span, ranges_in, EndsBefore}
 use Rattle.line_num_pairs.proofs.SpanLaws.{used-span}
 use Rattle.line_num_pairs.proofs.WellLaws.{Rising, well_inside, well_rising}
 
@@ -44,34 +44,34 @@ module _ (ps : List (List ℕ)) (used s e first : ℕ) (well : well_formed_range
   abbrev asked : Range → Bool
   asked r = leb r.start e && leb s r.end
 
-  ended-before : (k : ℕ) → k < first → asked (range_at_lem ps k) ≡ false
+  ended-before : (k : ℕ) → k < first → asked (range_at ps k) ≡ false
   ended-before k h =
-      and_last (leb (range_at_lem ps k).start e) (leb s (range_at_lem ps k).end)
-      (lt-leb s (range_at_lem ps k).end (omega (arith, ltb-true (suc (range_at_lem ps k).end) (s + 1) (cut.past k h))))
+      and_last (leb (range_at ps k).start e) (leb s (range_at ps k).end)
+      (lt-leb s (range_at ps k).end (omega (arith, ltb-true (suc (range_at ps k).end) (s + 1) (cut.past k h))))
 
   pub holds-none : first ≡ used → false ≡ holds (take used (ranges_in ps)) s e
   unfolding holds
   holds-none h =
       rw (used-span ps used (well_inside ps used well))
-      (sym (any_none asked (range_at_lem ps) 0 used (λ k l m. ended-before k (omega arith))))
+      (sym (any_none asked (range_at ps) 0 used (λ k l m. ended-before k (omega arith))))
 
-  pub holds-first : first ≢ used → (r : Range) → r ≡ range_at_lem ps first → leb r.start e ≡ holds (take used (ranges_in ps)) s e
+  pub holds-first : first ≢ used → (r : Range) → r ≡ range_at ps first → leb r.start e ≡ holds (take used (ranges_in ps)) s e
   unfolding holds
   holds-first n r is =
       rw (used-span ps used (well_inside ps used well), is)
-      (by-test (leb (range_at_lem ps first).start e)
-      (λ t. t ∙ sym (any_some asked (range_at_lem ps) 0 used first (omega arith) (omega (arith, cut.most)) (rw t (le-leb s (range_at_lem ps first).end reaches))))
-      (λ t. t ∙ sym (any_none asked (range_at_lem ps) 0 used (λ k l m. by-lt k first
+      (by-test (leb (range_at ps first).start e)
+      (λ t. t ∙ sym (any_some asked (range_at ps) 0 used first (omega arith) (omega (arith, cut.most)) (rw t (le-leb s (range_at ps first).end reaches))))
+      (λ t. t ∙ sym (any_none asked (range_at ps) 0 used (λ k l m. by-lt k first
       (λ h. ended-before k h)
-      (λ h. let u : leb (range_at_lem ps k).start e ≡ false = lt-leb (range_at_lem ps k).start e (behind k h (omega arith) (leb-false (range_at_lem ps first).start e t)) in rw u)))))
+      (λ h. let u : leb (range_at ps k).start e ≡ false = lt-leb (range_at ps k).start e (behind k h (omega arith) (leb-false (range_at ps first).start e t)) in rw u)))))
     where
-      ρ : Rising (range_at_lem ps) used
+      ρ : Rising (range_at ps) used
       ρ = well_rising ps used well
 
-      reaches : s ≤ (range_at_lem ps first).end
-      reaches = omega (arith, ltb-false (suc (range_at_lem ps first).end) (s + 1) (cut.rest first (omega arith) (omega (arith, cut.most))))
+      reaches : s ≤ (range_at ps first).end
+      reaches = omega (arith, ltb-false (suc (range_at ps first).end) (s + 1) (cut.rest first (omega arith) (omega (arith, cut.most))))
 
-      behind : (k : ℕ) → first ≤ k → k < used → e < (range_at_lem ps first).start → e < (range_at_lem ps k).start
+      behind : (k : ℕ) → first ≤ k → k < used → e < (range_at ps first).start → e < (range_at ps k).start
       behind k h l p =
           by-eq first k
           (λ z. rw z at p)

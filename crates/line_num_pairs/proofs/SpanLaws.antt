@@ -8,7 +8,7 @@ use lib.Seq.{get_or-set_same, get_or-set_other}
 use Rattle.model.specs.declared.Range.{Range}
 use Rattle.model.specs.Ranges.{half_open}
 use Rattle.table.specs.Places.{Shifted}
-use Rattle.line_num_pairs.specs.Pairs.{pair, range_at_lem, span, ranges_in, RangePlaced}
+use Rattle.line_num_pairs.specs.Pairs.{pair, range_at, span, ranges_in, RangePlaced}
 
 pub half_none : (a b : ℕ) → b ≡ 0 → pair a 0 ≡ half_open a b
 unfolding half_open
@@ -47,16 +47,16 @@ span-zeros f i zero h = refl
 span-zeros f i (suc n) h = ap₂ ◌∷◌ (h i (omega arith) (omega arith)) (span-zeros f (suc i) n (λ k l m. h k (omega arith) (omega arith)))
 
 -- the pairs used are the first of the slice
-pub used-span : (ps : List (List ℕ)) (used : ℕ) → used ≤ length ps → take used (ranges_in ps) ≡ span (range_at_lem ps) 0 used
+pub used-span : (ps : List (List ℕ)) (used : ℕ) → used ≤ length ps → take used (ranges_in ps) ≡ span (range_at ps) 0 used
 unfolding ranges_in
-used-span ps used h = take-span (range_at_lem ps) 0 used (length ps) h
+used-span ps used h = take-span (range_at ps) 0 used (length ps) h
 
 pub ranges-length : (ps : List (List ℕ)) → length (ranges_in ps) ≡ length ps
 unfolding ranges_in
-ranges-length ps = length-span (range_at_lem ps) 0 (length ps)
+ranges-length ps = length-span (range_at ps) 0 (length ps)
 
 -- a pair that is written
-pub pair_placed : (ps : List (List ℕ)) (k start end : ℕ) → k < length ps → RangePlaced (range_at_lem ps) (range_at_lem (set ps k (start ∷ end ∷ []))) k (pair start end)
+pub pair_placed : (ps : List (List ℕ)) (k start end : ℕ) → k < length ps → RangePlaced (range_at ps) (range_at (set ps k (start ∷ end ∷ []))) k (pair start end)
 pair_placed ps k start end h = record {
   there = rw (get_or-set_same ps k (start ∷ end ∷ []) [] h);
   others = λ j n. rw (get_or-set_other ps k j (start ∷ end ∷ []) [] n);

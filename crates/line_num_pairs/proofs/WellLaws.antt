@@ -14,7 +14,7 @@ use Rattle.model.proofs.ListLaws.{and_left, and_right}
 use Rattle.table.proofs.PlaceLaws.{by-eq}
 use Rattle.table.specs.Places.{SearchBounds}
 use Rattle.table.proofs.BinarySearch.{Falling, bounds-up, bounds_down}
-use Rattle.line_num_pairs.specs.Pairs.{range_at_lem, span, ranges_in, EndsBefore}
+use Rattle.line_num_pairs.specs.Pairs.{range_at, span, ranges_in, EndsBefore}
 use Rattle.line_num_pairs.proofs.SpanLaws.{used-span, ranges-length}
 
 -- n pairs from place i on are well formed, the first start at least least
@@ -57,19 +57,19 @@ pub well_short : (ps : List (List ℕ)) (used : ℕ) → length ps < used → fa
 unfolding well_formed_ranges
 well_short ps used h = sym (rw (ranges-length ps, lt-leb used (length ps) h))
 
-pub well_start : (ps : List (List ℕ)) (used : ℕ) → used ≤ length ps → well_formed_ranges (ranges_in ps) used ≡ ascending_from (range_at_lem ps) 0 0 (used - 0)
+pub well_start : (ps : List (List ℕ)) (used : ℕ) → used ≤ length ps → well_formed_ranges (ranges_in ps) used ≡ ascending_from (range_at ps) 0 0 (used - 0)
 unfolding well_formed_ranges
 well_start ps used h =
     let e : used - 0 ≡ used = omega arith in
-    rw (ranges-length ps, le-leb used (length ps) h, used-span ps used h, e) (ascending-from (range_at_lem ps) 0 0 used (omega arith))
+    rw (ranges-length ps, le-leb used (length ps) h, used-span ps used h, e) (ascending-from (range_at ps) 0 0 used (omega arith))
 
-module _ (ps : List (List ℕ)) (used least k : ℕ) (so_far : well_formed_ranges (ranges_in ps) used ≡ ascending_from (range_at_lem ps) least k (used - k)) where
+module _ (ps : List (List ℕ)) (used least k : ℕ) (so_far : well_formed_ranges (ranges_in ps) used ≡ ascending_from (range_at ps) least k (used - k)) where
   pub well_done : used ≤ k → true ≡ well_formed_ranges (ranges_in ps) used
   unfolding ascending_from
   well_done h = let e : used - k ≡ 0 = omega arith in sym (so_far ∙ rw e)
 
-  module _ (more : k < used) (r : Range) (is : r ≡ range_at_lem ps k) where
-    one_more : well_formed_ranges (ranges_in ps) used ≡ (leb least r.start && leb r.start r.end && ascending_from (range_at_lem ps) (r.end + 2) (k + 1) (used - (k + 1)))
+  module _ (more : k < used) (r : Range) (is : r ≡ range_at ps k) where
+    one_more : well_formed_ranges (ranges_in ps) used ≡ (leb least r.start && leb r.start r.end && ascending_from (range_at ps) (r.end + 2) (k + 1) (used - (k + 1)))
     unfolding ascending_from
     one_more = let e : used - k ≡ suc (used - (k + 1)) = omega arith in so_far ∙ rw (e, add-one k, is)
 
@@ -80,7 +80,7 @@ module _ (ps : List (List ℕ)) (used least k : ℕ) (so_far : well_formed_range
       pub well_turned : r.end < r.start → false ≡ well_formed_ranges (ranges_in ps) used
       well_turned h = sym (one_more ∙ rw (le-leb least r.start high, lt-leb r.start r.end h))
 
-      pub well_next : r.start ≤ r.end → well_formed_ranges (ranges_in ps) used ≡ ascending_from (range_at_lem ps) (r.end + 2) (k + 1) (used - (k + 1))
+      pub well_next : r.start ≤ r.end → well_formed_ranges (ranges_in ps) used ≡ ascending_from (range_at ps) (r.end + 2) (k + 1) (used - (k + 1))
       well_next h = one_more ∙ rw (le-leb least r.start high, le-leb r.start r.end h)
 
 -- ---- place by place
@@ -122,35 +122,35 @@ pub well_inside : (ps : List (List ℕ)) (used : ℕ) → well_formed_ranges (ra
 unfolding well_formed_ranges
 well_inside ps used e = rw (ranges-length ps) at (leb-true used (length (ranges_in ps)) (and_left (leb used (length (ranges_in ps))) (ascending (take used (ranges_in ps))) e))
 
-pub well_rising : (ps : List (List ℕ)) (used : ℕ) → well_formed_ranges (ranges_in ps) used ≡ true → Rising (range_at_lem ps) used
+pub well_rising : (ps : List (List ℕ)) (used : ℕ) → well_formed_ranges (ranges_in ps) used ≡ true → Rising (range_at ps) used
 well_rising ps used e =
     let z : used - 0 ≡ used = omega arith in
-    let a : ascending_from (range_at_lem ps) 0 0 used ≡ true = rw z at (sym (well_start ps used (well_inside ps used e)) ∙ e) in
+    let a : ascending_from (range_at ps) 0 0 used ≡ true = rw z at (sym (well_start ps used (well_inside ps used e)) ∙ e) in
     record {
-      each = λ k h. (rising-each (range_at_lem ps) 0 0 used a k (omega arith) (omega arith)).1;
-      apart = λ k j h l. rising-apart (range_at_lem ps) 0 0 used a k j (omega arith) h (omega arith);
+      each = λ k h. (rising-each (range_at ps) 0 0 used a k (omega arith) (omega arith)).1;
+      apart = λ k j h l. rising-apart (range_at ps) 0 0 used a k j (omega arith) h (omega arith);
     }
 
 -- those that end before a line are the first
 pub ends_fall : (ps : List (List ℕ)) (used line : ℕ) → well_formed_ranges (ranges_in ps) used ≡ true → Falling (EndsBefore ps line) used
 ends_fall ps used line e k j l h t =
     let ρ = well_rising ps used e in
-    let before : suc (range_at_lem ps j).end < line = ltb-true (suc (range_at_lem ps j).end) line t in
+    let before : suc (range_at ps j).end < line = ltb-true (suc (range_at ps j).end) line t in
     by-eq k j
     (λ z. rw z t)
-    (λ z. lt-ltb (suc (range_at_lem ps k).end) line (omega (arith, ρ.apart k j (omega arith) h, ρ.each j h)))
+    (λ z. lt-ltb (suc (range_at ps k).end) line (omega (arith, ρ.apart k j (omega arith) h, ρ.each j h)))
 
 module _ (ps : List (List ℕ)) (used line lo hi : ℕ) (well : well_formed_ranges (ranges_in ps) used ≡ true) (η : SearchBounds (EndsBefore ps line) used lo hi) (open-still : lo < hi)
-    (r : Range) (is : r ≡ range_at_lem ps (lo + (hi - lo) / 2)) where
-  ended : r.end ≡ (range_at_lem ps (lo + (hi - lo) / 2)).end
+    (r : Range) (is : r ≡ range_at ps (lo + (hi - lo) / 2)) where
+  ended : r.end ≡ (range_at ps (lo + (hi - lo) / 2)).end
   ended = ap (λ (x : Range). x.end) is
 
   pub ends-up : r.end + 1 < line → SearchBounds (EndsBefore ps line) used (lo + (hi - lo) / 2 + 1) hi
   ends-up h =
       bounds-up (ends_fall ps used line well) η (lo + (hi - lo) / 2) (omega arith) (omega arith)
-      (lt-ltb (suc (range_at_lem ps (lo + (hi - lo) / 2)).end) line (omega (arith, ended)))
+      (lt-ltb (suc (range_at ps (lo + (hi - lo) / 2)).end) line (omega (arith, ended)))
 
   pub ends_down : line ≤ r.end + 1 → SearchBounds (EndsBefore ps line) used lo (lo + (hi - lo) / 2)
   ends_down h =
       bounds_down (ends_fall ps used line well) η (lo + (hi - lo) / 2) (omega arith) (omega arith)
-      (le-ltb (suc (range_at_lem ps (lo + (hi - lo) / 2)).end) line (omega (arith, ended)))
+      (le-ltb (suc (range_at ps (lo + (hi - lo) / 2)).end) line (omega (arith, ended)))

@@ -7,8 +7,8 @@ abbrev pub pair : ℕ → ℕ → Range
 pair start end = record { start = start; end = end }
 
 -- the pair at place k
-abbrev pub range_at_lem : List (List ℕ) → ℕ → Range
-range_at_lem pairs k = pair (get_or (get_or pairs k []) 0 0) (get_or (get_or pairs k []) 1 0)
+abbrev pub range_at : List (List ℕ) → ℕ → Range
+range_at pairs k = pair (get_or (get_or pairs k []) 0 0) (get_or (get_or pairs k []) 1 0)
 
 -- f i, f (i + 1) and so on, n of them
 unfoldable pub span : (ℕ → Range) → ℕ → ℕ → List Range
@@ -17,11 +17,11 @@ span f i (suc n) = f i ∷ span f (suc i) n
 
 -- the slice as ranges
 unfoldable pub ranges_in : List (List ℕ) → List Range
-ranges_in pairs = span (range_at_lem pairs) 0 (length pairs)
+ranges_in pairs = span (range_at pairs) 0 (length pairs)
 
 -- the pair at a place ends more than one line before a line
 abbrev pub EndsBefore : List (List ℕ) → ℕ → ℕ → Bool
-EndsBefore pairs line k = ltb (suc (range_at_lem pairs k).end) line
+EndsBefore pairs line k = ltb (suc (range_at pairs k).end) line
 
 module _ (f g : ℕ → Range) where
   -- r is at position i; the others are unchanged

@@ -15,7 +15,7 @@ use Rattle.model.specs.Order.{if◌then◌else◌}
 use Rattle.model.specs.Bytes.{Bytes, ascii, newline, return, comma, colon, same_bytes, before, after, onto, split, Free}
 use Rattle.model.specs.Answer.{Answer, accepted, refused, ◌>>=◌, refuse, refuse_field}
 use Rattle.model.specs.Limits.{u32_max, u64_max}
-use Rattle.model.specs.Number.{is_digit_lem, read_digits, read_number}
+use Rattle.model.specs.Number.{is_digit, read_digits, read_number}
 use Rattle.model.specs.Record.{
   Record,
   test_name,
@@ -47,7 +47,7 @@ use Rattle.model.specs.Line.{
   taken_field,
   checksum_field,
   last_before,
-  read_one_lem,
+  read_one,
   read_body,
   body_of,
   read_trimmed,
@@ -152,7 +152,7 @@ read_digits-fits : (max v : ℕ) (bs : Bytes) {n : ℕ} → v ≤ max → read_d
 unfolding read_digits
 read_digits-fits max v [] h p = omega (arith, accepted_inj p)
 read_digits-fits max v (b ∷ bs) {n} h p =
-    go (is_digit_lem b) (leb (v * 10 + (b - 48)) max) refl p (λ i q. read_digits-fits max (v * 10 + (b - 48)) bs i q)
+    go (is_digit b) (leb (v * 10 + (b - 48)) max) refl p (λ i q. read_digits-fits max (v * 10 + (b - 48)) bs i q)
   where
     go : (d t : Bool) → leb (v * 10 + (b - 48)) max ≡ t
         → (if d then if t then read_digits max (v * 10 + (b - 48)) bs else refuse NumberOverflow else refuse InvalidDigit) ≡ accepted n
@@ -267,8 +267,8 @@ last_before-accepted k body made {r} p = go (from_field k body) p
     go none q = accepted_inj q
     go (some rest) q = absurd (not_accepted q)
 
-read_one-fits : (made : ℕ → Record) (body : Bytes) {r : Record} → ((n : ℕ) → n ≤ u32_max → RecordFits (made n)) → read_one_lem made body ≡ accepted r → RecordFits r
-unfolding read_one_lem
+read_one-fits : (made : ℕ → Record) (body : Bytes) {r : Record} → ((n : ℕ) → n ≤ u32_max → RecordFits (made n)) → read_one made body ≡ accepted r → RecordFits r
+unfolding read_one
 read_one-fits made body h p =
     let (n, e, q) = bind-accepted (number_field u32_max 1 body) _ p in
     rw (← (last_before-accepted 2 body (made n) q)) (h n (number_field-fits u32_max 1 body e))

@@ -21,7 +21,7 @@ use Rattle.model.specs.Limits.{u32_max}
 use Rattle.model.specs.Report.{Extent, Function, updated, extent_of, end_of, Item, section_item, function_item, branch_item, line_item}
 use Rattle.model.specs.Printing.{print_key, compare_printed}
 use Rattle.model.specs.Ranges.{holds}
-use Rattle.model.specs.Filter.{start_line, bounding, end_before, end_or, end_line_lem, held_functions}
+use Rattle.model.specs.Filter.{start_line, bounding, end_before, end_or, end_line, held_functions}
 use Rattle.model.specs.Filters.{StartsDiffer}
 use Rattle.model.specs.Valid.{Given, ExtentFits, ItemFits}
 use Rattle.model.proofs.ListLaws.{and_left, and_right, All, all_select, all_insert, all_map}
@@ -86,8 +86,8 @@ reckoned_more s h [] = omega arith
 reckoned_more s h (g ∷ rest) =
     bound_either s g rest (start_line g - 1) (λ later. omega arith) (λ passed. omega (arith, reckoned_least s h rest))
 
-end_more : (f : Item) (behind : List Item) → start_line f ≤ u32_max → end_line_lem NextStart f behind ≤ end_line_lem GreaterStart f behind
-unfolding end_line_lem bounding
+end_more : (f : Item) (behind : List Item) → start_line f ≤ u32_max → end_line NextStart f behind ≤ end_line GreaterStart f behind
+unfolding end_line bounding
 end_more f behind h = go (end_of f)
   where
     go : (end : Option ℕ) → end_or (end_before behind) end ≤ end_or (end_before (bounding GreaterStart (start_line f) behind)) end
@@ -102,8 +102,8 @@ pub held_more : (ranges : List Range) (l : List Item) → ((f : Item) → Member
 unfolding held_functions
 held_more ranges [] fits a m = m
 held_more ranges (f ∷ fs) fits a m =
-    go (holds ranges (start_line f) (end_line_lem NextStart f fs)) (holds ranges (start_line f) (end_line_lem GreaterStart f fs))
-    (holds_more ranges (start_line f) (end_line_lem NextStart f fs) (end_line_lem GreaterStart f fs) (end_more f fs (fits f (here refl))))
+    go (holds ranges (start_line f) (end_line NextStart f fs)) (holds ranges (start_line f) (end_line GreaterStart f fs))
+    (holds_more ranges (start_line f) (end_line NextStart f fs) (end_line GreaterStart f fs) (end_more f fs (fits f (here refl))))
     m (held_more ranges fs (λ g i. fits g (there i)) a)
   where
     next : List Item
@@ -227,8 +227,8 @@ reckoned_same s [] a d = refl
 reckoned_same s (g ∷ rest) a d = bound_here s g rest (omega (arith, a.0, d g (here refl)))
 
 end_same : (f : Item) (behind : List Item) → All (λ g. start_line f ≤ start_line g) behind
-    → ((g : Item) → Member g behind → start_line f ≢ start_line g) → end_line_lem GreaterStart f behind ≡ end_line_lem NextStart f behind
-unfolding end_line_lem bounding
+    → ((g : Item) → Member g behind → start_line f ≢ start_line g) → end_line GreaterStart f behind ≡ end_line NextStart f behind
+unfolding end_line bounding
 end_same f behind a d = ap (λ (reckoned : ℕ). end_or reckoned (end_of f)) (reckoned_same (start_line f) behind a d)
 
 -- WHERE STARTS DIFFER, BOTH KEEP THE SAME

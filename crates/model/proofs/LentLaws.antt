@@ -50,14 +50,14 @@ use Rattle.model.specs.Line.{
   text_field,
   taken_field,
   checksum_field,
-  read_one_lem,
+  read_one,
   read_body,
   body_of,
   read_trimmed,
   read_record,
   read_line,
 }
-use Rattle.model.specs.Parts.{lent_end, end_in, part_of, taken_in_lem, checksum_in, record_in, end_part, lent_taken, lent_checksum, lent_from, lent_record, lent_line}
+use Rattle.model.specs.Parts.{lent_end, end_in, part_of, taken_in, checksum_in, record_in, end_part, lent_taken, lent_checksum, lent_from, lent_record, lent_line}
 use Rattle.model.specs.Calls.{line_answer}
 use Rattle.model.proofs.FieldTexts.{after_has, from_has, text_has}
 use Rattle.model.proofs.Clean.{last_before-accepted}
@@ -127,8 +127,8 @@ module _ (line : Bytes) where
       go none e = tt
       go (some rest) e = at rest (same_bytes rest (ascii "-")) (from_has (Ends line) (ends_tail line) k body ε e)
 
-  one-ends : (made : ℕ → Record) (body : Bytes) {r : Record} → ((n : ℕ) → TextEnds line (made n)) → read_one_lem made body ≡ accepted r → TextEnds line r
-  unfolding read_one_lem
+  one-ends : (made : ℕ → Record) (body : Bytes) {r : Record} → ((n : ℕ) → TextEnds line (made n)) → read_one made body ≡ accepted r → TextEnds line r
+  unfolding read_one
   one-ends made body h p =
       let (n, e, q) = bind-accepted (number_field u32_max 1 body) _ p in
       rw (← (last_before-accepted 2 body (made n) q)) (h n)
@@ -211,8 +211,8 @@ unfolding end_in lent_end
 end_in_lem (some line) = refl
 end_in_lem none = refl
 
-taken_in_lem : (taken : Option ℕ) → taken_in_lem (lent_taken taken) ≡ taken
-unfolding taken_in_lem lent_taken
+taken_in_lem : (taken : Option ℕ) → taken_in (lent_taken taken) ≡ taken
+unfolding taken_in lent_taken
 taken_in_lem (some count) = refl
 taken_in_lem none = refl
 

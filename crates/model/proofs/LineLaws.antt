@@ -43,7 +43,7 @@ use Rattle.model.specs.Line.{
   taken_field,
   checksum_field,
   last_before,
-  read_one_lem,
+  read_one,
   all_digits,
   is_digits,
   begins_with_end,
@@ -201,9 +201,9 @@ module _ (tag : Kind → Bytes) (L : Lawful tag) where
   back k body r t e =
       rw (trim_append (tag k) colon body (trim_cons colon body refl t)) (tagged k body ∙ e)
 
-  one_back : (k : Kind) (made : ℕ → Record) (v : ℕ) → read_body k (decimal v) ≡ read_one_lem made (decimal v) → v ≤ u32_max
+  one_back : (k : Kind) (made : ℕ → Record) (v : ℕ) → read_body k (decimal v) ≡ read_one made (decimal v) → v ≤ u32_max
       → read_record tag (tag k ++ colon ∷ decimal v) ≡ accepted (made v)
-  unfolding read_one_lem last_before from_field
+  unfolding read_one last_before from_field
   one_back k made v e h =
       back k (decimal v) (made v) (trim_decimal v)
       (e ∙ rw (number_field-last u32_max v (u32_small v h) h 1 (decimal v) refl) (rw (from_last 0 v (decimal v) refl, last_before)))

@@ -15,14 +15,14 @@ use Rattle.model.specs.Order.{if◌then◌else◌}
 use Rattle.model.specs.Lists.{filter}
 use Rattle.model.specs.Bytes.{Bytes}
 use Rattle.model.specs.Answer.{Answer, accepted, ◌>>=◌, refuse}
-use Rattle.model.specs.Number.{is_digit_lem, read_digits, read_number, Counted, read_field, decimal_digits, decimal}
+use Rattle.model.specs.Number.{is_digit, read_digits, read_number, Counted, read_field, decimal_digits, decimal}
 
 pub read_digits-append : (max a : ℕ) (xs ys : Bytes)
     → read_digits max a (xs ++ ys) ≡ (read_digits max a xs >>= λ v. read_digits max v ys)
 unfolding read_digits
 read_digits-append max a [] ys = refl
 read_digits-append max a (b ∷ bs) ys =
-    go (is_digit_lem b) (leb (a * 10 + (b - 48)) max) _ _ (read_digits-append max (a * 10 + (b - 48)) bs ys)
+    go (is_digit b) (leb (a * 10 + (b - 48)) max) _ _ (read_digits-append max (a * 10 + (b - 48)) bs ys)
   where
     go : (d t : Bool) (x y : Answer ℕ) → x ≡ (y >>= λ v. read_digits max v ys)
         → (if d then if t then x else refuse NumberOverflow else refuse InvalidDigit) ≡ ((if d then if t then y else refuse NumberOverflow else refuse InvalidDigit) >>= λ v. read_digits max v ys)
@@ -95,28 +95,28 @@ read_number-decimal max v small fits = read_number_digit max (decimal_digits-sta
 -- ---- digits read
 
 -- a number that is read has digits alone
-digits-alone : (max v : ℕ) (bs : Bytes) {n : ℕ} → read_digits max v bs ≡ accepted n → filter is_digit_lem bs ≡ bs
+digits-alone : (max v : ℕ) (bs : Bytes) {n : ℕ} → read_digits max v bs ≡ accepted n → filter is_digit bs ≡ bs
 unfolding read_digits filter
 digits-alone max v [] p = refl
-digits-alone max v (b ∷ bs) {n} p = go (is_digit_lem b) (leb (v * 10 + (b - 48)) max) p (λ q. digits-alone max (v * 10 + (b - 48)) bs q)
+digits-alone max v (b ∷ bs) {n} p = go (is_digit b) (leb (v * 10 + (b - 48)) max) p (λ q. digits-alone max (v * 10 + (b - 48)) bs q)
   where
     go : (d t : Bool) → (if d then if t then read_digits max (v * 10 + (b - 48)) bs else refuse NumberOverflow else refuse InvalidDigit) ≡ accepted n
-        → (read_digits max (v * 10 + (b - 48)) bs ≡ accepted n → filter is_digit_lem bs ≡ bs) → (if d then b ∷ filter is_digit_lem bs else filter is_digit_lem bs) ≡ b ∷ bs
+        → (read_digits max (v * 10 + (b - 48)) bs ≡ accepted n → filter is_digit bs ≡ bs) → (if d then b ∷ filter is_digit bs else filter is_digit bs) ≡ b ∷ bs
     go true true q ih = ap (λ (l : Bytes). b ∷ l) (ih q)
     go true false q ih = absurd (not_accepted q)
     go false t q ih = absurd (not_accepted q)
 
-number-alone : (max : ℕ) (bs : Bytes) {n : ℕ} → read_number max bs ≡ accepted n → filter is_digit_lem bs ≡ bs
+number-alone : (max : ℕ) (bs : Bytes) {n : ℕ} → read_number max bs ≡ accepted n → filter is_digit bs ≡ bs
 unfolding read_number filter
 number-alone max [] p = refl
 number-alone max (b ∷ bs) {n} p = go (eqb b 43) p
   where
-    go : (s : Bool) → (if s then refuse SignedNumber else read_digits max 0 (b ∷ bs)) ≡ accepted n → filter is_digit_lem (b ∷ bs) ≡ b ∷ bs
+    go : (s : Bool) → (if s then refuse SignedNumber else read_digits max 0 (b ∷ bs)) ≡ accepted n → filter is_digit (b ∷ bs) ≡ b ∷ bs
     go true q = absurd (not_accepted q)
     go false q = digits-alone max 0 (b ∷ bs) q
 
 -- `digits` counts the digits of the field
-pub digits-counted : (max : ℕ) (field : Bytes) {c : Counted} → read_field max field ≡ accepted c → c.digits ≡ length (filter is_digit_lem field)
+pub digits-counted : (max : ℕ) (field : Bytes) {c : Counted} → read_field max field ≡ accepted c → c.digits ≡ length (filter is_digit field)
 unfolding read_field
 digits-counted max field p =
     let (value, q, e) = bind-accepted (read_number max field) _ p in

@@ -21,7 +21,7 @@ use Rattle.ordmap.proofs.Gathered.{within-accepted, map_refused-accepted}
 use Rattle.model.specs.declared.Fault.{Fault}
 use Rattle.model.specs.declared.Fault.TheVariants.{UnexpectedRecord, UnexpectedEof, CallOverflow, TooManyEntries, SecondSourceFile}
 use Rattle.model.specs.declared.Kind.{Kind}
-use Rattle.model.specs.Order.{if◌then◌else◌, is_less, is_greater_lem}
+use Rattle.model.specs.Order.{if◌then◌else◌, is_less, is_greater}
 use Rattle.model.specs.Lists.{filter}
 use Rattle.model.specs.Bytes.{Bytes, compare_bytes}
 use Rattle.model.specs.Path.{components}
@@ -88,7 +88,7 @@ is-less Ordering.lt h = refl
 is-less Ordering.eq h = cc
 is-less Ordering.gt h = cc
 
-is_greater_lem : (o : Ordering) → is_greater_lem o ≡ true → o ≡ Ordering.gt
+is_greater_lem : (o : Ordering) → is_greater o ≡ true → o ≡ Ordering.gt
 is_greater_lem Ordering.lt h = cc
 is_greater_lem Ordering.eq h = cc
 is_greater_lem Ordering.gt h = refl
@@ -157,8 +157,8 @@ module _ (test path : Bytes) (items : List Item) (first : Item) (m : Member firs
           let (n, h) = side_member compare_is_eq {e = e} (rw q (here refl)) in
           at e n (sym (sections-order.equal (is_eq (compare_sections key (section_key e)) h))) e.item refl l
 
-  less_side : {a : Entry} → Member a (side is_greater_lem) → compare_sections (section_key a) key ≡ Ordering.lt
-  less_side {a} i = sections-order.less (is_greater_lem (compare_sections key (section_key a)) (side_member is_greater_lem i).1)
+  less_side : {a : Entry} → Member a (side is_greater) → compare_sections (section_key a) key ≡ Ordering.lt
+  less_side {a} i = sections-order.less (is_greater_lem (compare_sections key (section_key a)) (side_member is_greater i).1)
 
   greater_side : {a : Entry} → Member a (side is_less) → compare_sections key (section_key a) ≡ Ordering.lt
   greater_side {a} i = is-less (compare_sections key (section_key a)) (side_member is_less i).1
@@ -167,12 +167,12 @@ module _ (test path : Bytes) (items : List Item) (first : Item) (m : Member firs
   mid_key j = let (i, n, q) = Memᴰ.of_map (in_section key) (section_item own ∷ items) j in ap section_key (sym q)
 
   abbrev all_three : Report
-  all_three = side is_greater_lem ++ (mid ++ side is_less)
+  all_three = side is_greater ++ (mid ++ side is_less)
 
   three_sorted : Sorted entry_key compare_keys all_three
   three_sorted =
-      sorted-append entry_key compare_keys (side is_greater_lem) (mid ++ side is_less)
-      (select_sorted (λ e. is_greater_lem (compare_sections key (section_key e))) entry_key compare_keys kept R.sorted)
+      sorted-append entry_key compare_keys (side is_greater) (mid ++ side is_less)
+      (select_sorted (λ e. is_greater (compare_sections key (section_key e))) entry_key compare_keys kept R.sorted)
       (sorted-append entry_key compare_keys mid (side is_less)
       (in_sorted key (section_item own ∷ items)
       (above-each item_key compare_bytes (item_key (section_item own)) items (λ i n. own_first own i (fi i n).1), si))
@@ -185,24 +185,24 @@ module _ (test path : Bytes) (items : List Item) (first : Item) (m : Member firs
   three_cases : {P : Type 0} {e : Entry} → Member e all_three
       → (Member e kept → ((f : Entry) → Member f kept → section_key f ≡ section_key e → Member f all_three) → P)
       → ((i : Item) → Member i (section_item own ∷ items) → in_section key i ≡ e → P) → P
-  three_cases {P} {e} n other this = ⊎_elim low (λ h. ⊎_elim here_in high (Memᴰ.append_cases mid h)) (Memᴰ.append_cases (side is_greater_lem) n)
+  three_cases {P} {e} n other this = ⊎_elim low (λ h. ⊎_elim here_in high (Memᴰ.append_cases mid h)) (Memᴰ.append_cases (side is_greater) n)
     where
       same : (holds : Ordering → Bool) {f : Entry} → Member e (side holds) → Member f kept → section_key f ≡ section_key e → Member f (side holds)
       same holds i j q =
           member_select (λ x. holds (compare_sections key (section_key x))) kept j
           (ap (λ (s : SectionKey). holds (compare_sections key s)) q ∙ (side_member holds i).1)
 
-      low : Member e (side is_greater_lem) → P
-      low i = other (side_member is_greater_lem i).0 (λ f j q. Memᴰ.append_left (mid ++ side is_less) (same is_greater_lem i j q))
+      low : Member e (side is_greater) → P
+      low i = other (side_member is_greater i).0 (λ f j q. Memᴰ.append_left (mid ++ side is_less) (same is_greater i j q))
 
       high : Member e (side is_less) → P
-      high i = other (side_member is_less i).0 (λ f j q. Memᴰ.append_right (side is_greater_lem) (Memᴰ.append_right mid (same is_less i j q)))
+      high i = other (side_member is_less i).0 (λ f j q. Memᴰ.append_right (side is_greater) (Memᴰ.append_right mid (same is_less i j q)))
 
       here_in : Member e mid → P
       here_in i = let (x, j, q) = Memᴰ.of_map (in_section key) (section_item own ∷ items) i in this x j q
 
   in_mid : {i : Item} → Member i (section_item own ∷ items) → Member (in_section key i) all_three
-  in_mid i = Memᴰ.append_right (side is_greater_lem) (Memᴰ.append_left (side is_less) (Memᴰ.map (in_section key) i))
+  in_mid i = Memᴰ.append_right (side is_greater) (Memᴰ.append_left (side is_less) (Memᴰ.map (in_section key) i))
 
   pub replace-valid : Valid all_three
   unfolding is_section

@@ -21,7 +21,7 @@ use Rattle.model.specs.Order.{if◌then◌else◌}
 use Rattle.model.specs.Bytes.{Bytes, ascii, plus, comma, colon, compare_bytes, same_bytes, before}
 use Rattle.model.specs.Answer.{Answer, accepted, refused, ◌>>=◌, refuse, refuse_field, on_line, in_text, number_of}
 use Rattle.model.specs.Limits.{u32_max, u64_max}
-use Rattle.model.specs.Number.{is_digit_lem, read_digits, read_number}
+use Rattle.model.specs.Number.{is_digit, read_digits, read_number}
 use Rattle.model.specs.Record.{
   Record,
   test_name,
@@ -39,7 +39,7 @@ use Rattle.model.specs.Record.{
   end_of_record,
 }
 use Rattle.model.specs.Tags.{all_kinds}
-use Rattle.model.specs.Line.{begins_with_end, with_end, read_function, trimmed, kind_among, from_field, in_field, number_field, text_field, taken_field, last_before, read_one_lem, read_body, body_of, read_trimmed, read_record}
+use Rattle.model.specs.Line.{begins_with_end, with_end, read_function, trimmed, kind_among, from_field, in_field, number_field, text_field, taken_field, last_before, read_one, read_body, body_of, read_trimmed, read_record}
 use Rattle.model.specs.Report.{
   Extent,
   extent_at,
@@ -106,7 +106,7 @@ no_digits : (max value : ℕ) (bytes : Bytes) → NoText (read_digits max value 
 unfolding read_digits
 no_digits max value [] = tt
 no_digits max value (b ∷ bs) =
-    no_if (is_digit_lem b) _ (refuse InvalidDigit)
+    no_if (is_digit b) _ (refuse InvalidDigit)
     (no_if (leb (value * 10 + (b - 48)) max) _ (refuse NumberOverflow) (no_digits max (value * 10 + (b - 48)) bs) (refl, refl)) (refl, refl)
 
 no_reading : (max : ℕ) (bytes : Bytes) → NoText (read_number max bytes)
@@ -151,8 +151,8 @@ no_last : (k : ℕ) (body : Bytes) (made : Record) → NoText (last_before k bod
 unfolding last_before
 no_last k body made = no_option (from_field k body) (accepted made) (λ rest. refuse TooManyFields) tt (λ rest. (refl, refl))
 
-no_one : (made : ℕ → Record) (body : Bytes) → NoText (read_one_lem made body)
-unfolding read_one_lem
+no_one : (made : ℕ → Record) (body : Bytes) → NoText (read_one made body)
+unfolding read_one
 no_one made body = no_bind (number_field u32_max 1 body) _ (no_number u32_max 1 body) (λ n. no_last 2 body (made n))
 
 no_function : (start : ℕ) (body rest : Bytes) → NoText (read_function start body rest)

@@ -9,7 +9,7 @@ use lib.Dec.{compare_is_eq, leb}
 use lib.ListN.{length, length-append, length-map}
 use borrow.Author.Tests.{le-leb}
 use Rattle.ordmap.specs.Keyed.{Above}
-use Rattle.model.specs.Order.{if◌then◌else◌, is_less, is_greater_lem}
+use Rattle.model.specs.Order.{if◌then◌else◌, is_less, is_greater}
 use Rattle.model.specs.Lists.{filter, concat_map}
 use Rattle.model.specs.Bytes.{Bytes, compare_bytes}
 use Rattle.model.specs.Path.{Path, components}
@@ -151,7 +151,7 @@ pub kept-last : (test spelling : Bytes) (item : Item) (items : List Item) (kept 
 unfolding keep_section replace_section spelling_of
 kept-last test spelling item items kept h =
     let by : Entry → Ordering = λ e. compare_sections (test, path) (section_key e) in
-    let earlier : filter (λ e. is_greater_lem (by e)) kept ≡ kept = select_all (λ e. is_greater_lem (by e)) kept (past-test test path is_greater_lem true refl kept h) in
+    let earlier : filter (λ e. is_greater (by e)) kept ≡ kept = select_all (λ e. is_greater (by e)) kept (past-test test path is_greater true refl kept h) in
     let same : filter (λ e. compare_is_eq (by e)) kept ≡ [] = select_none (λ e. compare_is_eq (by e)) kept (past-test test path compare_is_eq false refl kept h) in
     let later : filter (λ e. is_less (by e)) kept ≡ [] = select_none (λ e. is_less (by e)) kept (past-test test path is_less false refl kept h) in
     rw (earlier, same, later) (ap (λ (r : Report). kept ++ r) (append-nil (entries_of test path spelling (item ∷ items))))

@@ -52,14 +52,14 @@ end_or reckoned none = reckoned
 end_or reckoned (some end) = end
 
 -- where a function ends: as FN says, or as those behind it say
-unfoldable pub end_line_lem : Bound → Item → List Item → ℕ
-end_line_lem bound item behind = end_or (end_before (bounding bound (start_line item) behind)) (end_of item)
+unfoldable pub end_line : Bound → Item → List Item → ℕ
+end_line bound item behind = end_or (end_before (bounding bound (start_line item) behind)) (end_of item)
 
 -- functions in printing order: each stays if the range from its start to its end queries yes
 unfoldable pub held_functions : Bound → List Range → List Item → List Item
 held_functions bound ranges [] = []
 held_functions bound ranges (f ∷ fs) =
-    if holds ranges (start_line f) (end_line_lem bound f fs) then f ∷ held_functions bound ranges fs else held_functions bound ranges fs
+    if holds ranges (start_line f) (end_line bound f fs) then f ∷ held_functions bound ranges fs else held_functions bound ranges fs
 
 unfoldable pub filter_items : Bound → List Range → List Item → List Item
 filter_items bound ranges items =

@@ -22,7 +22,7 @@ use Rattle.model.specs.Order.{if◌then◌else◌}
 use Rattle.model.specs.Bytes.{Bytes, ascii, newline, return, comma, colon, same_bytes, before, after, joined}
 use Rattle.model.specs.Answer.{Answer, accepted, refused, ◌>>=◌, refuse, refuse_field, on_line}
 use Rattle.model.specs.Limits.{u32_max, u64_max}
-use Rattle.model.specs.Number.{is_digit_lem, read_number, decimal}
+use Rattle.model.specs.Number.{is_digit, read_number, decimal}
 use Rattle.model.specs.Record.{
   Record,
   test_name,
@@ -92,8 +92,8 @@ checksum_field k body =
 unfoldable pub last_before : ℕ → Bytes → Record → Answer Record
 last_before k body made = elim (from_field k body) [ none ↦ accepted made | some rest ↦ refuse TooManyFields ]
 
-unfoldable pub read_one_lem : (ℕ → Record) → Bytes → Answer Record
-read_one_lem made body = do
+unfoldable pub read_one : (ℕ → Record) → Bytes → Answer Record
+read_one made body = do
   number ← number_field u32_max 1 body
   last_before 2 body (made number)
 
@@ -101,12 +101,12 @@ read_one_lem made body = do
 
 unfoldable pub all_digits : Bytes → Bool
 all_digits [] = true
-all_digits (b ∷ bs) = is_digit_lem b && all_digits bs
+all_digits (b ∷ bs) = is_digit b && all_digits bs
 
 -- one digit or more, and nothing else
 unfoldable pub is_digits : Bytes → Bool
 is_digits [] = false
-is_digits (b ∷ bs) = is_digit_lem b && all_digits bs
+is_digits (b ∷ bs) = is_digit b && all_digits bs
 
 -- what follows FN's first comma begins with an end line: digits alone up to a second comma
 unfoldable pub begins_with_end : Bytes → Bool
@@ -137,22 +137,22 @@ read_body FunctionData body = do
   count ← number_field u64_max 1 body
   name ← text_field 2 body
   accepted (function_data count name)
-read_body FunctionsFound body = read_one_lem functions_found body
-read_body FunctionsHit body = read_one_lem functions_hit body
+read_body FunctionsFound body = read_one functions_found body
+read_body FunctionsHit body = read_one functions_hit body
 read_body BranchData body = do
   line ← number_field u32_max 1 body
   block ← number_field u32_max 2 body
   branch ← number_field u32_max 3 body
   taken ← taken_field u64_max 4 body
   last_before 5 body (branch_data line block branch taken)
-read_body BranchesFound body = read_one_lem branches_found body
-read_body BranchesHit body = read_one_lem branches_hit body
+read_body BranchesFound body = read_one branches_found body
+read_body BranchesHit body = read_one branches_hit body
 read_body LineData body = do
   line ← number_field u32_max 1 body
   count ← number_field u64_max 2 body
   accepted (line_data line count (checksum_field 3 body))
-read_body LinesFound body = read_one_lem lines_found body
-read_body LinesHit body = read_one_lem lines_hit body
+read_body LinesFound body = read_one lines_found body
+read_body LinesHit body = read_one lines_hit body
 read_body EndOfRecord body = accepted end_of_record
 
 -- the body: all after the first ':', or empty

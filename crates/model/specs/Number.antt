@@ -5,14 +5,14 @@ use Rattle.model.specs.Order.{if◌then◌else◌}
 use Rattle.model.specs.Bytes.{Bytes, plus}
 use Rattle.model.specs.Answer.{Answer, accepted, ◌>>=◌, refuse}
 
-abbrev pub is_digit_lem : ℕ → Bool
-is_digit_lem b = leb 48 b && leb b 57
+abbrev pub is_digit : ℕ → Bool
+is_digit b = leb 48 b && leb b 57
 
 -- value, then each byte in turn: first is it a digit, then does the value still fit
 unfoldable pub read_digits : ℕ → ℕ → Bytes → Answer ℕ
 read_digits max value [] = accepted value
 read_digits max value (b ∷ bs) =
-    if is_digit_lem b then if leb (value * 10 + (b - 48)) max then read_digits max (value * 10 + (b - 48)) bs else refuse NumberOverflow else refuse InvalidDigit
+    if is_digit b then if leb (value * 10 + (b - 48)) max then read_digits max (value * 10 + (b - 48)) bs else refuse NumberOverflow else refuse InvalidDigit
 
 -- a number up to max: one or more digits and no sign
 unfoldable pub read_number : ℕ → Bytes → Answer ℕ

@@ -42,9 +42,9 @@ unfoldable pub end_in : EndLine → Option ℕ
 end_in (El.Given line) = some line
 end_in El.Absent = none
 
-unfoldable pub taken_in_lem : Taken → Option ℕ
-taken_in_lem (Tk.Given count) = some count
-taken_in_lem Tk.Absent = none
+unfoldable pub taken_in : Taken → Option ℕ
+taken_in (Tk.Given count) = some count
+taken_in Tk.Absent = none
 
 unfoldable pub checksum_in : Bytes → Checksum → Answer (Option Bytes)
 checksum_in text (Ck.Given p) = part_of text p >>= λ bytes. accepted (some bytes)
@@ -58,7 +58,7 @@ record_in text (Lent.FunctionName start end p) = part_of text p >>= λ name. acc
 record_in text (Lent.FunctionData count p) = part_of text p >>= λ name. accepted (function_data count name)
 record_in text (Lent.FunctionsFound found) = accepted (functions_found found)
 record_in text (Lent.FunctionsHit hit) = accepted (functions_hit hit)
-record_in text (Lent.BranchData line block branch taken) = accepted (branch_data line block branch (taken_in_lem taken))
+record_in text (Lent.BranchData line block branch taken) = accepted (branch_data line block branch (taken_in taken))
 record_in text (Lent.BranchesFound found) = accepted (branches_found found)
 record_in text (Lent.BranchesHit hit) = accepted (branches_hit hit)
 record_in text (Lent.LineData line count checksum) = checksum_in text checksum >>= λ given. accepted (line_data line count given)

@@ -5,7 +5,7 @@ use Rattle.std.proofs.Math.Dec.{compare_is_eq}
 use Rattle.ordmap.specs.Keyed.{add as enter}
 use Rattle.model.specs.declared.Fault.TheVariants.{UnexpectedRecord, UnexpectedEof, CallOverflow, SecondSourceFile}
 use Rattle.model.specs.declared.Kind.{Kind}
-use Rattle.model.specs.Order.{if◌then◌else◌, is_less, is_greater_lem}
+use Rattle.model.specs.Order.{if◌then◌else◌, is_less, is_greater}
 use Rattle.model.specs.Lists.{filter}
 use Rattle.model.specs.Bytes.{Bytes, newline, split, compare_bytes}
 use Rattle.model.specs.Path.{components}
@@ -109,7 +109,7 @@ unfoldable pub replace_section : Bytes → Bytes → List Item → Report → Re
 replace_section test path items kept =
     let key : SectionKey = (test, components path) in
     let same : Report = filter (λ e. compare_is_eq (compare_sections key (section_key e))) kept in
-    filter (λ e. is_greater_lem (compare_sections key (section_key e))) kept
+    filter (λ e. is_greater (compare_sections key (section_key e))) kept
     ++ (map (in_section key) (section_item (spelling_of path same) ∷ items)
     ++ filter (λ e. is_less (compare_sections key (section_key e))) kept)
 

@@ -27,7 +27,7 @@ use Rattle.model.specs.Gather.{entry_limit, read_and_print}
 use Rattle.model.specs.Valid.{Valid}
 use Rattle.model.proofs.Read.{read_text-valid}
 use Rattle.model_bounds.specs.declared.Hits.{Hits}
-use Rattle.model_bounds.specs.Bounds.{items_of, hits_in, same_keys_lem, counts_rise, hits_of, Bounds, bounds, hit_bounds}
+use Rattle.model_bounds.specs.Bounds.{items_of, hits_in, same_keys, counts_rise, hits_of, Bounds, bounds, hit_bounds}
 use Rattle.model_bounds.specs.Claims.{SameKeys, CountsRise, CountAbove, Between, AtMost, Within, Reached, TwoRead, BoundsClaim}
 use Rattle.model_bounds.proofs.Printed.{printed-read}
 use Rattle.model_totals.proofs.HitLaws.{one, hit-step}
@@ -129,9 +129,9 @@ module _ (least greatest : Report) (L : Valid least) (G : Valid greatest) where
   -- an answer comes with both tests passed
   passed : {b : Bounds} → bounds least greatest ≡ accepted b → (answered least greatest ≡ b) × Paired Rises least greatest
   unfolding bounds
-  passed {b} p = go (same_keys_lem least greatest) (counts_rise least greatest) refl refl p
+  passed {b} p = go (same_keys least greatest) (counts_rise least greatest) refl refl p
     where
-      go : (k c : Bool) → same_keys_lem least greatest ≡ k → counts_rise least greatest ≡ c → choose k c (answered least greatest) ≡ accepted b
+      go : (k c : Bool) → same_keys least greatest ≡ k → counts_rise least greatest ≡ c → choose k c (answered least greatest) ≡ accepted b
           → (answered least greatest ≡ b) × Paired Rises least greatest
       go true true e f q = (accepted_inj q, counts-test least greatest (keys-test least greatest e) f)
       go true false e f q = absurd (not_accepted q)
@@ -196,14 +196,14 @@ module _ (least greatest : Report) (L : Valid least) (G : Valid greatest) where
 
   pub keys_differ : (bounds least greatest ≡ refuse DifferentKeys) ↔ (SameKeys least greatest → ⊥)
   unfolding bounds
-  keys_differ = (λ p. forward (same_keys_lem least greatest) (counts_rise least greatest) refl p, λ h. back (same_keys_lem least greatest) refl h)
+  keys_differ = (λ p. forward (same_keys least greatest) (counts_rise least greatest) refl p, λ h. back (same_keys least greatest) refl h)
     where
-      forward : (k c : Bool) → same_keys_lem least greatest ≡ k → choose k c (answered least greatest) ≡ refuse DifferentKeys → SameKeys least greatest → ⊥
+      forward : (k c : Bool) → same_keys least greatest ≡ k → choose k c (answered least greatest) ≡ refuse DifferentKeys → SameKeys least greatest → ⊥
       forward true true e q K = impossible cc
       forward true false e q K = new-differ (sym q)
-      forward false c e q K = let f : same_keys_lem least greatest ≡ true = test-keys least greatest (same_paired K) in impossible cc
+      forward false c e q K = let f : same_keys least greatest ≡ true = test-keys least greatest (same_paired K) in impossible cc
 
-      back : (k : Bool) → same_keys_lem least greatest ≡ k → (SameKeys least greatest → ⊥)
+      back : (k : Bool) → same_keys least greatest ≡ k → (SameKeys least greatest → ⊥)
           → choose k (counts_rise least greatest) (answered least greatest) ≡ refuse DifferentKeys
       back true e h = absurd (h (paired_keys Any least greatest (keys-test least greatest e)))
       back false e h = refl
@@ -222,9 +222,9 @@ module _ (least greatest : Report) (L : Valid least) (G : Valid greatest) where
 
   pub count_above : (bounds least greatest ≡ refuse LeastAboveGreatest) ↔ (SameKeys least greatest × CountAbove least greatest)
   unfolding bounds
-  count_above = (λ p. forward (same_keys_lem least greatest) (counts_rise least greatest) refl refl p, back)
+  count_above = (λ p. forward (same_keys least greatest) (counts_rise least greatest) refl refl p, back)
     where
-      forward : (k c : Bool) → same_keys_lem least greatest ≡ k → counts_rise least greatest ≡ c
+      forward : (k c : Bool) → same_keys least greatest ≡ k → counts_rise least greatest ≡ c
           → choose k c (answered least greatest) ≡ refuse LeastAboveGreatest → SameKeys least greatest × CountAbove least greatest
       forward true true e f q = impossible cc
       forward true false e f q =
@@ -243,8 +243,8 @@ module _ (least greatest : Report) (L : Valid least) (G : Valid greatest) where
       back w = rw (test-keys least greatest (same_paired w.0), turned (counts_rise least greatest) refl w)
 
 -- reports between two others, by the tests
-pub between_tested : (least greatest report : Report) → Valid least → Valid greatest → Valid report → same_keys_lem least report ≡ true → counts_rise least report ≡ true
-    → same_keys_lem report greatest ≡ true → counts_rise report greatest ≡ true → Between least greatest report
+pub between_tested : (least greatest report : Report) → Valid least → Valid greatest → Valid report → same_keys least report ≡ true → counts_rise least report ≡ true
+    → same_keys report greatest ≡ true → counts_rise report greatest ≡ true → Between least greatest report
 between_tested least greatest report L G R k c l d =
     let low : Paired Rises least report = counts-test least report (keys-test least report k) c in
     let high : Paired Rises report greatest = counts-test report greatest (keys-test report greatest l) d in

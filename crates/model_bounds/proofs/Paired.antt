@@ -16,7 +16,7 @@ use Rattle.ordmap.proofs.Members.{above_member}
 use Rattle.model.specs.Report.{Entry, Report, Key, compare_keys, entry_key, count_of}
 use Rattle.model.proofs.KeyOrder.{keys-order}
 use Rattle.model.proofs.ListLaws.{and_left, and_right}
-use Rattle.model_bounds.specs.Bounds.{same_keys_lem, counts_rise}
+use Rattle.model_bounds.specs.Bounds.{same_keys, counts_rise}
 use Rattle.model_bounds.specs.Claims.{Holds, SameKeys}
 
 -- key by key the same, and each two entries related
@@ -113,17 +113,17 @@ module _ (R : Entry → Entry → Type 0) where
 
 -- ---- the tests
 
-pub keys-test : (a b : Report) → same_keys_lem a b ≡ true → Paired Any a b
-unfolding same_keys_lem
+pub keys-test : (a b : Report) → same_keys a b ≡ true → Paired Any a b
+unfolding same_keys
 keys-test [] [] h = tt
 keys-test [] (y ∷ ys) h = impossible cc
 keys-test (x ∷ xs) [] h = impossible cc
 keys-test (x ∷ xs) (y ∷ ys) h =
     let same = compare_is_eq (compare_keys (entry_key x) (entry_key y)) in
-    (keys-equal entry_key compare_keys keys-order (and_left same (same_keys_lem xs ys) h), tt, keys-test xs ys (and_right same (same_keys_lem xs ys) h))
+    (keys-equal entry_key compare_keys keys-order (and_left same (same_keys xs ys) h), tt, keys-test xs ys (and_right same (same_keys xs ys) h))
 
-pub test-keys : (a b : Report) → Paired Any a b → same_keys_lem a b ≡ true
-unfolding same_keys_lem
+pub test-keys : (a b : Report) → Paired Any a b → same_keys a b ≡ true
+unfolding same_keys
 test-keys [] [] h = refl
 test-keys [] (y ∷ ys) h = absurd h
 test-keys (x ∷ xs) [] h = absurd h

@@ -23,11 +23,11 @@ unfoldable pub hits_in : (Item → Bool) → Report → ℕ
 hits_in kind report = hits (filter kind (items_of report))
 
 -- the same keys: reports are in key order, so key by key
-unfoldable pub same_keys_lem : Report → Report → Bool
-same_keys_lem [] [] = true
-same_keys_lem [] (y ∷ ys) = false
-same_keys_lem (x ∷ xs) [] = false
-same_keys_lem (x ∷ xs) (y ∷ ys) = compare_is_eq (compare_keys (entry_key x) (entry_key y)) && same_keys_lem xs ys
+unfoldable pub same_keys : Report → Report → Bool
+same_keys [] [] = true
+same_keys [] (y ∷ ys) = false
+same_keys (x ∷ xs) [] = false
+same_keys (x ∷ xs) (y ∷ ys) = compare_is_eq (compare_keys (entry_key x) (entry_key y)) && same_keys xs ys
 
 -- no count above the one in the same place
 unfoldable pub counts_rise : Report → Report → Bool
@@ -46,7 +46,7 @@ pub record Bounds : Type 0 where
 -- of two reports that were read: first all keys, then all counts
 unfoldable pub bounds : Report → Report → Answer Bounds
 bounds least greatest =
-    if same_keys_lem least greatest
+    if same_keys least greatest
     then (if counts_rise least greatest then accepted (record { least = hits_of least; greatest = hits_of greatest }) else refuse LeastAboveGreatest)
     else refuse DifferentKeys
 

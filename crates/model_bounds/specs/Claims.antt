@@ -1,5 +1,5 @@
 -- What is claimed of bounds (request N11), of reports and of texts. Clause by clause:
---   "Both must hold the same keys": `accepts` and `keys_differ`, by members; in key order they are compared place by place (`same_keys_lem`).
+--   "Both must hold the same keys": `accepts` and `keys_differ`, by members; in key order they are compared place by place (`same_keys`).
 --   "Every text with those keys and counts between the two has its hit numbers within these": `within`, and `texts_within` of texts.
 --   "both ends are reached by some such text": `reached`, and `texts_reached` of texts.
 --   "It refuses differing keys with 27 and a least count above its greatest with 28, in that order, after both texts were read": `keys_differ`,

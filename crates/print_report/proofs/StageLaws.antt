@@ -19,7 +19,7 @@ use Rattle.print_sort.specs.Sorting.{items_by}
 use Rattle.print_rows.specs.Emit.{RoomFor, Emitted}
 use Rattle.print_rows.proofs.EmitLaws.{room_as, emitted_as}
 use Rattle.print_report.specs.declared.KindRanges.{KindRanges}
-use Rattle.print_report.specs.Printing.{printed_from, PrintableTable, UnchangedBefore, AreKindRanges, head_lines, function_lines, group_lines_lem, branch_lines, line_lines, GroupRows, SectionPrinted}
+use Rattle.print_report.specs.Printing.{printed_from, PrintableTable, UnchangedBefore, AreKindRanges, head_lines, function_lines, group_lines, branch_lines, line_lines, GroupRows, SectionPrinted}
 use Rattle.print_report.proofs.KindLaws.{next-header}
 use Rattle.print_report.proofs.SplitLaws.{section-printed}
 use Rattle.print_report.proofs.TableLaws.{printable-kept, items_kept, index-printable}
@@ -42,10 +42,10 @@ module _ {tag : Kind → Bytes} {write : Bool} {text ws out : List ℕ} {index u
   functions = function_lines tag (sort compare_printed (items_at text ws index (lo + 1) (r.functions - (lo + 1))))
 
   abbrev branches : Bytes
-  branches = group_lines_lem tag branch_kind (items_at text ws index r.functions (r.branches - r.functions))
+  branches = group_lines tag branch_kind (items_at text ws index r.functions (r.branches - r.functions))
 
   abbrev lines : Bytes
-  lines = group_lines_lem tag line_kind (items_at text ws index r.branches (r.lines - r.branches))
+  lines = group_lines tag line_kind (items_at text ws index r.branches (r.lines - r.branches))
 
   abbrev end : Bytes
   end = print_records tag (end_of_record ∷ [])
@@ -82,8 +82,8 @@ module _ {tag : Kind → Bytes} {write : Bool} {text ws out : List ℕ} {index u
 
     module _ {ws' out₂ : Bytes} {b : ℕ} (ε₂ : Emitted write out₁ out₂ a functions b) (σ : UnchangedBefore ws ws' spare) where
       same_lines : (kind from to : ℕ) → to ≤ n
-          → group_lines_lem tag kind (items_by text ws' (index + from) (to - from)) ≡ group_lines_lem tag kind (items_at text ws index from (to - from))
-      same_lines kind from to h = ap (group_lines_lem tag kind) (items_kept η.spacious σ from to h)
+          → group_lines tag kind (items_by text ws' (index + from) (to - from)) ≡ group_lines tag kind (items_at text ws index from (to - from))
+      same_lines kind from to h = ap (group_lines tag kind) (items_kept η.spacious σ from to h)
 
       groups_is : branch_lines tag text ws' index r ++ line_lines tag text ws' index r ≡ branches ++ lines
       groups_is =

@@ -80,14 +80,14 @@ pub record FunctionRows (text ws : List ℕ) (index used from n spare : ℕ) : T
 -- ---- branches and lines
 
 -- BRDA or DA, with how many were found and hit
-abbrev pub group_lines_lem : (tag : Kind → Bytes) → ℕ → List Item → Bytes
-group_lines_lem tag kind items = print_records tag (group (found_of kind) (hit_of kind) items)
+abbrev pub group_lines : (tag : Kind → Bytes) → ℕ → List Item → Bytes
+group_lines tag kind items = print_records tag (group (found_of kind) (hit_of kind) items)
 
 abbrev pub branch_lines : (tag : Kind → Bytes) → Bytes → List ℕ → ℕ → KindRanges → Bytes
-branch_lines tag text ws index r = group_lines_lem tag branch_kind (items_by text ws (index + r.functions) (r.branches - r.functions))
+branch_lines tag text ws index r = group_lines tag branch_kind (items_by text ws (index + r.functions) (r.branches - r.functions))
 
 abbrev pub line_lines : (tag : Kind → Bytes) → Bytes → List ℕ → ℕ → KindRanges → Bytes
-line_lines tag text ws index r = group_lines_lem tag line_kind (items_by text ws (index + r.branches) (r.lines - r.branches))
+line_lines tag text ws index r = group_lines tag line_kind (items_by text ws (index + r.branches) (r.lines - r.branches))
 
 -- the rows of both ranges can be printed
 pub record GroupRows (text ws : List ℕ) (index : ℕ) (r : KindRanges) : Type 0 where

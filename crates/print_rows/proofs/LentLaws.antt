@@ -26,7 +26,7 @@ use Rattle.model.specs.Lists.{concat_map}
 use Rattle.model.specs.Number.{decimal}
 use Rattle.model.specs.Record.{Record, test_name, source_file, function_name, function_data, functions_found, functions_hit, branch_data, branches_found, branches_hit, line_data, lines_found, lines_hit, end_of_record}
 use Rattle.model.specs.Report.{extent_at, Extent, updated, Item, extent_of, end_of, section_item, function_item, branch_item, line_item, count_of}
-use Rattle.model.specs.Parts.{part_of, end_in, taken_in_lem, checksum_in, record_in}
+use Rattle.model.specs.Parts.{part_of, end_in, taken_in, checksum_in, record_in}
 use Rattle.model.specs.Line.{print_record}
 use Rattle.model.specs.Printing.{start_record, data_record, print_records}
 use Rattle.model.specs.Valid.{ItemFits}
@@ -68,8 +68,8 @@ pub taken-given : (m n : ℕ) → m ≢ 0 → Tk.Given n ≡ lent_taken m n
 taken-given zero n h = absurd (h refl)
 taken-given (suc m) n h = refl
 
-taken_in_lem : (m n : ℕ) → taken_in_lem (lent_taken m n) ≡ if_given m n
-unfolding taken_in_lem
+taken_in_lem : (m n : ℕ) → taken_in (lent_taken m n) ≡ if_given m n
+unfolding taken_in
 taken_in_lem zero n = refl
 taken_in_lem (suc m) n = refl
 

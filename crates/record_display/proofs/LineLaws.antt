@@ -26,7 +26,7 @@ use Rattle.model.specs.Line.{print_end, print_fields, print_taken, print_checksu
 use Rattle.model.specs.Limits.{u64_max}
 use Rattle.model.specs.Output.{written, output_after}
 use Rattle.model.specs.Calls.{write_answer}
-use Rattle.model.specs.Parts.{end_in, part_of, taken_in_lem, checksum_in, record_in, print_line}
+use Rattle.model.specs.Parts.{end_in, part_of, taken_in, checksum_in, record_in, print_line}
 use Rattle.format.specs.Put.{over}
 use Rattle.format.proofs.PutLaws.{written-fits}
 use Rattle.record_display.specs.Fields.{FieldsOf, separated, number_texts, last_len, last_field, inside, sep_after, head_of, max_head, fields_text, line_text, Fitting, needed_at, kind_of, numbers_of, last_of}
@@ -90,7 +90,7 @@ module _ (t : Bytes) where
 
 module _ (tag : Kind → Bytes) (t : Bytes) where
   record_inside : (a : Record) → inside (length t) (last_of a) ≡ true → (made : Model.Record) × (record_in t a ≡ accepted made) × (print_record tag made ++ (10 ∷ []) ≡ printed tag t a)
-  unfolding inside record_in end_in taken_in_lem checksum_in print_record print_fields print_end print_taken print_checksum joined printed separated last_field
+  unfolding inside record_in end_in taken_in checksum_in print_record print_fields print_end print_taken print_checksum joined printed separated last_field
   record_inside (TestName p) e = (Model.test_name (take p.len (drop p.start t)), rw (part-there t p e), line_fields_lem tag Kd.TestName (take p.len (drop p.start t)) [])
   record_inside (SourceFile p) e = (Model.source_file (take p.len (drop p.start t)), rw (part-there t p e), line_fields_lem tag Kd.SourceFile (take p.len (drop p.start t)) [])
   record_inside (FunctionName n (E.Given l) p) e = (Model.function_name n (some l) (take p.len (drop p.start t)), rw (part-there t p e), line_fields_lem tag Kd.FunctionName (decimal n) (decimal l ∷ take p.len (drop p.start t) ∷ []))

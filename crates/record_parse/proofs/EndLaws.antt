@@ -11,7 +11,7 @@ use lib.ListN.{length, drop, get_or}
 use borrow.Author.Tests.{lt-ltb, lt-leb, le-leb, leb-true, eqb-true, eq-eqb, ne_eqb}
 use Rattle.model.specs.Order.{if◌then◌else◌}
 use Rattle.model.specs.Bytes.{Bytes, comma, before, after}
-use Rattle.model.specs.Number.{is_digit_lem}
+use Rattle.model.specs.Number.{is_digit}
 use Rattle.model.specs.Line.{all_digits, is_digits, begins_with_end}
 use Rattle.model.proofs.ListLaws.{and_left}
 use Rattle.scan.proofs.ByteLaws.{drop-next, drop-end}
@@ -19,14 +19,14 @@ use Rattle.record_parse.specs.Fields.{end_behind}
 
 -- ---- one byte
 
-pub below_digit : (b : ℕ) → b < 48 → false ≡ is_digit_lem b
+pub below_digit : (b : ℕ) → b < 48 → false ≡ is_digit b
 below_digit b h = rw (lt-leb 48 b h)
 
-pub above_digit : (b : ℕ) (r : Bool) → 48 ≤ b → r ≡ leb b 57 → r ≡ is_digit_lem b
+pub above_digit : (b : ℕ) (r : Bool) → 48 ≤ b → r ≡ leb b 57 → r ≡ is_digit b
 above_digit b r h e = e ∙ rw (le-leb 48 b h)
 
 -- a comma is no digit
-comma_digit : (b : ℕ) → is_digit_lem b ≡ true → eqb b comma ≡ true → ⊥
+comma_digit : (b : ℕ) → is_digit b ≡ true → eqb b comma ≡ true → ⊥
 comma_digit b d c = omega (arith, eqb-true b comma c, leb-true 48 b (and_left (leb 48 b) (leb b 57) d))
 
 -- ---- the definition by bytes
@@ -43,9 +43,9 @@ up_to_false (some name) = refl
 behind_some : (n : ℕ) (bs : Bytes) → end_behind (suc n) bs ≡ up_to (after comma bs) (all_digits (before comma bs))
 unfolding end_behind after before all_digits
 behind_some n [] = refl
-behind_some n (b ∷ bs) = go (is_digit_lem b) (eqb b comma) refl refl (behind_some (suc n) bs)
+behind_some n (b ∷ bs) = go (is_digit b) (eqb b comma) refl refl (behind_some (suc n) bs)
   where
-    go : (d c : Bool) → is_digit_lem b ≡ d → eqb b comma ≡ c → end_behind (suc (suc n)) bs ≡ up_to (after comma bs) (all_digits (before comma bs))
+    go : (d c : Bool) → is_digit b ≡ d → eqb b comma ≡ c → end_behind (suc (suc n)) bs ≡ up_to (after comma bs) (all_digits (before comma bs))
         → (if d then end_behind (suc (suc n)) bs else if c then ltb 0 (suc n) else false)
         ≡ up_to (if c then some bs else after comma bs) (all_digits (if c then [] else b ∷ before comma bs))
     go true true d c ih = absurd (comma_digit b d c)
@@ -57,13 +57,13 @@ behind_some n (b ∷ bs) = go (is_digit_lem b) (eqb b comma) refl refl (behind_s
 pub begins_behind : (bs : Bytes) → end_behind 0 bs ≡ begins_with_end bs
 unfolding begins_with_end end_behind after before is_digits
 begins_behind [] = refl
-begins_behind (b ∷ bs) = go (is_digit_lem b) (eqb b comma) refl refl ∙ same (if eqb b comma then some bs else after comma bs) _
+begins_behind (b ∷ bs) = go (is_digit b) (eqb b comma) refl refl ∙ same (if eqb b comma then some bs else after comma bs) _
   where
     same : (o : Option Bytes) (digits : Bool) → up_to o digits ≡ elim o as (λ _. Bool) [ none ↦ false | some name ↦ digits ]
     same none digits = refl
     same (some name) digits = refl
 
-    go : (d c : Bool) → is_digit_lem b ≡ d → eqb b comma ≡ c
+    go : (d c : Bool) → is_digit b ≡ d → eqb b comma ≡ c
         → (if d then end_behind 1 bs else if c then false else false)
         ≡ up_to (if c then some bs else after comma bs) (is_digits (if c then [] else b ∷ before comma bs))
     go true true d c = absurd (comma_digit b d c)
@@ -74,7 +74,7 @@ begins_behind (b ∷ bs) = go (is_digit_lem b) (eqb b comma) refl refl ∙ same 
 -- ---- the loop: i digits have come
 
 module _ (s : Bytes) (i : ℕ) (left : end_behind i (drop i s) ≡ begins_with_end s) where
-  module _ (h : i < length s) (r : Bool) (is : r ≡ is_digit_lem (get_or s i 0)) where
+  module _ (h : i < length s) (r : Bool) (is : r ≡ is_digit (get_or s i 0)) where
     pub digit_passed : r ≡ true → end_behind (i + 1) (drop (i + 1) s) ≡ begins_with_end s
     unfolding end_behind
     digit_passed e = rw add-one (sym (rw (drop-next 0 s i h, end_behind, ← is, e, add-one) refl) ∙ left)

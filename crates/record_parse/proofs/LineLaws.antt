@@ -30,7 +30,7 @@ use Rattle.model.specs.Bytes.{Bytes, ascii, comma, compare_bytes, same_bytes, be
 use Rattle.model.specs.Answer.{Answer, accepted, refused, ◌>>=◌, refuse, refuse_field}
 use Rattle.model.specs.Limits.{u32_max, u64_max}
 use Rattle.model.specs.Record.{Record, function_name, function_data, branch_data, line_data}
-use Rattle.model.specs.Line.{read_function, with_end, begins_with_end, from_field, in_field, number_field, text_field, taken_field, checksum_field, last_before, read_one_lem}
+use Rattle.model.specs.Line.{read_function, with_end, begins_with_end, from_field, in_field, number_field, text_field, taken_field, checksum_field, last_before, read_one}
 use Rattle.model.specs.Parts.{lent_end, end_part, lent_taken, lent_checksum, lent_from}
 use Rattle.scan.specs.declared.Number.TheVariants as N
 use Rattle.scan.specs.Scan.{number_in, NumberRead}
@@ -232,12 +232,12 @@ count_in Ct.LinesFound n line = refl
 count_in Ct.LinesHit n line = refl
 
 module _ {body line : Bytes} {at : ℕ} (here : FieldAt body line 1 at) (got : Field) (seen : NumberField u32_max at (part line at) got) where
-  pub count-up : (made : ℕ → Record) (r : LineAnswer) → NotLast got → r ≡ number_refusal 1 got → Answers line r (read_one_lem made body)
-  unfolding read_one_lem
+  pub count-up : (made : ℕ → Record) (r : LineAnswer) → NotLast got → r ≡ number_refusal 1 got → Answers line r (read_one made body)
+  unfolding read_one
   count-up made r other q = last_up here seen made r other q
 
-  pub count-last : (kind : Total) (n : ℕ) (lent : LentRecord) → got ≡ Last n → lent ≡ count_lent kind n → Answers line (Read lent) (read_one_lem (count_made kind) body)
-  unfolding read_one_lem
+  pub count-last : (kind : Total) (n : ℕ) (lent : LentRecord) → got ≡ Last n → lent ≡ count_lent kind n → Answers line (Read lent) (read_one (count_made kind) body)
+  unfolding read_one
   count-last kind n lent e q =
       rw (last-value here seen n e, at_last body 2 (count_made kind n) (no_field here seen n e), q)
       (read (count_made kind n) (count_lent kind n) (count_in kind n line))

@@ -14,7 +14,7 @@ use Rattle.model.specs.declared.Refusal.{Refusal}
 use Rattle.model.specs.declared.NumberAnswer.TheVariants as Number
 use Rattle.model.specs.Bytes.{Bytes, ascii, comma, compare_bytes, same_bytes, before, after}
 use Rattle.model.specs.Answer.{Answer, accepted, refused, refuse, unplaced}
-use Rattle.model.specs.Number.{is_digit_lem, read_digits, read_number, Counted, read_field}
+use Rattle.model.specs.Number.{is_digit, read_digits, read_number, Counted, read_field}
 use Rattle.model.specs.Calls.{NumberCall, number_answer}
 use Rattle.model.proofs.CallLaws.{number_called}
 use Rattle.scan.specs.declared.Number.{Number as Scanned}
@@ -38,7 +38,7 @@ digits_through max v (b ∷ bs) = go (eqb b comma) refl (λ w. digits_through ma
     go : (d : Bool) → eqb b comma ≡ d → ((w : ℕ) → read_digits max w bs ≡ through (read_digits max w (before comma bs)) (after comma bs))
         → read_digits max v (b ∷ bs) ≡ through (read_digits max v (cond d [] (b ∷ before comma bs))) (cond d (some bs) (after comma bs))
     go true e ih = rw (eqb-true b 44 e)
-    go false e ih = digit (is_digit_lem b) (leb (v * 10 + (b - 48)) max)
+    go false e ih = digit (is_digit b) (leb (v * 10 + (b - 48)) max)
       where
         digit : (d t : Bool) → cond d (cond t (read_digits max (v * 10 + (b - 48)) bs) (refuse NumberOverflow)) (refuse InvalidDigit)
             ≡ through (cond d (cond t (read_digits max (v * 10 + (b - 48)) (before comma bs)) (refuse NumberOverflow)) (refuse InvalidDigit)) (after comma bs)
@@ -77,7 +77,7 @@ before-all (b ∷ bs) e = go (eqb b comma) e (λ q. before-all bs q)
 digits-unplaced : (max v : ℕ) (s : Bytes) {r : Refusal} → read_digits max v s ≡ refused r → r ≡ unplaced r.fault
 unfolding read_digits
 digits-unplaced max v [] e = impossible cc
-digits-unplaced max v (b ∷ bs) {r} e = go (is_digit_lem b) (leb (v * 10 + (b - 48)) max) e (λ q. digits-unplaced max (v * 10 + (b - 48)) bs q)
+digits-unplaced max v (b ∷ bs) {r} e = go (is_digit b) (leb (v * 10 + (b - 48)) max) e (λ q. digits-unplaced max (v * 10 + (b - 48)) bs q)
   where
     go : (d t : Bool) → cond d (cond t (read_digits max (v * 10 + (b - 48)) bs) (refuse NumberOverflow)) (refuse InvalidDigit) ≡ refused r
         → (read_digits max (v * 10 + (b - 48)) bs ≡ refused r → r ≡ unplaced r.fault) → r ≡ unplaced r.fault

@@ -23,7 +23,7 @@ use Rattle.model.specs.Bytes.{Bytes, colon, before}
 use Rattle.model.specs.Answer.{Answer, accepted, refused, ◌>>=◌, on_line}
 use Rattle.model.specs.Record.{Record, test_name, source_file, end_of_record}
 use Rattle.model.specs.TagTable.{tags_of, are_tags}
-use Rattle.model.specs.Line.{trimmed, read_one_lem, read_body, body_of, read_trimmed, read_record}
+use Rattle.model.specs.Line.{trimmed, read_one, read_body, body_of, read_trimmed, read_record}
 use Rattle.model.specs.Parts.{lent_from, lent_record, lent_line}
 use Rattle.model.specs.Calls.{line_values, LineCall, line_answer}
 use Rattle.model.specs.contracts.Kind.{the_type}
@@ -106,7 +106,7 @@ holds-total Kd.LinesFound h = refl
 holds-total Kd.LinesHit h = refl
 holds-total Kd.EndOfRecord h = absurd (miss read_as_total 12 tt h)
 
-total_body : {line : Bytes} {r : LineAnswer} (total : Total) (body : Bytes) → Answers line r (read_one_lem (count_made total) body) → Answers line r (read_body (count_kind total) body)
+total_body : {line : Bytes} {r : LineAnswer} (total : Total) (body : Bytes) → Answers line r (read_one (count_made total) body) → Answers line r (read_body (count_kind total) body)
 unfolding read_body
 total_body Ct.FunctionsFound body a = a
 total_body Ct.FunctionsHit body a = a
@@ -116,7 +116,7 @@ total_body Ct.LinesFound body a = a
 total_body Ct.LinesHit body a = a
 
 pub other-body : (line : Bytes) (r : LineAnswer) (kind : Kind) (total : Total) (body : Bytes) → OneOf read_as_total (tag_of the_type kind) → TotalOf kind total
-    → Answers line r (read_one_lem (count_made total) body) → Answers line r (read_body kind body)
+    → Answers line r (read_one (count_made total) body) → Answers line r (read_body kind body)
 other-body line r kind total body h t a = rw (← (t.is (holds-total kind h))) (total_body total body a)
 
 -- ---- where the body starts

@@ -9,7 +9,7 @@ use Rattle.model.specs.declared.LineAnswer.{LineAnswer}
 use Rattle.model.specs.declared.LineAnswer.TheVariants.{Refused}
 use Rattle.model.specs.Order.{if◌then◌else◌}
 use Rattle.model.specs.Bytes.{Bytes, ascii, comma, same_bytes}
-use Rattle.model.specs.Number.{is_digit_lem}
+use Rattle.model.specs.Number.{is_digit}
 use Rattle.scan.specs.declared.Number.{Number}
 use Rattle.scan.specs.declared.Number.TheVariants as N
 use Rattle.scan.specs.Scan.{number_in}
@@ -49,7 +49,7 @@ pub record NumberField (max start : ℕ) (rest : Bytes) (r : Field) : Type 0 whe
 -- whether an end line comes first, where so many digits have come before
 unfoldable pub end_behind : ℕ → Bytes → Bool
 end_behind seen [] = false
-end_behind seen (b ∷ bs) = if is_digit_lem b then end_behind (suc seen) bs else if eqb b comma then ltb 0 seen else false
+end_behind seen (b ∷ bs) = if is_digit b then end_behind (suc seen) bs else if eqb b comma then ltb 0 seen else false
 
 abbrev pub part_from : ℕ → Bytes → Part
 part_from start rest = record { start = start; len = length rest }

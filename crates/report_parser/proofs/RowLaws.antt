@@ -25,8 +25,8 @@ use Rattle.model.specs.contracts.Record.{the_type}
 use Rattle.model.specs.Bytes.{Bytes}
 use Rattle.model.specs.Answer.{Answer, accepted, refuse}
 use Rattle.model.specs.Report.{extent_at, Function, function_of, section_item, function_item, branch_item, line_item}
-use Rattle.model.specs.Parts.{part_of, end_in, taken_in_lem}
-use Rattle.table_item.specs.Items.{part, if_given, function_in, part_in_lem, PartInside, checksum_part, ChecksumInside, by_kind, kind_of, function_kind, item_of, Makes}
+use Rattle.model.specs.Parts.{part_of, end_in, taken_in}
+use Rattle.table_item.specs.Items.{part, if_given, function_in, part_in, PartInside, checksum_part, ChecksumInside, by_kind, kind_of, function_kind, item_of, Makes}
 use Rattle.report_parser.specs.Effect.{no_part, text_part, PartWithin, ChecksumWithin, TextsWithin, moved_part, moved_checksum, AddsItem, RowOf}
 
 -- ---- parts
@@ -38,19 +38,19 @@ part-take (suc m) n (suc len) [] h = refl
 part-take (suc m) n (suc len) (x ∷ xs) h = part-take m n len xs (omega arith)
 
 -- a part that lies in the first len bytes
-pub part-read : (len : ℕ) (bytes : Bytes) (p : Part) {b : Bytes} → part_of (take len bytes) p ≡ accepted b → PartWithin len p × (part_in_lem bytes p ≡ b)
+pub part-read : (len : ℕ) (bytes : Bytes) (p : Part) {b : Bytes} → part_of (take len bytes) p ≡ accepted b → PartWithin len p × (part_in bytes p ≡ b)
 unfolding part_of
 part-read len bytes p {b} e = go (leb (p.start + p.len) (length (take len bytes))) refl e
   where
     go : (t : Bool) → leb (p.start + p.len) (length (take len bytes)) ≡ t
         → ◌≡◌ {A = Answer Bytes} (cond t (accepted (take p.len (drop p.start (take len bytes)))) (refuse PartOutside)) (accepted b)
-        → PartWithin len p × (part_in_lem bytes p ≡ b)
+        → PartWithin len p × (part_in bytes p ≡ b)
     go true f q =
         let w : PartWithin len p = omega (arith, leb-true (p.start + p.len) (length (take len bytes)) f, length-take len bytes) in
         (w, sym (part-take p.start p.len len bytes w) ∙ accepted_inj q)
     go false f q = absurd (not_accepted q)
 
-pub moved-is : (text : Bytes) (at : ℕ) (p : Part) → part_in_lem text (moved_part at p) ≡ part_in_lem (drop at text) p
+pub moved-is : (text : Bytes) (at : ℕ) (p : Part) → part_in text (moved_part at p) ≡ part_in (drop at text) p
 moved-is text at p = ap (λ (b : Bytes). take p.len b) (sym (drop-drop p.start at text))
 
 -- ---- checksums
@@ -119,7 +119,7 @@ row_as e ω = rw e ω
 
 module _ {at len : ℕ} {r : Row} where
   pub start_of : {start : ℕ} {end : EndLine} {p q : Part} → q ≡ moved_part at p → TextsWithin len (Lent.FunctionName start end p)
-      → Makes r (λ text. function_item (function_of (part_in_lem text q) (some (extent_at start (end_in end))) 0)) (λ text. PartInside text q) → RowOf at len (Lent.FunctionName start end p) r
+      → Makes r (λ text. function_item (function_of (part_in text q) (some (extent_at start (end_in end))) 0)) (λ text. PartInside text q) → RowOf at len (Lent.FunctionName start end p) r
   start_of {start} {end} {p} f w μ = record {
     is = λ text. μ.is text ∙ rw f (ap (λ (b : Bytes). function_item (function_of b (some (extent_at start (end_in end))) 0)) (moved-is text at p));
     inner = λ text h. μ.inner text (rw f (omega (arith, w.text)));
@@ -127,14 +127,14 @@ module _ {at len : ℕ} {r : Row} where
   }
 
   pub calls_of_lem : {count : ℕ} {p q : Part} → q ≡ moved_part at p → TextsWithin len (Lent.FunctionData count p)
-      → Makes r (λ text. function_item (function_of (part_in_lem text q) none count)) (λ text. PartInside text q) → RowOf at len (Lent.FunctionData count p) r
+      → Makes r (λ text. function_item (function_of (part_in text q) none count)) (λ text. PartInside text q) → RowOf at len (Lent.FunctionData count p) r
   calls_of_lem {count} {p} {q} f w μ = record {
     is = λ text. μ.is text ∙ rw f (ap (λ (b : Bytes). function_item (function_of b none count)) (moved-is text at p));
     inner = λ text h. μ.inner text (rw f (omega (arith, w.text)));
-    adds = λ k. function-row [] r (function_of (part_in_lem [] q) none count) (μ.is []);
+    adds = λ k. function-row [] r (function_of (part_in [] q) none count) (μ.is []);
   }
 
-  pub branch_of : {line block branch : ℕ} {taken : Taken} → Makes r (λ text. branch_item line block branch (taken_in_lem taken)) (λ text. Unit {0})
+  pub branch_of : {line block branch : ℕ} {taken : Taken} → Makes r (λ text. branch_item line block branch (taken_in taken)) (λ text. Unit {0})
       → RowOf at len (Lent.BranchData line block branch taken) r
   branch_of μ = record { is = μ.is; inner = λ text h. μ.inner text tt; adds = λ k. absurd (omega arith) }
 

@@ -22,7 +22,7 @@ use Rattle.model.specs.Record.{Record, test_name, source_file, function_name, fu
 use Rattle.model.specs.Report.{Item}
 use Rattle.model.specs.Parts.{end_in, part_of, checksum_in, record_in}
 use Rattle.model.specs.Reading.{State as ModelState, enter_item, ignored, effect}
-use Rattle.table_item.specs.Items.{kind_of, function_kind, part_in_lem, PartInside, checksum_part, item_of}
+use Rattle.table_item.specs.Items.{kind_of, function_kind, part_in, PartInside, checksum_part, item_of}
 use Rattle.table_item.specs.Combining.{combine_of, is_calls, calls_of}
 use Rattle.table_item.proofs.CountLaws.{function-item}
 use Rattle.section_tail.specs.Tail.{RowOfLine}
@@ -113,17 +113,17 @@ adding-adds Lent.EndOfRecord e = never e
 record Read (len : ℕ) (bytes : Bytes) (lent : LentRecord) (made : Record) : Type 0 where
   pub within : TextsWithin len lent
   pub most : kind_number lent ≤ 12
-  pub does : (s : ModelState) → effect made s ≡ meaning (kind_number lent) (part_in_lem bytes (text_part lent)) (item_in bytes lent) s
+  pub does : (s : ModelState) → effect made s ≡ meaning (kind_number lent) (part_in bytes (text_part lent)) (item_in bytes lent) s
 
 does_as : {len : ℕ} {bytes : Bytes} {lent : LentRecord} {made found : Record} → TextsWithin len lent → kind_number lent ≤ 12 → found ≡ made
-    → ((s : ModelState) → effect found s ≡ meaning (kind_number lent) (part_in_lem bytes (text_part lent)) (item_in bytes lent) s) → Read len bytes lent made
+    → ((s : ModelState) → effect found s ≡ meaning (kind_number lent) (part_in bytes (text_part lent)) (item_in bytes lent) s) → Read len bytes lent made
 does_as w m f d = record { within = w; most = m; does = λ s. ap (λ (x : Record). effect x s) (sym f) ∙ d s }
 
 text-read : {A : Type 0} (len : ℕ) (bytes : Bytes) (p : Part) (make : Bytes → A) {made : A}
-    → (part_of (take len bytes) p >>= λ b. accepted (make b)) ≡ accepted made → PartWithin len p × (make (part_in_lem bytes p) ≡ made)
+    → (part_of (take len bytes) p >>= λ b. accepted (make b)) ≡ accepted made → PartWithin len p × (make (part_in bytes p) ≡ made)
 text-read {A = A} len bytes p make {made} e = go (bind-accepted (part_of (take len bytes) p) (λ b. accepted (make b)) e)
   where
-    go : (b : Bytes) × (part_of (take len bytes) p ≡ accepted b) × (◌≡◌ {A = Answer A} (accepted (make b)) (accepted made)) → PartWithin len p × (make (part_in_lem bytes p) ≡ made)
+    go : (b : Bytes) × (part_of (take len bytes) p ≡ accepted b) × (◌≡◌ {A = Answer A} (accepted (make b)) (accepted made)) → PartWithin len p × (make (part_in bytes p) ≡ made)
     go (b, f, g) = let t = part-read len bytes p f in (t.0, ap make t.1 ∙ accepted_inj g)
 
 checksum-read : (len : ℕ) (bytes : Bytes) (checksum : Checksum) {given : Option Bytes} → checksum_in (take len bytes) checksum ≡ accepted given
@@ -224,7 +224,7 @@ moved_inside text at len p there μ h w = rw μ (omega arith)
 
 -- what the record does to the state that the words hold, by a number
 abbrev doing : List ℕ → List ℕ → ℕ → State → LentRecord → ℕ → ℕ → Answer ModelState
-doing text ws index st lent at k = meaning k (part_in_lem (drop at text) (text_part lent)) (item_in (drop at text) lent) (state_of text ws index st)
+doing text ws index st lent at k = meaning k (part_in (drop at text) (text_part lent)) (item_in (drop at text) lent) (state_of text ws index st)
 
 module _ {text ws ws' : List ℕ} {index limit : ℕ} {st : State} {lent : LentRecord} {at len : ℕ} {r : Step} {k : ℕ} (κ : k ≡ kind_number lent) where
   stepped : (f : Answer ModelState) → ((made : Record) → Read len (drop at text) lent made → f ≡ doing text ws index st lent at k)
@@ -238,17 +238,17 @@ module _ {text ws ws' : List ℕ} {index limit : ℕ} {st : State} {lent : LentR
   module _ {p there : Part} (ε : p ≡ text_part lent) (μ : there ≡ moved_part at p) (fits : at + len ≤ length text) where
     -- a record that is only its text
     tells : (tell : Bytes → Record) → ((b : Bytes) (item : Item) (s : ModelState) → effect (tell b) s ≡ meaning k b item s)
-        → (PartInside text there → StepBy (effect (tell (part_in_lem text there))) text ws ws' index limit st r) → Steps text ws ws' index limit st lent at len r
+        → (PartInside text there → StepBy (effect (tell (part_in text there))) text ws ws' index limit st r) → Steps text ws ws' index limit st lent at len r
     tells tell e σ =
-        stepped (effect (tell (part_in_lem text there)) (state_of text ws index st))
+        stepped (effect (tell (part_in text there)) (state_of text ws index st))
         (λ made ρ. rw (μ, ε, moved-is text at (text_part lent)) (e _ _ _))
         (λ made ρ. σ (moved_inside text at len p there μ fits (rw ε ρ.within.text)))
 
-    pub names : k ≡ 0 → (PartInside text there → StepBy (effect (test_name (part_in_lem text there))) text ws ws' index limit st r)
+    pub names : k ≡ 0 → (PartInside text there → StepBy (effect (test_name (part_in text there))) text ws ws' index limit st r)
         → Steps text ws ws' index limit st lent at len r
     names z σ = tells test_name (λ b item s. rw z refl) σ
 
-    pub opens : k ≡ 1 → (PartInside text there → StepBy (effect (source_file (part_in_lem text there))) text ws ws' index limit st r)
+    pub opens : k ≡ 1 → (PartInside text there → StepBy (effect (source_file (part_in text there))) text ws ws' index limit st r)
         → Steps text ws ws' index limit st lent at len r
     opens z σ = tells source_file (λ b item s. rw z refl) σ
 
@@ -256,11 +256,11 @@ module _ {text ws ws' : List ℕ} {index limit : ℕ} {st : State} {lent : LentR
   ends z σ = stepped (effect end_of_record (state_of text ws index st)) (λ made ρ. rw z refl) (λ made ρ. σ)
 
   pub ignores : FoundOrHit k → StepBy ignored text ws ws' index limit st r → Steps text ws ws' index limit st lent at len r
-  ignores ι σ = stepped (ignored (state_of text ws index st)) (λ made ρ. sym (is-ignored (part_in_lem (drop at text) (text_part lent)) (item_in (drop at text) lent) (state_of text ws index st) k ι)) (λ made ρ. σ)
+  ignores ι σ = stepped (ignored (state_of text ws index st)) (λ made ρ. sym (is-ignored (part_in (drop at text) (text_part lent)) (item_in (drop at text) lent) (state_of text ws index st) k ι)) (λ made ρ. σ)
 
   pub adds : (row : Row) → (k ≤ 12 → Added k) → RowOf at len lent row
       → StepBy (enter_item (combine_of (eqb k 3)) (item_of text row)) text ws ws' index limit st r → Steps text ws ws' index limit st lent at len r
   adds row β ω σ =
       stepped (enter_item (combine_of (eqb k 3)) (item_of text row) (state_of text ws index st))
-      (λ made ρ. rw (ω.is text) (sym (is-added (part_in_lem (drop at text) (text_part lent)) (item_in (drop at text) lent) (state_of text ws index st) k (β (rw κ ρ.most)))))
+      (λ made ρ. rw (ω.is text) (sym (is-added (part_in (drop at text) (text_part lent)) (item_in (drop at text) lent) (state_of text ws index st) k (β (rw κ ρ.most)))))
       (λ made ρ. σ)

@@ -11,9 +11,9 @@ use Rattle.model.specs.Bytes.{Bytes}
 use Rattle.model.specs.Answer.{accepted}
 use Rattle.model.specs.Record.{Record}
 use Rattle.model.specs.Report.{extent_at, function_of, Item, function_item, branch_item, line_item}
-use Rattle.model.specs.Parts.{end_in, taken_in_lem, record_in}
+use Rattle.model.specs.Parts.{end_in, taken_in, record_in}
 use Rattle.model.specs.Reading.{effect}
-use Rattle.table_item.specs.Items.{part, part_in_lem, checksum_part, kind_of, function_kind, item_of, ItemRow}
+use Rattle.table_item.specs.Items.{part, part_in, checksum_part, kind_of, function_kind, item_of, ItemRow}
 use Rattle.section.specs.declared.State.{State}
 use Rattle.section.specs.declared.Step.{Step}
 use Rattle.section.specs.Reading.{StepBy}
@@ -91,11 +91,11 @@ AddsItem Lent.EndOfRecord = ⊥
 abbrev pub item_in : Bytes → LentRecord → Item
 item_in bytes (Lent.TestName p) = line_item 0 0 none
 item_in bytes (Lent.SourceFile p) = line_item 0 0 none
-item_in bytes (Lent.FunctionName start end p) = function_item (function_of (part_in_lem bytes p) (some (extent_at start (end_in end))) 0)
-item_in bytes (Lent.FunctionData count p) = function_item (function_of (part_in_lem bytes p) none count)
+item_in bytes (Lent.FunctionName start end p) = function_item (function_of (part_in bytes p) (some (extent_at start (end_in end))) 0)
+item_in bytes (Lent.FunctionData count p) = function_item (function_of (part_in bytes p) none count)
 item_in bytes (Lent.FunctionsFound found) = line_item 0 0 none
 item_in bytes (Lent.FunctionsHit hit) = line_item 0 0 none
-item_in bytes (Lent.BranchData line block branch taken) = branch_item line block branch (taken_in_lem taken)
+item_in bytes (Lent.BranchData line block branch taken) = branch_item line block branch (taken_in taken)
 item_in bytes (Lent.BranchesFound found) = line_item 0 0 none
 item_in bytes (Lent.BranchesHit hit) = line_item 0 0 none
 item_in bytes (Lent.LineData line count checksum) = line_item line count (checksum_part bytes checksum)

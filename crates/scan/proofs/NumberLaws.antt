@@ -5,7 +5,7 @@ use Rattle.model.specs.Order.{if◌then◌else◌}
 use Rattle.model.specs.declared.Fault.TheVariants.{EmptyNumber, InvalidDigit, NumberOverflow, SignedNumber}
 use Rattle.model.specs.Bytes.{Bytes, plus, comma, before, after}
 use Rattle.model.specs.Answer.{Answer, accepted, refuse}
-use Rattle.model.specs.Number.{is_digit_lem, read_digits, read_number}
+use Rattle.model.specs.Number.{is_digit, read_digits, read_number}
 use Rattle.scan.specs.Scan.{followed, number_in, next_of, value_of, is_signed, with_digits, Above, NumberRead}
 use Rattle.scan.specs.declared.Number.{Number}
 use Rattle.scan.specs.declared.Number.TheVariants.{Last, More, Fault}
@@ -36,7 +36,7 @@ module _ {value digit max : ℕ} where
 unfoldable pub scanned : ℕ → ℕ → ℕ → Bytes → Number
 scanned max i value [] = with_digits i (Last value i)
 scanned max i value (b ∷ bs) =
-    if is_digit_lem b then if leb (value * 10 + (b - 48)) max then scanned max (i + 1) (value * 10 + (b - 48)) bs else Fault NumberOverflow
+    if is_digit b then if leb (value * 10 + (b - 48)) max then scanned max (i + 1) (value * 10 + (b - 48)) bs else Fault NumberOverflow
     else if eqb b comma then with_digits i (More value i)
     else Fault InvalidDigit
 
@@ -47,7 +47,7 @@ module _ (max : ℕ) where
 
   rest-step : (i value b : ℕ) (bs : Bytes) → eqb b comma ≡ false → ((v : ℕ) → Rest (i + 1) v bs) → Rest i value (b ∷ bs)
   unfolding scanned before after read_digits
-  rest-step i value b bs n rest = rw (n, before, after) (go (is_digit_lem b) (leb (value * 10 + (b - 48)) max))
+  rest-step i value b bs n rest = rw (n, before, after) (go (is_digit b) (leb (value * 10 + (b - 48)) max))
     where
       go : (d t : Bool) → (cond d (cond t (scanned max (i + 1) (value * 10 + (b - 48)) bs) (Fault NumberOverflow)) (Fault InvalidDigit)) ≡ followed (cond d (cond t (read_digits max (value * 10 + (b - 48)) (before comma bs)) (refuse NumberOverflow)) (refuse InvalidDigit)) (i + suc (length (before comma bs))) (after comma bs)
       go true true = rest (value * 10 + (b - 48)) ∙ ap (λ (n : ℕ). followed (read_digits max (value * 10 + (b - 48)) (before comma bs)) n (after comma bs)) (omega arith)
@@ -149,7 +149,7 @@ module _ {max : ℕ} {s : Bytes} {i value : ℕ} (scan : Scan max s i value) whe
   next b h e = rw (drop-next 0 s i h, e) at scan.left
 
   -- a byte whose distance from '0' is above 9
-  no_digit : (b digit : ℕ) → (digit + 48) % 256 ≡ b → digit < 256 → 9 < digit → is_digit_lem b ≡ false
+  no_digit : (b digit : ℕ) → (digit + 48) % 256 ≡ b → digit < 256 → 9 < digit → is_digit b ≡ false
   no_digit b digit e l h = go (leb 48 b) refl
     where
       go : (d : Bool) → leb 48 b ≡ d → (d && leb b 57) ≡ false
@@ -159,7 +159,7 @@ module _ {max : ℕ} {s : Bytes} {i value : ℕ} (scan : Scan max s i value) whe
   digit_is : (b digit : ℕ) → (digit + 48) % 256 ≡ b → digit ≤ 9 → b ≡ digit + 48
   digit_is b digit e h = omega arith
 
-  is_digit_lem : (digit : ℕ) → digit ≤ 9 → is_digit_lem (digit + 48) ≡ true
+  is_digit_lem : (digit : ℕ) → digit ≤ 9 → is_digit (digit + 48) ≡ true
   is_digit_lem digit h = rw (le-leb 48 (digit + 48) (omega arith)) (le-leb (digit + 48) 57 (omega arith))
 
   pub scan_comma : (r : Number) → i < length s → get_or s i 0 ≡ 44 → r ≡ with_digits i (More value i) → NumberRead max s r

@@ -15,14 +15,14 @@ use Rattle.ordmap.specs.Result.{accepted}
 use Rattle.model.specs.declared.Part.{Part}
 use Rattle.model.specs.declared.Fault.TheVariants.{UnexpectedRecord, TooManyEntries, SecondSourceFile}
 use Rattle.model.specs.Lists.{filter}
-use Rattle.model.specs.Order.{if◌then◌else◌, is_less, is_greater_lem}
+use Rattle.model.specs.Order.{if◌then◌else◌, is_less, is_greater}
 use Rattle.model.specs.Bytes.{Bytes}
 use Rattle.model.specs.Path.{components}
 use Rattle.model.specs.Answer.{Answer}
 use Rattle.model.specs.Report.{Item, section_item, Report, SectionKey, section_key, in_section, compare_sections, within}
 use Rattle.model.specs.Record.{test_name, source_file, end_of_record}
 use Rattle.model.specs.Reading.{State as ModelState, outside, open_section, entries, path_or, spelling_of, replace_section, keep_section, ignored, name_section, effect}
-use Rattle.table_item.specs.Items.{part_in_lem, PartInside}
+use Rattle.table_item.specs.Items.{part_in, PartInside}
 use Rattle.table_item.specs.SortedItems.{items_at, SortedItems}
 use Rattle.section_upsert.specs.MainDelta.{merge_items}
 use Rattle.section_upsert.proofs.UpsertLaws.{within-fits, within-past}
@@ -45,14 +45,14 @@ next-outside : {text ws : List ℕ} {index limit : ℕ} (kept delta tombstones u
     → kept_at text ws index (kept - delta) delta ≡ report
     → SectionRoom ws index limit → used ≤ capacity limit → tombstones ≤ slack limit → delta ≤ kept → length report ≤ limit
     → InParts text ws index used (kept - delta) delta tombstones → PartInside text test
-    → StepOf text ws index limit (counted limit (accepted (outside report (part_in_lem text test)))) (Next (with_closed kept delta tombstones used test))
+    → StepOf text ws index limit (counted limit (accepted (outside report (part_in text test)))) (Next (with_closed kept delta tombstones used test))
 unfolding outside entries include_all merge_items tabulate
 next-outside {text} {ws} {index} {limit} kept delta tombstones used test report e ρ m d l f σ i =
     let same : length report + tombstones ≡ kept - delta + delta = ap (λ (x : Report). length x + tombstones) (sym e) ∙ kept-length σ in
     record {
       is =
-          ap (λ (x : Report). accepted (outside x (part_in_lem text test))) e
-          ∙ sym (within-fits limit (length report + 0) (outside report (part_in_lem text test)) (omega arith));
+          ap (λ (x : Report). accepted (outside x (part_in text test))) e
+          ∙ sym (within-fits limit (length report + 0) (outside report (part_in text test)) (omega arith));
       valid = outside-valid ρ m d l (omega arith) σ i;
     }
 
@@ -73,7 +73,7 @@ module _ {text ws : List ℕ} {index limit : ℕ} (st : State) where
   test-inside name e = record { is = rw e; valid = tt }
 
   pub test-outside : {name : Part} → HoldsState text ws index limit st → PartInside text name → st.inside ≡ false
-      → StepOf text ws index limit (counted limit (effect (test_name (part_in_lem text name)) (state_of text ws index st)))
+      → StepOf text ws index limit (counted limit (effect (test_name (part_in text name)) (state_of text ws index st)))
       (Next (with_closed st.kept st.delta st.tombstones st.used name))
   unfolding effect
   test-outside {name} ζ i e =
@@ -89,7 +89,7 @@ module _ {text ws : List ℕ} {index limit : ℕ} (st : State) where
 
   -- the first SF gives the path and opens the section
   pub first-path : {ws' : List ℕ} {path : Part} {named : State} {r : Step} → HoldsState text ws index limit st → st.has_path ≡ false
-      → named ≡ with_path st path → StepBy ignored text ws ws' index limit named r → StepBy (effect (source_file (part_in_lem text path))) text ws ws' index limit st r
+      → named ≡ with_path st path → StepBy ignored text ws ws' index limit named r → StepBy (effect (source_file (part_in text path))) text ws ws' index limit st r
   unfolding effect name_section ignored open_section
   first-path ζ e f σ = step_as (rw (f, e)) σ
 
@@ -152,20 +152,20 @@ closed_as e κ = rw e at κ
 
 -- a kept section adds itself and its items at most
 module _ (key : SectionKey) where
-  others-most : (l : Report) → length (filter (λ e. is_greater_lem (compare_sections key (section_key e))) l)
+  others-most : (l : Report) → length (filter (λ e. is_greater (compare_sections key (section_key e))) l)
       + length (filter (λ e. is_less (compare_sections key (section_key e))) l) ≤ length l
   unfolding filter
   others-most [] = omega arith
   others-most (e ∷ l) = go (compare_sections key (section_key e)) (others-most l)
     where
       low : Report
-      low = filter (λ e. is_greater_lem (compare_sections key (section_key e))) l
+      low = filter (λ e. is_greater (compare_sections key (section_key e))) l
 
       high : Report
       high = filter (λ e. is_less (compare_sections key (section_key e))) l
 
       go : (o : Ordering) → length low + length high ≤ length l
-          → length (if is_greater_lem o then e ∷ low else low) + length (if is_less o then e ∷ high else high) ≤ suc (length l)
+          → length (if is_greater o then e ∷ low else low) + length (if is_less o then e ∷ high else high) ≤ suc (length l)
       go Ordering.lt h = omega arith
       go Ordering.eq h = omega arith
       go Ordering.gt h = omega arith
@@ -176,7 +176,7 @@ kept-most test path [] kept = omega arith
 kept-most test path (i ∷ items) kept =
     let key : SectionKey = (test, components path) in
     let same : Report = filter (λ e. compare_is_eq (compare_sections key (section_key e))) kept in
-    let low : Report = filter (λ e. is_greater_lem (compare_sections key (section_key e))) kept in
+    let low : Report = filter (λ e. is_greater (compare_sections key (section_key e))) kept in
     let high : Report = filter (λ e. is_less (compare_sections key (section_key e))) kept in
     let header : List Item = section_item (spelling_of path same) ∷ i ∷ items in
     omega (
@@ -227,8 +227,8 @@ module _ {text ws : List ℕ} {index limit : ℕ} {st : State} (ζ : HoldsState 
           items_fit ζ h,
         )
 
-    pub end_kept : {ws₂ : List ℕ} {q : KeptSizes} {most : ℕ} (key : Row) (r : KeptSizes) → rows_of st.sizes ≢ 0 → test_of text key ≡ part_in_lem text st.test
-        → path_of text key ≡ part_in_lem text st.path → length ws₂ ≡ length ws → q ≡ kept_sizes_of st → most ≡ slack limit → r.tombstones ≤ most
+    pub end_kept : {ws₂ : List ℕ} {q : KeptSizes} {most : ℕ} (key : Row) (r : KeptSizes) → rows_of st.sizes ≢ 0 → test_of text key ≡ part_in text st.test
+        → path_of text key ≡ part_in text st.path → length ws₂ ≡ length ws → q ≡ kept_sizes_of st → most ≡ slack limit → r.tombstones ≤ most
         → Committed text ws₁ ws₂ index st.used q n key r
         → StepOf text ws₂ index limit (counted limit (effect end_of_record (state_of text ws index st)))
         (Next (with_closed (r.main + r.delta) r.delta r.tombstones st.used no_part))
@@ -247,7 +247,7 @@ module _ {text ws : List ℕ} {index limit : ℕ} {st : State} (ζ : HoldsState 
             ∙ κ.report
             ∙ ap₂ (λ (a b : Bytes). keep_section a b (items_at text ws₁ index (main_of st + st.delta + 1) n)
             (report_of text ws₁ index (kept_sizes_of st))) t (p ∙ path_or_lem text st.has_path st.path ζ.path)
-            ∙ ap₂ (λ (x : List Item) (y : Report). keep_section (part_in_lem text st.test) (path_or S₀.path) x y)
+            ∙ ap₂ (λ (x : List Item) (y : Report). keep_section (part_in text st.test) (path_or S₀.path) x y)
             (ap (λ (k : ℕ). items_at text ws₁ index k n) first ∙ ς.items) (same_kept ws₁ ζ older))
             (record { rows = ζ.space.room.rows; words = omega (arith, ζ.space.room.words) }) ζ.space.most (omega arith) (omega arith) (after-few h)
             (rw some κ.held) (omega arith)

@@ -14,7 +14,7 @@ use Rattle.model.specs.declared.Part.{Part}
 use Rattle.model.specs.Lists.{filter}
 use Rattle.model.specs.Answer.{Answer}
 use Rattle.model.specs.Reading.{State as ModelState, outside, path_or}
-use Rattle.table_item.specs.Items.{part_in_lem, PartInside}
+use Rattle.table_item.specs.Items.{part_in, PartInside}
 use Rattle.section_upsert.specs.MainDelta.{merge_items}
 use Rattle.section_upsert.proofs.UpsertLaws.{parted_none}
 use Rattle.section_tail.specs.declared.OpenSizes.{OpenSizes}
@@ -209,7 +209,7 @@ module _ {text ws ws' : List ℕ} {index limit place r : ℕ} {st : State} (ζ :
   pub more_state : state_of text ws' index (with_used st r) ≡ state_of text ws index st
   more_state = λ i. record {
     kept = same_kept ws' ζ (λ k p q. ρ.rows k p (omega (arith, ζ.space.kept))) i;
-    test = part_in_lem text st.test;
+    test = part_in text st.test;
     inside = st.inside;
     path = path_in text st.has_path st.path;
     items = items i;
@@ -280,7 +280,7 @@ module _ (text : List ℕ) where
   path_inside true path i = i
   path_inside false path e = rw e (omega arith)
 
-  pub path_or_lem : (b : Bool) (path : Part) → PathInside text b path → part_in_lem text path ≡ path_or (path_in text b path)
+  pub path_or_lem : (b : Bool) (path : Part) → PathInside text b path → part_in text path ≡ path_or (path_in text b path)
   path_or_lem true path i = refl
   path_or_lem false path e = rw e
 

@@ -9,7 +9,7 @@ use Rattle.model.specs.Bytes.{Bytes}
 use Rattle.model.specs.Answer.{Answer, accepted, ◌>>=◌, refuse}
 use Rattle.model.specs.Report.{within}
 use Rattle.model.specs.Reading.{State as ModelState, entries}
-use Rattle.table_item.specs.Items.{part_in_lem, PartInside}
+use Rattle.table_item.specs.Items.{part_in, PartInside}
 use Rattle.section_tail.specs.declared.OpenSizes.{OpenSizes}
 use Rattle.section_tail.specs.Tail.{rows_of, items_of, OpenSection}
 use Rattle.section.specs.declared.State.{State}
@@ -97,14 +97,14 @@ kept_sizes_of st = record { main = main_of st; delta = st.delta; tombstones = st
 
 -- the path, if its SF came
 abbrev pub path_in : Bytes → Bool → Part → Option Bytes
-path_in text true path = some (part_in_lem text path)
+path_in text true path = some (part_in text path)
 path_in text false path = none
 
 -- the model's state that the words are
 abbrev pub state_of : Bytes → List ℕ → ℕ → State → ModelState
 state_of text ws index st = record {
   kept = report_of text ws index (kept_sizes_of st);
-  test = part_in_lem text st.test;
+  test = part_in text st.test;
   inside = st.inside;
   path = path_in text st.has_path st.path;
   items = items_of text ws index (st.kept + 1) st.sizes;

@@ -18,30 +18,30 @@ use Rattle.model.specs.declared.Taken.{Taken}
 use Rattle.model.specs.declared.Taken.TheVariants as Tk
 use Rattle.model.specs.declared.Checksum.{Checksum}
 use Rattle.model.specs.declared.Checksum.TheVariants as Ck
-use Rattle.model.specs.Parts.{end_in, taken_in_lem}
+use Rattle.model.specs.Parts.{end_in, taken_in}
 use Rattle.model.specs.Report.{extent_at, Extent, Function, function_of, updated, extent_of, given_end, end_of, section_item, function_item, branch_item, line_item}
 use Rattle.table_item.proofs.CountLaws.{function-item}
 use Rattle.table_item.specs.Combining.{no_extent, is_calls}
-use Rattle.table_item.specs.Items.{part, kind_of, function_kind, by_kind, if_given, line_numbers, extent_tag, extent_word, extent_in, start_key, function_in, part_in_lem, item_of, PartInside, checksum_part, ChecksumInside, item_row, Makes}
+use Rattle.table_item.specs.Items.{part, kind_of, function_kind, by_kind, if_given, line_numbers, extent_tag, extent_word, extent_in, start_key, function_in, part_in, item_of, PartInside, checksum_part, ChecksumInside, item_row, Makes}
 
 pub word-is : (start : ℕ) (a b : EndLine) (n : ℕ) → a ≡ b → n ≡ extent_word start b → n ≡ extent_word start a
 word-is start a b n e h = rw e h
 
 module _ (p : Part) (start : ℕ) (small : start < line_numbers) where
   start-made : (end : EndLine)
-      → Makes (item_row (extent_tag end) p.start p.len (extent_word start end) 0) (λ text. function_item (function_of (part_in_lem text p) (some (extent_at start (end_in end))) 0)) (λ text. PartInside text p)
+      → Makes (item_row (extent_tag end) p.start p.len (extent_word start end) 0) (λ text. function_item (function_of (part_in text p) (some (extent_at start (end_in end))) 0)) (λ text. PartInside text p)
   unfolding item_of end_in
   start-made (El.Given line) =
       let low : (start + line * line_numbers) % line_numbers ≡ start = omega (arith, small) in
       let high : (start + line * line_numbers) / line_numbers ≡ line = omega (arith, small) in
       record {
-        is = λ text. ap₂ (λ (s l : ℕ). function_item (function_of (part_in_lem text p) (some (extent_at s (some l))) 0)) low high;
+        is = λ text. ap₂ (λ (s l : ℕ). function_item (function_of (part_in text p) (some (extent_at s (some l))) 0)) low high;
         inner = λ text i. omega arith;
       }
   start-made El.Absent = rw add-one (record { is = λ text. refl; inner = λ text i. omega arith })
 
   pub start-row-made : {r : Row} {tag word : ℕ} (end : EndLine) → tag ≡ extent_tag end → word ≡ extent_word start end → r ≡ item_row tag p.start p.len word 0
-      → Makes r (λ text. function_item (function_of (part_in_lem text p) (some (extent_at start (end_in end))) 0)) (λ text. PartInside text p)
+      → Makes r (λ text. function_item (function_of (part_in text p) (some (extent_at start (end_in end))) 0)) (λ text. PartInside text p)
   start-row-made end e f q = rw (q, e, f) (start-made end)
 
 -- ---- what a row tells of its function
@@ -175,19 +175,19 @@ module _ (text : Bytes) (r : Row) (start : ℕ) (is : start_key (extent_of (item
       whole (some x) e = let q : x.start ≡ start = omega arith in ap (λ (s : ℕ). some (extent_at s x.end)) q
 
 pub calls-made : {r : Row} (p : Part) (count : ℕ) → r ≡ item_row 2 p.start p.len 0 count
-    → Makes r (λ text. function_item (function_of (part_in_lem text p) none count)) (λ text. PartInside text p)
+    → Makes r (λ text. function_item (function_of (part_in text p) none count)) (λ text. PartInside text p)
 unfolding item_of
 calls-made p count e = rw e (record { is = λ text. refl; inner = λ text h. omega arith })
 
 module _ (line block branch : ℕ) {r : Row} {taken : Taken} where
   pub taken_made : (count : ℕ) → taken ≡ Tk.Given count → r ≡ item_row 5 line block branch count
-      → Makes r (λ text. branch_item line block branch (taken_in_lem taken)) (λ text. Unit {0})
-  unfolding item_of taken_in_lem
+      → Makes r (λ text. branch_item line block branch (taken_in taken)) (λ text. Unit {0})
+  unfolding item_of taken_in
   taken_made count f e = rw (e, f) (record { is = λ text. refl; inner = λ text h. omega arith })
 
   pub untaken_made : taken ≡ Tk.Absent → r ≡ item_row 4 line block branch 0
-      → Makes r (λ text. branch_item line block branch (taken_in_lem taken)) (λ text. Unit {0})
-  unfolding item_of taken_in_lem
+      → Makes r (λ text. branch_item line block branch (taken_in taken)) (λ text. Unit {0})
+  unfolding item_of taken_in
   untaken_made f e = rw (e, f) (record { is = λ text. refl; inner = λ text h. omega arith })
 
 module _ (line count : ℕ) {r : Row} {checksum : Checksum} where

@@ -98,14 +98,14 @@ pub record ItemRow (text : Bytes) (r : Row) : Type 0 where
 
 -- ---- the rows of FN, FNDA, BRDA and DA
 
-abbrev pub part_in_lem : Bytes → Part → Bytes
-part_in_lem text p = part text p.start p.len
+abbrev pub part_in : Bytes → Part → Bytes
+part_in text p = part text p.start p.len
 
 abbrev pub PartInside : Bytes → Part → Type 0
 PartInside text p = p.start + p.len ≤ length text
 
 abbrev pub checksum_part : Bytes → Checksum → Option Bytes
-checksum_part text (Given p) = some (part_in_lem text p)
+checksum_part text (Given p) = some (part_in text p)
 checksum_part text Absent = none
 
 abbrev pub ChecksumInside : Bytes → Checksum → Type 0

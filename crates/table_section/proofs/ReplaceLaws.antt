@@ -8,7 +8,7 @@ use native.Mathlib.Omega.{arith}
 use lib.Dec.{compare_is_eq}
 use lib.ListN.{length}
 use Rattle.table.specs.Places.{tabulate}
-use Rattle.model.specs.Order.{if◌then◌else◌, is_less, is_greater_lem}
+use Rattle.model.specs.Order.{if◌then◌else◌, is_less, is_greater}
 use Rattle.model.specs.Lists.{filter}
 use Rattle.model.specs.Bytes.{Bytes}
 use Rattle.model.specs.Path.{components}
@@ -55,7 +55,7 @@ pub replaced : (test path : Bytes) (items : List Item) (low same high : Report)
 unfolding replace_section
 replaced test path items low same high g e l =
     let key : SectionKey = (test, components path) in
-    ap₂ ◌++◌ (select_three key is_greater_lem low same high g e l ∙ append-nil low)
+    ap₂ ◌++◌ (select_three key is_greater low same high g e l ∙ append-nil low)
     (ap₂ ◌++◌
     (ap (λ (r : Report). map (in_section key) (section_item (spelling_of path r) ∷ items)) (select_three key compare_is_eq low same high g e l ∙ append-nil same))
     (select_three key is_less low same high g e l))

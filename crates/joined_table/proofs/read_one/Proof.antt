@@ -1,4 +1,4 @@
--- `joined_table::read_one_lem` meets its contract. Assumes nothing.
+-- `joined_table::read_one` meets its contract. Assumes nothing.
 use borrow.Author.Rules.{rules}
 use Rattle.joined_table.proofs.OneLaws.{front_long, starts-inside, room_as, read_one_lem}
 use Rattle.joined_table.proofs.read_one.Statement.{statement}

@@ -1,4 +1,4 @@
--- `line_num::range_at_lem` meets its contract: a walk of its MIR, by hand. The slice is looked into, the element is taken out of the row, copied, and put back.
+-- `line_num::range_at` meets its contract: a walk of its MIR, by hand. The slice is looked into, the element is taken out of the row, copied, and put back.
 -- Assumes nothing.
 use mathlib.Core.Path.{refl, sym}
 use Prim.Native.Nat.{ℕ, ◌<◌, ◌^◌}

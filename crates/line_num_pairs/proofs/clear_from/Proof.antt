@@ -4,13 +4,13 @@ use Prim.Native.Nat.{◌-◌, ◌≤◌, max}
 use native.Mathlib.Omega.{arith}
 use borrow.Author.Rules.{rules}
 use lib.ListN.{length}
-use Rattle.line_num_pairs.specs.Pairs.{range_at_lem, Cleared}
+use Rattle.line_num_pairs.specs.Pairs.{range_at, Cleared}
 use Rattle.line_num_pairs.proofs.MoveLaws.{cleared_none, cleared_next, cleared_done}
 use Rattle.line_num_pairs.proofs.clear_from.Statement.{statement}
 use Rattle.line_num_pairs.proofs.clear_from.Tie as tie
 
 abbrev invariant-loop : tie.invariant-loop
-invariant-loop pairs₀ from end k₀ pairs k = (from ≤ k) × (k ≤ max from end) × (length pairs ≡ length pairs₀) × Cleared (range_at_lem pairs₀) (range_at_lem pairs) from k
+invariant-loop pairs₀ from end k₀ pairs k = (from ≤ k) × (k ≤ max from end) × (length pairs ≡ length pairs₀) × Cleared (range_at pairs₀) (range_at pairs) from k
 
 abbrev decreases-loop : tie.decreases-loop
 decreases-loop pairs₀ from end k₀ pairs k = end - k

@@ -4,13 +4,13 @@ use Prim.Native.Nat.{◌+◌, ◌-◌, ◌≤◌}
 use native.Mathlib.Omega.{arith}
 use borrow.Author.Rules.{rules}
 use lib.ListN.{length}
-use Rattle.line_num_pairs.specs.Pairs.{range_at_lem, Carried}
+use Rattle.line_num_pairs.specs.Pairs.{range_at, Carried}
 use Rattle.line_num_pairs.proofs.MoveLaws.{carried_none, carried_as, up_next}
 use Rattle.line_num_pairs.proofs.copy_backward.Statement.{statement}
 use Rattle.line_num_pairs.proofs.copy_backward.Tie as tie
 
 abbrev invariant-loop : tie.invariant-loop
-invariant-loop pairs₀ from to n i₀ pairs i = (i ≤ n) × (length pairs ≡ length pairs₀) × Carried (range_at_lem pairs₀) (range_at_lem pairs) (from + i) (to + i) (n - i)
+invariant-loop pairs₀ from to n i₀ pairs i = (i ≤ n) × (length pairs ≡ length pairs₀) × Carried (range_at pairs₀) (range_at pairs) (from + i) (to + i) (n - i)
 
 abbrev decreases-loop : tie.decreases-loop
 decreases-loop pairs₀ from to n i₀ pairs i = i

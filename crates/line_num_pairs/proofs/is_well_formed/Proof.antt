@@ -5,13 +5,13 @@ use native.Mathlib.Omega.{arith}
 use lib.ListN.{length}
 use borrow.Author.Rules.{rules}
 use Rattle.model.specs.Ranges.{well_formed_ranges}
-use Rattle.line_num_pairs.specs.Pairs.{range_at_lem, ranges_in}
+use Rattle.line_num_pairs.specs.Pairs.{range_at, ranges_in}
 use Rattle.line_num_pairs.proofs.WellLaws.{ascending_from, well_short, well_start, well_low, well_turned, well_next, well_done}
 use Rattle.line_num_pairs.proofs.is_well_formed.Statement.{statement}
 use Rattle.line_num_pairs.proofs.is_well_formed.Tie as tie
 
 abbrev invariant-loop : tie.invariant-loop
-invariant-loop pairs used least₀ k₀ least k = (k ≤ used) × (used ≤ length pairs) × (well_formed_ranges (ranges_in pairs) used ≡ ascending_from (range_at_lem pairs) least k (used - k))
+invariant-loop pairs used least₀ k₀ least k = (k ≤ used) × (used ≤ length pairs) × (well_formed_ranges (ranges_in pairs) used ≡ ascending_from (range_at pairs) least k (used - k))
 
 abbrev decreases-loop : tie.decreases-loop
 decreases-loop pairs used least₀ k₀ least k = used - k
