@@ -106,6 +106,8 @@ module _ {R E K : Type 0} (key : E → K) (cmp : K → K → Ordering) (combine 
   pub groups_value : (ess js : List (List E)) (m : List E) → Sorted key cmp m → Made ess js
       → value (add_all key cmp combine (flat js) m) ≡ value (add_all key cmp combine (flat ess) m)
   groups_value [] [] m s h = refl
+  groups_value [] (j ∷ js) m s h = elim h [ ]
+  groups_value (es ∷ ess) [] m s h = elim h [ ]
   groups_value (es ∷ ess) (j ∷ js) m s h =
       ap value (add_all-append key cmp combine j (flat js) m)
       ∙ value-bind (add_all key cmp combine j m) (add_all key cmp combine es m) (λ n. add_all key cmp combine (flat js) n) (sym (group-value es m j s h.0))

@@ -17,7 +17,7 @@ use Rattle.ordmap.proofs.Results.{accepted_inj, map_accepted-accepted}
 use Rattle.ordmap.proofs.Maps.{some≢none}
 
 module _ {E K : Type 0} (key : E → K) (cmp : K → K → Ordering) where
-  pub above_member : {k : K} {l : List E} {a : E} → Above key cmp k l → Member a l → cmp k (key a) ≡ Ordering.lt
+  pub above_member : {k : K} {a : E} {l : List E} → Above key cmp k l → Member a l → cmp k (key a) ≡ Ordering.lt
   above_member {k} s (here e) = ap (λ (x : E). cmp k (key x)) e ∙ s.0
   above_member s (there i) = above_member s.1 i
 
@@ -25,6 +25,7 @@ module _ {E K : Type 0} (key : E → K) (cmp : K → K → Ordering) (L : Order 
   -- ---- the entries of a key
 
   pub only_member : (k : K) (l : List E) {a : E} → Member a (with_key key cmp k l) → Member a l × (key a ≡ k)
+  only_member k [] {a = a} i = elim i [ ]
   only_member k (x ∷ xs) {a} i = go (cmp k (key x)) refl i (λ j. only_member k xs j)
     where
       past : Member a xs × (key a ≡ k) → Member a (x ∷ xs) × (key a ≡ k)
@@ -37,7 +38,7 @@ module _ {E K : Type 0} (key : E → K) (cmp : K → K → Ordering) (L : Order 
       go Ordering.eq o (here h) ih = (here h, ap key h ∙ sym (L.equal o))
       go Ordering.eq o (there i) ih = past (ih i)
 
-  pub member_only : {k : K} {l : List E} {a : E} → key a ≡ k → Member a l → Member a (with_key key cmp k l)
+  pub member_only : {k : K} {a : E} {l : List E} → key a ≡ k → Member a l → Member a (with_key key cmp k l)
   member_only {k} h (here {x = x} {xs = xs} e) =
       let same : cmp k (key x) ≡ Ordering.eq = ap (λ (j : K). cmp k j) (sym (ap key e) ∙ h) ∙ L.same k in
       rw same (here e)
@@ -63,7 +64,7 @@ module _ {E K : Type 0} (key : E → K) (cmp : K → K → Ordering) (L : Order 
       go Ordering.eq o p ih = let e : x ≡ a = cc in (here (sym e), ap key (sym e) ∙ sym (L.equal o))
 
   -- a member's key is found
-  pub find_none : {k : K} {l : List E} {a : E} → find key cmp k l ≡ none → Member a l → key a ≡ k → ⊥
+  pub find_none : {k : K} {a : E} {l : List E} → find key cmp k l ≡ none → Member a l → key a ≡ k → ⊥
   find_none {k} {a} p (here {x = x} {xs = xs} e) h =
       let same : cmp k (key x) ≡ Ordering.eq = ap (λ (j : K). cmp k j) (sym (ap key e) ∙ h) ∙ L.same k in
       some≢none (rw same at p)
@@ -76,11 +77,13 @@ module _ {E K : Type 0} (key : E → K) (cmp : K → K → Ordering) (L : Order 
 -- ---- lists laid end to end
 
 pub flat_member : {A : Type 0} (ls : List (List A)) {a : A} → Member a (flat ls) → (l : List A) × Member l ls × Member a l
+flat_member {A = A} [] {a = a} i = elim i [ ]
 flat_member (l ∷ ls) {a} i =
     ⊎_elim (λ (j : Member a l). (l, here refl, j)) (λ (j : Member a (flat ls)). let (m, k, n) = flat_member ls j in (m, there k, n))
     (Memᴰ.append_cases l i)
 
-pub member_flat : {A : Type 0} {ls : List (List A)} {l : List A} {a : A} → Member l ls → Member a l → Member a (flat ls)
+pub member_flat : {A : Type 0} {l : List A} {ls : List (List A)} {a : A} → Member l ls → Member a l → Member a (flat ls)
+member_flat {A = A} {l = l} {ls = []} {a = a} x5 i = elim x5 [ ]
 member_flat {ls = x ∷ ls} {a} (here h) i = Memᴰ.append_left (flat ls) (rw h at i)
 member_flat {ls = x ∷ ls} (there j) i = Memᴰ.append_right x (member_flat j i)
 
