@@ -4,7 +4,7 @@ use mathlib.Core.Bool.{Bool, true, false, not}
 use mathlib.Core.List.{List, [], ◌∷◌, ◌++◌, append_assoc}
 use Prim.Native.Nat.{ℕ, zero, suc, ◌+◌, ◌-◌, ◌≤◌, ◌<◌, Ordering}
 use native.Mathlib.Omega.{arith}
-use borrow.Author.Tests.{not_true, not_false}
+use borrow.Author.Tests.{not-true, not-false}
 use lib.Dec.{compare_is_eq}
 use lib.ListN.{length, get_or, take, drop}
 use lib.Seq.{split_at, take_all, take-take, get_or-take}
@@ -75,10 +75,10 @@ module _ {a b : Bytes} {from p q : ℕ} {x y : Piece} (ε : Level a b from p q) 
           ∙ ap₂ (λ (z w : Piece). compare_paths (found a z) (found b w)) (sym g) (sym h) ∙ here
 
       pub left_on : not u ≡ false → Level a b from (e + 1) (f + 1)
-      left_on r = record { is = sym (ap (λ (z : Ordering). lex z (left a b (e + 1) (f + 1))) (sym (is_eq o (sym i ∙ not_false u r))) ∙ both) }
+      left_on r = record { is = sym (ap (λ (z : Ordering). lex z (left a b (e + 1) (f + 1))) (sym (is_eq o (sym i ∙ not-false u r))) ∙ both) }
 
       pub left-stop : not u ≡ true → o ≡ left a b from from
-      left-stop r = go o (sym i ∙ not_true u r) ∙ both
+      left-stop r = go o (sym i ∙ not-true u r) ∙ both
         where
           go : (o : Ordering) → compare_is_eq o ≡ false → o ≡ lex o (left a b (e + 1) (f + 1))
           go Ordering.lt h = refl

@@ -1,4 +1,6 @@
 // Three-way comparison of numbers, byte strings and paths. SPEC 4 says which keys compare how.
+#![tactic(auto)]
+
 mod path;
 mod prefix;
 
@@ -13,7 +15,7 @@ pub use path::compare_paths;
 pub use prefix::{common_prefix, min_usize, quad, word};
 
 // The Rust's `Ordering`.
-#[derive(Drop)]
+#[derive(Clone, Copy)]
 pub enum Order {
     Less,
     Equal,

@@ -78,7 +78,7 @@ fn is_component(path: &[u8], s: usize, e: usize) -> bool
 }
 
 // A piece that is a component.
-#[derive(Drop)]
+#[derive(Clone, Copy)]
 enum Piece {
     At { start: usize, end: usize },
     End,

@@ -32,7 +32,7 @@ use Rattle.cutting.proofs.Subs.{Sub, done, keep, leave, sub_trans, sub_All, sub_
 -- ---- lists
 
 module _ {A : Type 0} (P : A → Type 0) where
-  pub all_at_lem : {l : List A} {a : A} → All P l → Member a l → P a
+  pub all_at_lem : {a : A} {l : List A} → All P l → Member a l → P a
   all_at_lem h (here e) = rw e h.0
   all_at_lem h (there i) = all_at_lem h.1 i
 

@@ -79,7 +79,7 @@ one-run limit before test spelling path [] rest s h f e t room =
 one-run limit before test spelling path (i ∷ is) rest s h f e t room =
     section-run limit before test spelling (i ∷ is) s h f room i is refl
     (rw e (past-kept before (in_section (test, path) (section_item spelling)) (map (in_section (test, path)) (i ∷ is) ++ rest) refl t)) []
-    ∙ rw e
+    ∙ ap (λ (p : Path). accepted (outside (before ++ left_entries (test, p) spelling (i ∷ is)) [])) e
 
 left-sub : (key : SectionKey) (spelling : Bytes) (l items : List Item) → Sub l items
     → Sub (left_entries key spelling l) (map (in_section key) (section_item spelling ∷ items))

@@ -149,6 +149,8 @@ module _ (tag : Kind → Bytes) (L : Lawful tag) (bound : Bound) where
   texts_cut : (ranges : List Range) (limit : ℕ) → limit ≤ u32_max → (ts outs : List Bytes) (rs : List Report)
       → readEach (read_text tag limit) ts ≡ accepted rs → Pairwise (CutText tag bound ranges limit) ts outs
       → readEach (read_text tag limit) outs ≡ accepted (map (cut_report bound ranges) rs)
+  texts_cut ranges limit m [] (o ∷ os) rs p C = elim C [ ]
+  texts_cut ranges limit m (t ∷ ts) [] rs p C = elim C [ ]
   texts_cut ranges limit m [] [] rs p C = rw (← (accepted_inj p))
   texts_cut ranges limit m (t ∷ ts) (o ∷ os) rs p (c, C) =
       let (r, qs, i, j, h) = read_all-cons (read_text tag limit) t ts p in

@@ -3,7 +3,7 @@ use Prim.Native.Nat.{ℕ, suc, ◌≤◌, ◌<◌, ◌-◌, min, max}
 use native.Mathlib.Omega.{arith}
 use mathlib.Core.Path.{◌≡◌, refl, sym, ap, ◌∙◌}
 use mathlib.Core.Logic.{◌↔◌, ◌⊎◌, inl, inr}
-use mathlib.Core.Bool.{Bool, true, false, ◌&&◌, ◌||◌, true≢false, or_assoc, or_false}
+use mathlib.Core.Bool.{Bool, true, false, ◌&&◌, ◌||◌, true≢false, or_assoc, or-false}
 use mathlib.Core.List.Memᴰ.{head as here}
 use mathlib.Core.List.Memᴰ.{tail as there}
 use mathlib.Core.List.{List, [], ◌∷◌, ◌++◌, Memᴰ as Member}
@@ -153,6 +153,7 @@ any_member test (x ∷ xs) p = go (test x) refl p (λ q. any_member test xs q)
 
 member_any : {A : Type 0} (test : A → Bool) (l : List A) {a : A} → Member a l → test a ≡ true → any test l ≡ true
 unfolding any
+member_any {A = A} test [] {a = a} x'' t = elim x'' [ ]
 member_any test (x ∷ xs) (here h) t = or_left (any test xs) (ap test (sym h) ∙ t)
 member_any test (x ∷ xs) (there m) t = or_right (test x) (member_any test xs m t)
 
@@ -162,7 +163,7 @@ unfolding holds any
 ranges_hold rs s e h = (to, from)
   where
     is : holds (insert_all rs []) s e ≡ any (counts s e) rs
-    is = all-holds s e h rs [] ∙ or_false (any (counts s e) rs)
+    is = all-holds s e h rs [] ∙ or-false (any (counts s e) rs)
 
     to : holds (insert_all rs []) s e ≡ true → (r : Range) × Member r rs × Shares s e r
     to p = let (r, m, c) = any_member (counts s e) rs (sym is ∙ p) in (r, m, counts_shares s e h r c)

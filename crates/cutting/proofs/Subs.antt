@@ -33,7 +33,7 @@ module _ {A : Type 0} where
 
   pub sub_trans : {l m n : List A} → Sub l m → Sub m n → Sub l n
   sub_trans s done = s
-  sub_trans (keep s) (keep t) = keep (sub_trans s t)
+  sub_trans (keep {x = x} {xs = xs} s) (keep {xs = xs'} {ys = ys} t) = keep (sub_trans {l = xs} s t)
   sub_trans (leave s) (keep t) = leave (sub_trans s t)
   sub_trans s (leave t) = leave (sub_trans s t)
 

@@ -31,7 +31,7 @@ use table::Row;
 
 // What a row must meet to stay: a function that has a start; a branch or line whose line is held; a function whose range, up to its end
 // or the start that bounds it, queries yes.
-#[derive(Drop)]
+#[derive(Clone, Copy)]
 enum Rule {
     Started,
     Held,
@@ -39,7 +39,7 @@ enum Rule {
 }
 
 // A row that was looked at: whether it stays, and of a function its start, and where it ends if it gives no end.
-#[derive(Drop)]
+#[derive(Clone, Copy)]
 struct Looked {
     stays: bool,
     start: u32,
@@ -259,7 +259,7 @@ fn keep_functions(
 }
 
 // How many functions, branches and lines stay.
-#[derive(Drop)]
+#[derive(Clone, Copy)]
 struct Kept {
     functions: usize,
     branches: usize,

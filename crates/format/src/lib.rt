@@ -46,14 +46,14 @@ const POWERS: [u64; 20] = [
 ];
 
 // How often a power of ten was subtracted from a number, and what is left.
-#[derive(Drop)]
+#[derive(Clone, Copy)]
 struct Digit {
     digit: u64,
     rest: u64,
 }
 
 // How far a number is written: so many bytes, and what is left of it.
-#[derive(Drop)]
+#[derive(Clone, Copy)]
 struct Written {
     at: usize,
     rest: u64,

@@ -22,7 +22,7 @@ use report_parser::TextAnswer;
 use table::Row;
 
 // The rows of a table that are used, and how many of them are entries, in front.
-#[derive(Drop)]
+#[derive(Clone, Copy)]
 pub struct Rows {
     pub used: usize,
     pub kept: usize,

@@ -31,7 +31,7 @@ pub fn in_text(i: usize, refusal: Refusal) -> Refusal
 }
 
 // How many entries are joined, or why there are none.
-#[derive(Drop)]
+#[derive(Clone, Copy)]
 pub enum Gathered {
     Entries(usize),
     Refused(Refusal),

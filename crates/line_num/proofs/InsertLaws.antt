@@ -9,7 +9,7 @@ use mathlib.Core.List.{List, [], ◌∷◌, ◌++◌, append_assoc, append-nil}
 use lib.Dec.{leb, ltb}
 use lib.ListN.{length, get_or, set, take, drop, replicate, length-set, length-take, drop_of_length-le, replicate-append-replicate}
 use lib.Seq.{take_all, length-take-le, drop-cons, append_snoc, get_or-take, get_or-set_other, take-set-le, take-suc-set}
-use borrow.Author.Tests.{not_true, not_false, le-leb, lt-leb, lt-ltb, le-ltb, ltb-true, ltb-false}
+use borrow.Author.Tests.{not-true, not-false, le-leb, lt-leb, lt-ltb, le-ltb, ltb-true, ltb-false}
 use Rattle.model.specs.declared.Range.{Range}
 use Rattle.model.specs.Order.{if◌then◌else◌}
 use Rattle.model.specs.declared.Fault.TheVariants.{RangesFull, MalformedRanges}
@@ -357,12 +357,12 @@ module _ (slice : List Range) (used s e : ℕ) where
   module _ (i : used ≤ length slice) where
     called_unordered : not F.well ≡ true → Called
     called_unordered t =
-        called_ill (rw (le-leb used (length slice) i, not_true F.well t)) (plan_ill F used (length slice) i t (plan_by F 0 0 0 0) refl)
+        called_ill (rw (le-leb used (length slice) i, not-true F.well t)) (plan_ill F used (length slice) i t (plan_by F 0 0 0 0) refl)
         (answer_ill F used (length slice) i t (unplaced MalformedRanges) refl)
 
     module _ (t : not F.well ≡ false) where
       formed : well_formed_ranges slice used ≡ true
-      formed = sym (scan_formed slice used s e) ∙ rw (le-leb used (length slice) i, not_false F.well t)
+      formed = sym (scan_formed slice used s e) ∙ rw (le-leb used (length slice) i, not-false F.well t)
 
       called_dropped : F.end < F.start → Called
       unfolding insert_answer slice_after insert_range

@@ -9,7 +9,7 @@ use mathlib.Core.List.{List, [], ◌∷◌}
 use lib.Dec.{leb, ltb}
 use lib.ListN.{length, get_or, take, drop, length-take, drop_of_length-le}
 use lib.Seq.{drop-cons, get_or-take}
-use borrow.Author.Tests.{not_true, not_false, le-leb, lt-leb, lt-ltb, le-ltb, ltb-true, ltb-false}
+use borrow.Author.Tests.{not-true, not-false, le-leb, lt-leb, lt-ltb, le-ltb, ltb-true, ltb-false}
 use Rattle.model.specs.declared.Range.{Range}
 use Rattle.model.specs.declared.Refusal.{Refusal}
 use Rattle.model.specs.declared.Fault.TheVariants.{MalformedRanges}
@@ -25,14 +25,14 @@ use Rattle.line_num.specs.Scans.{scan_start, passes_by, stays_by, scanned_by, sc
 
 module _ (well : Bool) (least : ℕ) (x : Range) where
   pub order_ill : not well ≡ true → false ≡ (well && leb least x.start && leb x.start x.end)
-  order_ill h = rw (not_true well h)
+  order_ill h = rw (not-true well h)
 
   module _ (h : not well ≡ false) where
     pub order-low : x.start < least → false ≡ (well && leb least x.start && leb x.start x.end)
-    order-low l = rw (not_false well h, lt-leb least x.start l)
+    order-low l = rw (not-false well h, lt-leb least x.start l)
 
     pub order_told : least ≤ x.start → leb x.start x.end ≡ (well && leb least x.start && leb x.start x.end)
-    order_told l = rw (not_false well h, le-leb least x.start l)
+    order_told l = rw (not-false well h, le-leb least x.start l)
 
 module _ (held : Bool) (x : Range) (start end : ℕ) where
   pub held-before : held ≡ true → true ≡ (held || (leb x.start end && leb start x.end))
@@ -186,8 +186,8 @@ module _ (f : Scan) (used len : ℕ) where
   module _ (h : used ≤ len) where
     pub ill_answer : not f.well ≡ true → (r : Refusal) → r ≡ unplaced MalformedRanges → Query.Refused r ≡ query_answer (scan_answer f used len)
     unfolding scan_answer query_answer
-    ill_answer t r m = rw (le-leb used len h, not_true f.well t, m)
+    ill_answer t r m = rw (le-leb used len h, not-true f.well t, m)
 
     pub held_answer : not f.well ≡ false → Query.Holds f.held ≡ query_answer (scan_answer f used len)
     unfolding scan_answer query_answer
-    held_answer t = rw (le-leb used len h, not_false f.well t)
+    held_answer t = rw (le-leb used len h, not-false f.well t)

@@ -7,7 +7,7 @@ use mathlib.Core.List.{List}
 use native.Mathlib.Numerals.{add-one}
 use lib.ListN.{get_or, set}
 use lib.Dec.{ltb}
-use borrow.Author.Tests.{not_true, not_false, le-leb, lt-leb, lt-ltb, le-ltb, ltb-true, ltb-false}
+use borrow.Author.Tests.{not-true, not-false, le-leb, lt-leb, lt-ltb, le-ltb, ltb-true, ltb-false}
 use Rattle.model.specs.declared.Range.{Range}
 use Rattle.model.specs.declared.Refusal.{Refusal}
 use Rattle.model.specs.declared.Fault.TheVariants.{RangesFull, MalformedRanges}
@@ -34,37 +34,37 @@ module _ (f : Scan) (used len : ℕ) where
   module _ (h : used ≤ len) where
     pub plan_ill : not f.well ≡ true → (p : Plan) → p ≡ plan_by f 0 0 0 0 → p ≡ plan_of f used len
     unfolding plan_of
-    plan_ill t p is = rw (le-leb used len h, not_true f.well t, is)
+    plan_ill t p is = rw (le-leb used len h, not-true f.well t, is)
 
     pub answer_ill : not f.well ≡ true → (r : Refusal) → r ≡ unplaced MalformedRanges → Insert.Refused r ≡ answer_of f used len
     unfolding answer_of
-    answer_ill t r m = rw (le-leb used len h, not_true f.well t, m)
+    answer_ill t r m = rw (le-leb used len h, not-true f.well t, m)
 
     module _ (t : not f.well ≡ false) where
       pub plan_dropped : f.end < f.start → (p : Plan) → p ≡ plan_by f 0 used used (len - used) → p ≡ plan_of f used len
       unfolding plan_of
-      plan_dropped l p is = rw (le-leb used len h, not_false f.well t, lt-ltb f.end f.start l, is)
+      plan_dropped l p is = rw (le-leb used len h, not-false f.well t, lt-ltb f.end f.start l, is)
 
       pub answer_dropped : f.end < f.start → Insert.Used used ≡ answer_of f used len
       unfolding answer_of
-      answer_dropped l = rw (le-leb used len h, not_false f.well t, lt-ltb f.end f.start l)
+      answer_dropped l = rw (le-leb used len h, not-false f.well t, lt-ltb f.end f.start l)
 
       module _ (right : f.start ≤ f.end) where
         pub plan_put : f.at < len → (p : Plan) → p ≡ plan_by f used f.at (f.at + 1) (used + (len - f.at)) → p ≡ plan_of f used len
         unfolding plan_of
-        plan_put l p is = rw (le-leb used len h, not_false f.well t, le-ltb f.end f.start right, lt-ltb f.at len l, is)
+        plan_put l p is = rw (le-leb used len h, not-false f.well t, le-ltb f.end f.start right, lt-ltb f.at len l, is)
 
         pub answer_put : f.at < len → Insert.Used (f.at + 1) ≡ answer_of f used len
         unfolding answer_of
-        answer_put l = rw (le-leb used len h, not_false f.well t, le-ltb f.end f.start right, lt-ltb f.at len l)
+        answer_put l = rw (le-leb used len h, not-false f.well t, le-ltb f.end f.start right, lt-ltb f.at len l)
 
         pub plan_full : len ≤ f.at → (p : Plan) → p ≡ plan_by f 0 0 0 0 → p ≡ plan_of f used len
         unfolding plan_of
-        plan_full l p is = rw (le-leb used len h, not_false f.well t, le-ltb f.end f.start right, le-ltb f.at len l, is)
+        plan_full l p is = rw (le-leb used len h, not-false f.well t, le-ltb f.end f.start right, le-ltb f.at len l, is)
 
         pub answer_full : len ≤ f.at → (r : Refusal) → r ≡ unplaced RangesFull → Insert.Refused r ≡ answer_of f used len
         unfolding answer_of
-        answer_full l r m = rw (le-leb used len h, not_false f.well t, le-ltb f.end f.start right, le-ltb f.at len l, m)
+        answer_full l r m = rw (le-leb used len h, not-false f.well t, le-ltb f.end f.start right, le-ltb f.at len l, m)
 
 -- ---- one step
 

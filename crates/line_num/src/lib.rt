@@ -26,7 +26,7 @@ fn put_range(list: &mut [Range], i: usize, range: Range)
 
 // One pass over the ranges used: it queries the lines from start to end, and computes what an insert of them would
 // write.
-#[derive(Drop)]
+#[derive(Clone, Copy)]
 struct Scan {
     start: u32,
     end: u32,
@@ -186,7 +186,7 @@ pub fn query(list: &[Range], used: usize, s: u32, e: u32) -> QueryAnswer
 
 // The steps of an insert: the first `reads` read one range each and write them back with the new range among them; the
 // others fill the positions from `from` on, with one range below position n and zeros behind.
-#[derive(Drop)]
+#[derive(Clone, Copy)]
 struct Plan {
     reads: usize,
     from: usize,
@@ -199,7 +199,7 @@ struct Plan {
 }
 
 // A range and its place.
-#[derive(Drop)]
+#[derive(Clone, Copy)]
 struct Put {
     at: usize,
     range: Range,
@@ -342,7 +342,7 @@ pub fn insert(list: &mut [Range], used: usize, start: u32, end: u32) -> InsertAn
 pub const LIST: usize = 8;
 
 // What an insert answers, and the list afterwards.
-#[derive(Drop)]
+#[derive(Clone, Copy)]
 pub struct Inserted {
     pub answer: InsertAnswer,
     pub list: [Range; LIST],

@@ -3,7 +3,7 @@ use Prim.Native.Nat.{ℕ, ◌+◌, ◌-◌, ◌≤◌, ◌<◌}
 use mathlib.Core.Path.{◌≡◌, sym, ap, ◌∙◌}
 use mathlib.Core.Bool.{Bool, true, false, not}
 use mathlib.Core.List.{List, ◌∷◌, ◌++◌}
-use borrow.Author.Tests.{not_true, not_false, le-leb, lt-leb}
+use borrow.Author.Tests.{not-true, not-false, le-leb, lt-leb}
 use lib.ListN.{length, take, replicate}
 use Rattle.model.specs.declared.Range.{Range}
 use Rattle.model.specs.declared.Refusal.{Refusal}
@@ -21,10 +21,10 @@ use Rattle.line_num_pairs.proofs.JoinLaws.{inserted, dropped, length-replaced, c
 
 module _ (slice : List Range) (used : ℕ) (well : Bool) (is : well ≡ well_formed_ranges slice used) where
   pub told_well : not well ≡ false → well_formed_ranges slice used ≡ true
-  told_well h = sym is ∙ not_false well h
+  told_well h = sym is ∙ not-false well h
 
   told_ill : not well ≡ true → well_formed_ranges slice used ≡ false
-  told_ill h = sym is ∙ not_true well h
+  told_ill h = sym is ∙ not-true well h
 
   module _ (s e : ℕ) where
     pub query_malformed : not well ≡ true → (r : Refusal) → r ≡ unplaced MalformedRanges → Query.Refused r ≡ query_answer (query_call slice used s e)

@@ -121,7 +121,7 @@ pub fn query(pairs: &[[u32; 2]], used: usize, s: u32, e: u32) -> QueryAnswer
 }
 
 // A range that took in others, and the place of the first pair behind it.
-#[derive(Drop)]
+#[derive(Clone, Copy)]
 struct Joined {
     range: Range,
     past: usize,

@@ -19,7 +19,7 @@ use table::Row;
 use table_item::Found;
 
 // The number of entries that are now joined, or why there are none.
-#[derive(Drop)]
+#[derive(Clone, Copy)]
 pub enum Joined {
     Entries(usize),
     Refused(Fault),
@@ -27,7 +27,7 @@ pub enum Joined {
 
 // The sizes of main and delta, the position in main before which all entries come before what is still to be merged, and whether a new
 // row found no free row.
-#[derive(Drop)]
+#[derive(Clone, Copy)]
 struct Walk {
     main: usize,
     delta: usize,
@@ -35,7 +35,7 @@ struct Walk {
     full: bool,
 }
 
-#[derive(Drop)]
+#[derive(Clone, Copy)]
 enum Added {
     Next(Walk),
     Refused(Fault),

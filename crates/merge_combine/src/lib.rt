@@ -13,7 +13,7 @@ use model::{Fault, Mode};
 use table::Row;
 
 // Which of two start lines or checksums stays.
-#[derive(Drop)]
+#[derive(Clone, Copy)]
 enum Choice {
     Earlier,
     Later,
@@ -21,7 +21,7 @@ enum Choice {
 }
 
 // The row that two make, or why there is none.
-#[derive(Drop)]
+#[derive(Clone, Copy)]
 pub enum CombinedRow {
     One(Row),
     Refused(Fault),

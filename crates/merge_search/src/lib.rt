@@ -73,7 +73,7 @@ fn is_before(
 }
 
 // Positions between which the key's is.
-#[derive(Drop)]
+#[derive(Clone, Copy)]
 struct Span {
     lo: usize,
     hi: usize,

@@ -8,7 +8,7 @@ ghost use Rattle.merge_search.specs.Search.{EntriesAscending};
 use table::Row;
 
 // The current section: one of its rows as its text spells it, and one as the joined table does.
-#[derive(Drop)]
+#[derive(Clone, Copy)]
 pub struct Section {
     spelled: Row,
     joined: Row,

@@ -63,6 +63,7 @@ module _ {A : Type 0} where
 
   given-none : (os : List (Option A)) {a : A} → given os ≡ none → Member (some a) os → ⊥
   unfolding given
+  given-none [] {a = a} p i = elim i [ ]
   given-none (none ∷ os) p (here h) = impossible cc
   given-none (none ∷ os) p (there i) = given-none os p i
   given-none (some c ∷ os) p i = impossible cc
@@ -70,6 +71,7 @@ module _ {A : Type 0} where
 module _ {A : Type 0} (same : A → A → Bool) (S : Same same) where
   all_agree-each : (a : A) (os : List (Option A)) → all_agree same a os ≡ true → (b : A) → Member (some b) os → a ≡ b
   unfolding all_agree
+  all_agree-each a [] p b x'' = elim x'' [ ]
   all_agree-each a (none ∷ os) p b (here h) = cc
   all_agree-each a (none ∷ os) p b (there i) = all_agree-each a os p b i
   all_agree-each a (some c ∷ os) p b (here h) = let e : b ≡ c = cc in S.same_eq a c (and_left (same a c) (all_agree same a os) p) ∙ sym e
@@ -85,6 +87,7 @@ module _ {A : Type 0} (same : A → A → Bool) (S : Same same) where
 
   pub agreeing-each : (os : List (Option A)) → agreeing same os ≡ true → (a b : A) → Member (some a) os → Member (some b) os → a ≡ b
   unfolding agreeing
+  agreeing-each [] p a b i j = elim i [ ]
   agreeing-each (none ∷ os) p a b (here h) j = cc
   agreeing-each (none ∷ os) p a b (there i) (here h) = cc
   agreeing-each (none ∷ os) p a b (there i) (there j) = agreeing-each os p a b i j
@@ -177,12 +180,13 @@ joinable_as_perm i j {is} {js} e d h = by_key (λ i j. joinable_as i is ≡ true
         totals (and_right (agreeing same_bytes (map checksum_of is)) (leb (total (map count_of is)) u64_max) h) in
         rw (f, g)
 
-spellings_member : {is : List Item} {p : Bytes} → Member (section_item p) is → Member (some p) (spellings is)
+spellings_member : {p : Bytes} {is : List Item} → Member (section_item p) is → Member (some p) (spellings is)
 unfolding spellings
-spellings_member {is = section_item q ∷ is} {p} (here h) = let e : p ≡ q = cc in here (ap (λ (x : Bytes). some x) e)
-spellings_member {is = function_item f ∷ is} {p} (here h) = impossible cc
-spellings_member {is = branch_item k b m t ∷ is} {p} (here h) = impossible cc
-spellings_member {is = line_item m k t ∷ is} {p} (here h) = impossible cc
+spellings_member {p = p} {is = []} x'' = elim x'' [ ]
+spellings_member {p} {is = section_item q ∷ is} (here h) = let e : p ≡ q = cc in here (ap (λ (x : Bytes). some x) e)
+spellings_member {p} {is = function_item f ∷ is} (here h) = impossible cc
+spellings_member {p} {is = branch_item k b m t ∷ is} (here h) = impossible cc
+spellings_member {p} {is = line_item m k t ∷ is} (here h) = impossible cc
 spellings_member {is = section_item q ∷ is} (there i) = there (spellings_member i)
 spellings_member {is = function_item f ∷ is} (there i) = spellings_member i
 spellings_member {is = branch_item k b m t ∷ is} (there i) = spellings_member i
@@ -243,6 +247,7 @@ module _ (k : Key) where
 
 member_spelling : (is : List Item) {p : Bytes} → Member (some p) (spellings is) → Member (section_item p) is
 unfolding spellings
+member_spelling [] {p = p} i = elim i [ ]
 member_spelling (section_item q ∷ is) {p} (here h) = let e : p ≡ q = cc in here (ap (λ (x : Bytes). section_item x) e)
 member_spelling (section_item q ∷ is) (there i) = there (member_spelling is i)
 member_spelling (function_item f ∷ is) i = there (member_spelling is i)

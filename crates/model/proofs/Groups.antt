@@ -83,6 +83,8 @@ module _ (tag : Kind → Bytes) (L : Lawful tag) (limit : ℕ) (small : limit �
     back : readEach read (map (print_report tag) js) ≡ accepted js
 
   some_groups : (tss : List (List Text)) (js : List Report) → Gathered tss js → Some tss js
+  some_groups [] (j ∷ js) g = elim g [ ]
+  some_groups (ts ∷ tss) [] g = elim g [ ]
   some_groups [] [] g = record { reports = []; read_to = refl; adds = tt; back = refl }
   some_groups (ts ∷ tss) (j ∷ js) g =
       let o : One ts j = one ts j g.0 in
@@ -109,6 +111,8 @@ module _ (tag : Kind → Bytes) (L : Lawful tag) (limit : ℕ) (small : limit �
 
   -- what the groups' gathers wrote is their reports, printed
   reports_of : (groups outs : List Bytes) → Written tag limit groups outs → (js : List Report) × (outs ≡ map (print_report tag) js) × Gathered (map texts groups) js
+  reports_of [] (o ∷ os) w = elim w [ ]
+  reports_of (g ∷ gs) [] w = elim w [ ]
   reports_of [] [] w = ([], refl, tt)
   reports_of (g ∷ gs) (o ∷ os) ((words, room, l, p), w) =
       let (rs, A, e) = gather-acceptable tag g words room p in

@@ -72,6 +72,7 @@ insert_member e (x ∷ xs) {a} i = go (compare_keys (entry_key e) (entry_key x))
 
 insert-keeps : (e : Entry) (l : List Entry) {a : Entry} → Member a l → Member a (insert_key e l)
 unfolding insert_key
+insert-keeps e [] {a = a} i = elim i [ ]
 insert-keeps e (x ∷ xs) {a} i = go (compare_keys (entry_key e) (entry_key x)) i (λ j. insert-keeps e xs j)
   where
     go : (o : Ordering) → Member a (x ∷ xs) → (Member a xs → Member a (insert_key e xs))
@@ -103,6 +104,7 @@ distinct_member (e ∷ es) {a} i = go (insert_member e (distinct_keys es) i) (λ
 
 pub distinct_key : (es : List Entry) {a : Entry} → Member a es → HasKey (entry_key a) (distinct_keys es)
 unfolding distinct_keys
+distinct_key [] {a = a} x' = elim x' [ ]
 distinct_key (e ∷ es) (here h) = rw (ap entry_key h) (insert-new e (distinct_keys es))
 distinct_key (e ∷ es) (there i) =
     let (b, j, k) = distinct_key es i in
@@ -119,6 +121,7 @@ joined_as-key (line_item line count checksum) js = refl
 
 joined_item-key : (k : List ℕ) (is : List Item) {i : Item} → Member i is → ((j : Item) → Member j is → item_key j ≡ k) → item_key (joined_item is) ≡ k
 unfolding joined_item
+joined_item-key k [] {i = i} m h = elim m [ ]
 joined_item-key k (j ∷ js) m h = joined_as-key j (j ∷ js) ∙ h j (here refl)
 
 pub joinable_none : joinable [] ≡ true

@@ -21,7 +21,8 @@ use Rattle.model.proofs.ListLaws.{All, all_append}
 use Rattle.model.proofs.Clean.{RecordFits}
 use Rattle.model.proofs.TextLaws.{lines_print}
 use Rattle.model.proofs.RunLaws.{run, run-append, read_lines-run}
-use Rattle.model.proofs.SectionLaws.{section-run}
+use Rattle.model.specs.Path.{Path as Names}
+use Rattle.model.proofs.SectionLaws.{entries_of, section-run}
 use Rattle.model.proofs.PrintLaws.{one-lines, section-fits}
 use Rattle.model.proofs.Blocks.{
   Block,
@@ -78,7 +79,7 @@ blocks_run limit kept (b ∷ bs) s g n =
         (sorted-items b.test b.path b.items (blocks_entries bs) (sorted-right entry_key compare_keys kept (own ∷ after) s).1)
         g.0.shaped.in_section_lem g.0.fits room g.0.shaped.some_item.first g.0.shaped.some_item.rest g.0.shaped.some_item.is
         (rw g.0.spelled (past-kept kept own after refl s)) []
-        ∙ rw g.0.spelled
+        ∙ ap (λ (p : Names). accepted (outside (kept ++ entries_of b.test p b.spelling b.items) [])) g.0.spelled
 
 blocks_fit : (blocks : List Block) → All Good blocks → length (blocks_entries blocks) ≤ u32_max → All RecordFits (records blocks)
 unfolding concat_map

@@ -3,7 +3,7 @@
 
 // Why a call is refused. `number_of` in specs/Answer.antt gives each its number in SPEC 9.1's table; the names of the faults that
 // the Rust has too are the Rust's.
-#[derive(Drop)]
+#[derive(Clone, Copy)]
 pub enum Fault {
     UnknownRecord,
     FieldNotFound,
@@ -37,7 +37,7 @@ pub enum Fault {
 
 // A fault and its place: the text's index from 0, the line and the field from 1, and the length that an output would need. What a
 // fault does not have is 0.
-#[derive(Drop)]
+#[derive(Clone, Copy)]
 pub struct Refusal {
     pub fault: Fault,
     pub text: u32,
@@ -47,7 +47,7 @@ pub struct Refusal {
 }
 
 // The thirteen kinds of record, in the order of `RecordKind`.
-#[derive(Drop)]
+#[derive(Clone, Copy)]
 pub enum Kind {
     TestName,
     SourceFile,
@@ -65,35 +65,35 @@ pub enum Kind {
 }
 
 // A part of the lent text: a start and a length.
-#[derive(Drop)]
+#[derive(Clone, Copy)]
 pub struct Part {
     pub start: usize,
     pub len: usize,
 }
 
 // A branch's taken count, or none.
-#[derive(Drop)]
+#[derive(Clone, Copy)]
 pub enum Taken {
     Given(u64),
     Absent,
 }
 
 // The line where a function ends, or none.
-#[derive(Drop)]
+#[derive(Clone, Copy)]
 pub enum EndLine {
     Given(u32),
     Absent,
 }
 
 // A line's checksum, or none.
-#[derive(Drop)]
+#[derive(Clone, Copy)]
 pub enum Checksum {
     Given(Part),
     Absent,
 }
 
 // A record whose texts are parts of the lent text.
-#[derive(Drop)]
+#[derive(Clone, Copy)]
 pub enum Record {
     // "TN:decoder"
     TestName(Part),
@@ -140,56 +140,56 @@ pub enum Record {
 }
 
 // How two given start lines or checksums meet: they must agree, or the later one wins.
-#[derive(Drop)]
+#[derive(Clone, Copy)]
 pub enum Mode {
     Checked,
     Lossy,
 }
 
 // Which start bounds a function that gives no end: that of the next function in printing order, or the next greater one.
-#[derive(Drop)]
+#[derive(Clone, Copy)]
 pub enum Bound {
     NextStart,
     GreaterStart,
 }
 
 // A range of lines, both ends in it.
-#[derive(Drop)]
+#[derive(Clone, Copy)]
 pub struct Range {
     pub start: u32,
     pub end: u32,
 }
 
 // The record of a line.
-#[derive(Drop)]
+#[derive(Clone, Copy)]
 pub enum LineAnswer {
     Read(Record),
     Refused(Refusal),
 }
 
 // A number field: its value, and how many digits were read.
-#[derive(Drop)]
+#[derive(Clone, Copy)]
 pub enum NumberAnswer {
     Read { value: u64, digits: usize },
     Refused(Refusal),
 }
 
 // How many bytes were written to the output.
-#[derive(Drop)]
+#[derive(Clone, Copy)]
 pub enum WriteAnswer {
     Written(usize),
     Refused(Refusal),
 }
 
 // How many pairs of the range list are used after an insert.
-#[derive(Drop)]
+#[derive(Clone, Copy)]
 pub enum InsertAnswer {
     Used(usize),
     Refused(Refusal),
 }
 
 // Whether the range list holds one of the queried lines.
-#[derive(Drop)]
+#[derive(Clone, Copy)]
 pub enum QueryAnswer {
     Holds(bool),
     Refused(Refusal),

@@ -2,7 +2,7 @@
 use model::Refusal;
 
 // How many lines, functions and branches are hit.
-#[derive(Drop)]
+#[derive(Clone, Copy)]
 pub struct Hits {
     pub lines: u64,
     pub functions: u64,
@@ -10,7 +10,7 @@ pub struct Hits {
 }
 
 // Of the least and of the greatest counts, or why there are none.
-#[derive(Drop)]
+#[derive(Clone, Copy)]
 pub enum BoundsAnswer {
     Bounds { least: Hits, greatest: Hits },
     Refused(Refusal),

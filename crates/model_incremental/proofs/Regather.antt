@@ -134,6 +134,8 @@ module _ (tag : Kind → Bytes) (L : Lawful tag) (limit : ℕ) (small : limit �
 
   gathered_groups : (groups : List (List Text)) (outputs : List Bytes) → Gathered tag limit groups outputs
       → InGroups outputs (flat (map contents groups))
+  gathered_groups [] (o ∷ os) h = elim h [ ]
+  gathered_groups (g ∷ gs) [] h = elim h [ ]
   gathered_groups [] [] h = no_groups
   gathered_groups (g ∷ gs) (o ∷ os) ((report, p, e), h) = gathered-more g report o p e os (flat (map contents gs)) (gathered_groups gs os h)
 
@@ -145,6 +147,7 @@ module _ (tag : Kind → Bytes) (L : Lawful tag) (limit : ℕ) (small : limit �
   -- PARTS: each group of texts that are gathered is
   groups_accepted : (groups : List (List Text)) (rs : List Report) → readEach read (flat (map contents groups)) ≡ accepted rs → Joins limit rs
       → (group : List Text) → Member group groups → IsAccepted (gathers group)
+  groups_accepted [] rs p J group m = elim m [ ]
   groups_accepted (g ∷ gs) rs p J group m =
       go (read_all-split read (contents g) (flat (map contents gs)) p) (λ qs q K n. groups_accepted gs qs q K group n) m
     where
@@ -255,6 +258,8 @@ module _ (tag : Kind → Bytes) (L : Lawful tag) (limit : ℕ) (small : limit �
   themselves (b ∷ bs) = text_file b (themselves bs)
 
   pub written_stand : (parts outputs : List Bytes) → Written tag limit parts outputs → StandFor tag limit outputs (flat (map texts_of parts))
+  written_stand [] (o ∷ os) w = elim w [ ]
+  written_stand (p ∷ ps) [] w = elim w [ ]
   written_stand [] [] w = no_file
   written_stand (p ∷ ps) (o ∷ os) ((words, room, l, g), w) = output_file p o words room l g (themselves (texts_of p)) (written_stand ps os w)
 

@@ -189,6 +189,7 @@ unfolding section_totals
 within_section report t i = go (sections report) i
   where
     go : (l : List Section) → Member t (map (λ s. totals_of s.items) l) → HitWithinFound t
+    go [] i = elim i [ ]
     go (s ∷ l) (here e) = rw e (within-items s.items)
     go (s ∷ l) (there j) = go l j
 

@@ -1,13 +1,14 @@
 // The numbers of a page of totals. The page is defined in specs/, its laws are in proofs/.
+#![tactic(auto)]
 
 // How many were hit, of how many found.
-#[derive(Drop)]
+#[derive(Clone, Copy)]
 pub struct Ratio {
     pub hit: u64,
     pub found: u64,
 }
 
-#[derive(Drop)]
+#[derive(Clone, Copy)]
 pub struct Totals {
     pub functions: Ratio,
     pub branches: Ratio,

@@ -62,7 +62,7 @@ fn section_width(tags: &[u8]) -> u64
 }
 
 // What the lines of each kind of row have besides digits and texts, at most. It depends on the tags alone.
-#[derive(Drop)]
+#[derive(Clone, Copy)]
 struct Widths {
     line: u64,
     branch: u64,

@@ -36,7 +36,7 @@ fn kind_end(words: &[u64], index: usize, used: usize, n: usize, from: usize, kin
 }
 
 // Where a section's functions, branches and lines end.
-#[derive(Drop)]
+#[derive(Clone, Copy)]
 pub struct KindRanges {
     pub functions: usize,
     pub branches: usize,
@@ -167,7 +167,7 @@ fn print_groups(
 }
 
 // The place of the next section, and the place in the output.
-#[derive(Drop)]
+#[derive(Clone, Copy)]
 pub struct Printed {
     pub next: usize,
     pub at: usize,

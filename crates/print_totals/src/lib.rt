@@ -164,7 +164,7 @@ fn emit_names(text: &[u8], header: Row, out: &mut [u8], at: usize, write: bool) 
 }
 
 // The position of the next section, the offset in the output, and the numbers of the section.
-#[derive(Drop)]
+#[derive(Clone, Copy)]
 pub struct Line {
     pub next: usize,
     pub at: usize,

@@ -5,7 +5,7 @@ ghost use Rattle.record_display.specs.Fields.{FieldsOf, last_len, inside};
 use model::{Checksum, EndLine, Kind, Part, Record, Taken};
 
 // The last field of a record, after its numbers.
-#[derive(Drop)]
+#[derive(Clone, Copy)]
 pub enum Last {
     Nothing,
     Dash,
@@ -13,7 +13,7 @@ pub enum Last {
 }
 
 // A record's kind, its numbers, which are the first count of the array, and its last field.
-#[derive(Drop)]
+#[derive(Clone, Copy)]
 pub struct Fields {
     pub kind: Kind,
     pub numbers: [u64; 4],

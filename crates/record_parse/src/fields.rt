@@ -10,7 +10,7 @@ use scan::Number;
 use scan_digits::Short;
 
 // A number field of a line: the last one, or a comma follows, and the next field starts at a position of the line; or its fault.
-#[derive(Drop)]
+#[derive(Clone, Copy)]
 pub(crate) enum Field {
     Last(u64),
     More { value: u64, next: usize },

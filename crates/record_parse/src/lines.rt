@@ -194,7 +194,7 @@ pub(crate) fn read_line_data(line: &[u8], at: usize) -> LineAnswer
 }
 
 // The kinds that hold one number.
-#[derive(Drop)]
+#[derive(Clone, Copy)]
 pub(crate) enum Total {
     FunctionsFound,
     FunctionsHit,

@@ -1,4 +1,6 @@
 // SPEC 9.1's number of a fault, by the table `number_of` of the model.
+#![tactic(auto)]
+
 ghost use Rattle.std.specs.Prelude.{◌≡◌};
 ghost use Rattle.model.specs.Answer.{number_of, unplaced};
 

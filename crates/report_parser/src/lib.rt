@@ -11,14 +11,14 @@ use model::{Fault, LineAnswer, Refusal};
 use section::{State, Step};
 
 // The state after a line and where the next line starts, or why the text is refused.
-#[derive(Drop)]
+#[derive(Clone, Copy)]
 enum LineStep {
     Next { state: State, next: usize },
     Refused(Refusal),
 }
 
 // How many entries are kept and how many rows are in use, or why the text is refused.
-#[derive(Drop)]
+#[derive(Clone, Copy)]
 pub enum TextAnswer {
     Read { kept: usize, used: usize },
     Refused(Refusal),

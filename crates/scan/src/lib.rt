@@ -1,5 +1,7 @@
 // Bytes searched, compared and trimmed, and numbers read. These are the words "bytes 10 and 13 are dropped" of SPEC 2.1 and "a number has
 // digits alone" of SPEC 2.3.
+#![tactic(auto)]
+
 ghost use Rattle.std.specs.Prelude.{◌≡◌, ◌<◌, ◌≤◌, length, take};
 ghost use Rattle.model.specs.Bytes.{before, same_bytes};
 ghost use Rattle.model.specs.Line.{trimmed};
@@ -8,7 +10,7 @@ ghost use Rattle.scan.specs.Scan.{is_end, is_signed, with_digits, Above, NumberR
 use model::Fault;
 
 // A number at the front of a text, with how many digits were read: the text ends after them, or a comma follows; or its fault.
-#[derive(Drop)]
+#[derive(Clone, Copy)]
 pub enum Number {
     Last { value: u64, digits: usize },
     More { value: u64, digits: usize },

@@ -5,7 +5,7 @@ ghost use Rattle.scan_digits.specs.Word.{word_of, value_from, Small, EndOf, Shor
 
 // A number at the front of a part, with how many digits were read, if it is known to be short: at most eight, and after them the end or a
 // comma.
-#[derive(Drop)]
+#[derive(Clone, Copy)]
 pub enum Short {
     Last { value: u64, digits: usize },
     More { value: u64, digits: usize },

@@ -16,7 +16,7 @@ use table::Row;
 
 // The state between two lines: the number of kept rows, of those in the delta, and of tombstones; the number of rows in
 // use; the sizes of the open section; the last test name; the open section's path, and whether its SF came.
-#[derive(Drop)]
+#[derive(Clone, Copy)]
 pub struct State {
     pub kept: usize,
     pub delta: usize,
@@ -29,7 +29,7 @@ pub struct State {
     pub has_path: bool,
 }
 
-#[derive(Drop)]
+#[derive(Clone, Copy)]
 pub enum Step {
     Next(State),
     Refused(Fault),

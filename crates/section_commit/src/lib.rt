@@ -18,7 +18,7 @@ use table_section::{EqualRange, compare_sections, equal_range, header_row, splic
 use table_tombstone::mark_deleted;
 
 // The number of rows in main and in the delta, and how many of main's are tombstones.
-#[derive(Drop)]
+#[derive(Clone, Copy)]
 pub struct KeptSizes {
     pub main: usize,
     pub delta: usize,

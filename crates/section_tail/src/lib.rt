@@ -20,7 +20,7 @@ use table_item::{Combined, combine, comes_before, compare_items, is_calls};
 
 // The sizes of main, delta and tail of the open section; how often its tail was started, plus HINTED where it has hints, which only guides
 // speed; and the sum of the calls of all FNDA lines so far, u64::MAX where it does not fit.
-#[derive(Drop)]
+#[derive(Clone, Copy)]
 pub struct OpenSizes {
     pub main: usize,
     pub delta: usize,
@@ -30,7 +30,7 @@ pub struct OpenSizes {
 }
 
 // The sizes after a row was added, or why the row is refused.
-#[derive(Drop)]
+#[derive(Clone, Copy)]
 pub enum Outcome {
     Items(OpenSizes),
     Refused(Fault),

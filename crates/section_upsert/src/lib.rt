@@ -63,7 +63,7 @@ fn insert_delta(
 }
 
 // The sizes of main and delta, or why the row is refused.
-#[derive(Drop)]
+#[derive(Clone, Copy)]
 pub enum UpsertOutcome {
     Items(usize, usize),
     Refused(Fault),

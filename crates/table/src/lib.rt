@@ -2,6 +2,8 @@
 // (docs/ARCHITECTURE.md, "The scratch"). Row j starts at word j * ROW_WORDS. The index starts at word `index`, behind the rows; its
 // first `used` words are the row numbers below `used`, each once. A row changes its position by moving words of the index; rows never
 // move. The words behind the index are spare: `push_row`, `put` and `move_row` leave them unchanged.
+#![tactic(auto)]
+
 ghost use Rattle.std.specs.Prelude.{◌≡◌, ◌⊎◌, ◌+◌, ◌*◌, ◌≤◌, ◌<◌, length};
 ghost use Rattle.table.specs.Places.{Unchanged, Updated, RowsMoved, BlocksSwapped};
 ghost use Rattle.table.specs.Rows.{row_words, row_at, UnchangedOutside, Moved, Written};
@@ -22,7 +24,7 @@ pub const TAG_WORD: usize = 4;
 // | function | name, offset            | name, length    | start, end line | calls | end line   |
 // | branch   | line                    | block           | branch          | taken | taken      |
 // | line     | line                    | checksum, offset| checksum, length| runs  | checksum   |
-#[derive(Drop)]
+#[derive(Clone, Copy)]
 pub struct Row {
     pub test: u64,
     pub test_len: u64,

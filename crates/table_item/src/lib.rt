@@ -261,7 +261,7 @@ fn lower_bound_item(
 }
 
 // The position of a key, or its insert position.
-#[derive(Drop)]
+#[derive(Clone, Copy)]
 pub enum Found {
     At(usize),
     Insert(usize),
@@ -325,7 +325,7 @@ pub fn find_item(
 }
 
 // What two rows of one key make, or that their counts do not add.
-#[derive(Drop)]
+#[derive(Clone, Copy)]
 pub enum Combined {
     One(Row),
     Overflow,

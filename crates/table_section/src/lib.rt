@@ -118,7 +118,7 @@ fn upper_bound(
 }
 
 // Positions lo up to hi, not including hi.
-#[derive(Drop)]
+#[derive(Clone, Copy)]
 pub struct EqualRange {
     pub lo: usize,
     pub hi: usize,

@@ -5,7 +5,7 @@ use mathlib.Core.Bool.{Bool, true, false, not}
 use mathlib.Core.List.{List, [], ◌∷◌, ◌++◌}
 use Prim.Native.Nat.{ℕ, zero, suc, ◌+◌, ◌≤◌, ◌<◌}
 use native.Mathlib.Omega.{arith}
-use borrow.Author.Tests.{eqb-true, not_false, eq-eqb, ne_eqb}
+use borrow.Author.Tests.{eqb-true, not-false, eq-eqb, ne_eqb}
 use lib.Dec.{eqb}
 use lib.ListN.{length}
 use Rattle.model.specs.Order.{if◌then◌else◌}
@@ -28,7 +28,7 @@ module _ (r : Row) where
   tag_deleted e = ap not (eq-eqb r.tag tombstone_tag e)
 
   pub deleted_tagged : is_live r ≡ false → r.tag ≡ tombstone_tag
-  deleted_tagged e = eqb-true r.tag tombstone_tag (not_false (eqb r.tag tombstone_tag) e)
+  deleted_tagged e = eqb-true r.tag tombstone_tag (not-false (eqb r.tag tombstone_tag) e)
 
   -- marking a deleted row changes nothing
   pub deleted_again : is_live r ≡ false → deleted_row r ≡ r

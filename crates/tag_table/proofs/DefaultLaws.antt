@@ -8,7 +8,7 @@ use mathlib.Core.List.{[], ◌∷◌, ◌++◌, append_assoc, Memᴰ as Member}
 use native.Mathlib.Omega.{arith}
 use lib.ListN.{length, take, drop, take-append-drop}
 use lib.Seq.{length-take-le}
-use borrow.Author.Tests.{not_true}
+use borrow.Author.Tests.{not-true}
 use Rattle.model.specs.declared.Kind.{Kind}
 use Rattle.model.specs.declared.Kind.TheVariants as Kd
 use Rattle.model.specs.Lists.{all}
@@ -52,7 +52,7 @@ module _ (tag : Bytes) where
   unfolding all all_kinds
   no_tag t a b c d e f g =
       let other : (kind : Kind) → Member kind totals → same_bytes tag (default_tag kind) ≡ false =
-      λ kind m. not_true (same_bytes tag (default_tag kind)) (all-each (λ kind. not (same_bytes tag (default_tag kind))) totals t kind m) in
+      λ kind m. not-true (same_bytes tag (default_tag kind)) (all-each (λ kind. not (same_bytes tag (default_tag kind))) totals t kind m) in
       rw (
         a.is,
         b.is,
@@ -111,7 +111,7 @@ named-found s mark at Unknown found body within n =
     record {
       none = λ kind.
           ap (λ (t : Bytes). same_bytes t (default_tag kind)) (sym (before_prefix 58 s) ∙ ap (λ (m : ℕ). take m s) (sym found))
-          ∙ not_true (same_bytes (take mark s) (default_tag kind))
+          ∙ not-true (same_bytes (take mark s) (default_tag kind))
           (all-each (λ kind. not (same_bytes (take mark s) (default_tag kind))) all_kinds n.none kind (kind_member kind));
     }
 

@@ -124,7 +124,7 @@ pub fn kind_of(s: &[u8]) -> Found
 }
 
 // A tag: the first len of the bytes.
-#[derive(Drop)]
+#[derive(Clone, Copy)]
 struct Tag {
     bytes: [u8; 13],
     len: usize,

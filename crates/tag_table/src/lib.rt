@@ -14,14 +14,14 @@ mod rules;
 use model::{Fault, Kind};
 
 // The kind that a line's tag has, and where the line's body starts.
-#[derive(Drop)]
+#[derive(Clone, Copy)]
 pub enum Found {
     Known { kind: Kind, at: usize },
     Unknown,
 }
 
 // A table is handed on, or refused.
-#[derive(Drop)]
+#[derive(Clone, Copy)]
 pub enum Loading {
     Loaded,
     Refused(Fault),

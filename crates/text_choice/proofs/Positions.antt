@@ -68,6 +68,7 @@ any-each test (x ∷ xs) p = go (test x) refl p (any-each test xs)
 
 each-any : {A : Type 0} (test : A → Bool) (l : List A) (a : A) → Member a l → test a ≡ true → any test l ≡ true
 unfolding any
+each-any {A = A} test [] a x'' e = elim x'' [ ]
 each-any test (x ∷ xs) a (here h) e = let f : test x ≡ true = ap test (sym h) ∙ e in rw f
 each-any test (x ∷ xs) a (there i) e = go (test x) (each-any test xs a i e)
   where

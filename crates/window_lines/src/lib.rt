@@ -60,7 +60,7 @@ fn mark_window(marks: &mut [u8], n: usize, width: usize, i: usize)
 }
 
 // The lines of a window's joined report that are hit and found, or why there is none.
-#[derive(Drop)]
+#[derive(Clone, Copy)]
 pub enum Window {
     Lines(Ratio),
     Refused(Refusal),

@@ -5,10 +5,10 @@ use Rattle.scan.proofs.ByteLaws.{same_length, same-differ, same_next, same_end}
 use Rattle.scan.proofs.equal.Statement.{statement}
 use Rattle.scan.proofs.equal.Tie as tie
 
-abbrev invariant-loop : tie.invariant-loop
+abbrev invariant-loop : tie.invariant-loop-i
 invariant-loop a b i₀ i = (i ≤ length a) × (same_bytes (drop i a) (drop i b) ≡ same_bytes a b)
 
-abbrev decreases-loop : tie.decreases-loop
+abbrev decreases-loop : tie.decreases-loop-i
 decreases-loop a b i₀ i = length a - i
 
 pub equal_spec : {M : Type 1} → statement M

@@ -5,10 +5,10 @@ use Rattle.scan.proofs.ByteLaws.{found_here, found_later, found_none}
 use Rattle.scan.proofs.find.Statement.{statement}
 use Rattle.scan.proofs.find.Tie as tie
 
-abbrev invariant-loop : tie.invariant-loop
+abbrev invariant-loop : tie.invariant-loop-i
 invariant-loop s b i₀ i = (i ≤ length s) × (i + length (before b (drop i s)) ≡ length (before b s))
 
-abbrev decreases-loop : tie.decreases-loop
+abbrev decreases-loop : tie.decreases-loop-i
 decreases-loop s b i₀ i = length s - i
 
 pub find_spec : {M : Type 1} → statement M

@@ -8,5 +8,5 @@ unfolding is_end
 is_end_spec =
     tie.close
     (tie.spec
-    (λ c. simp (eq-eqb _ _ c.if1.true))
-    (λ c. simp (ne_eqb _ _ c.if1.false)))
+    (λ c. simp (eq-eqb _ _ c.if-b-eq10.true))
+    (λ c. simp (ne_eqb _ _ c.if-b-eq10.false)))

@@ -4,10 +4,10 @@ use Rattle.scan.proofs.NumberLaws.{Scan, sign_read, scan_start_lem, scan_end, sc
 use Rattle.scan.proofs.read_number.Statement.{statement}
 use Rattle.scan.proofs.read_number.Tie as tie
 
-abbrev invariant-loop : tie.invariant-loop
+abbrev invariant-loop : tie.invariant-loop-i
 invariant-loop s max value₀ i₀ value i = Scan max s i value
 
-abbrev decreases-loop : tie.decreases-loop
+abbrev decreases-loop : tie.decreases-loop-i
 decreases-loop s max value₀ i₀ value i = length s - i
 
 pub read_number_spec : {M : Type 1} → statement M
@@ -27,8 +27,8 @@ read_number_spec =
     (λ c. search (scan_bad, rules))
     (λ c κs. search rules)
     (λ c. search (scan_large, rules))
-    (λ c. omega (arith, fits c.before.is-above.ensures c.if4.false))
-    (λ c. omega (arith, fits c.before.is-above.ensures c.if4.false))
+    (λ c. omega (arith, fits c.before.is_above.ensures c.if-is_above.false))
+    (λ c. omega (arith, fits c.before.is_above.ensures c.if-is_above.false))
     (λ c. search rules)
     (λ c. search rules)
     (λ c. search (scan_step, rules))

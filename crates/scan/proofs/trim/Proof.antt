@@ -6,10 +6,10 @@ use Rattle.scan.proofs.ByteLaws.{trim_none, trim_stop, trim_more}
 use Rattle.scan.proofs.trim.Statement.{statement}
 use Rattle.scan.proofs.trim.Tie as tie
 
-abbrev invariant-loop : tie.invariant-loop
+abbrev invariant-loop : tie.invariant-loop-n
 invariant-loop s n₀ n = (n ≤ length s) × (trimmed (take n s) ≡ trimmed s)
 
-abbrev decreases-loop : tie.decreases-loop
+abbrev decreases-loop : tie.decreases-loop-n
 decreases-loop s n₀ n = n
 
 pub trim_spec : {M : Type 1} → statement M

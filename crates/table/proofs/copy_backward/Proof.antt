@@ -8,10 +8,10 @@ use Rattle.table.proofs.WordLaws.{moved_none, moved-one, moved_as}
 use Rattle.table.proofs.copy_backward.Statement.{statement}
 use Rattle.table.proofs.copy_backward.Tie as tie
 
-abbrev invariant-loop : tie.invariant-loop
+abbrev invariant-loop : tie.invariant-loop-i
 invariant-loop words₀ from to n i₀ words i = (i ≤ n) × (length words ≡ length words₀) × Moved words₀ words (from + i) (to + i) (n - i)
 
-abbrev decreases-loop : tie.decreases-loop
+abbrev decreases-loop : tie.decreases-loop-i
 decreases-loop words₀ from to n i₀ words i = i
 
 pub copy_backward_spec : {M : Type 1} → statement M
@@ -30,7 +30,7 @@ copy_backward_spec =
     (λ c. omega arith)
     (λ c. omega arith)
     (λ c. let l = c.before.before in
-    let μ = l.loop.invariant.2 in
-    (omega arith, simp length-set l.loop.invariant.1, moved-one (omega arith) μ (omega arith) (μ.kept.below _ (omega arith))))
-    (λ c. c.before.loop.invariant.1)
-    (λ c. moved_as c.before.loop.invariant.2 (omega arith) (omega arith) (omega arith)))
+    let μ = l.loop-i.invariant.2 in
+    (omega arith, simp length-set l.loop-i.invariant.1, moved-one (omega arith) μ (omega arith) (μ.kept.below _ (omega arith))))
+    (λ c. c.before.loop-i.invariant.1)
+    (λ c. moved_as c.before.loop-i.invariant.2 (omega arith) (omega arith) (omega arith)))

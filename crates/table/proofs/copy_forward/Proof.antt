@@ -9,10 +9,10 @@ use Rattle.table.proofs.WordLaws.{moved_none, moved-one, moved_as}
 use Rattle.table.proofs.copy_forward.Statement.{statement}
 use Rattle.table.proofs.copy_forward.Tie as tie
 
-abbrev invariant-loop : tie.invariant-loop
+abbrev invariant-loop : tie.invariant-loop-i
 invariant-loop words₀ from to n i₀ words i = (i ≤ n) × (length words ≡ length words₀) × Moved words₀ words from to i
 
-abbrev decreases-loop : tie.decreases-loop
+abbrev decreases-loop : tie.decreases-loop-i
 decreases-loop words₀ from to n i₀ words i = n - i
 
 pub copy_forward_spec : {M : Type 1} → statement M
@@ -31,10 +31,10 @@ copy_forward_spec =
     (λ c. omega arith)
     (λ c. omega arith)
     (λ c. let l = c.before.before in
-    let μ = l.loop.invariant.2 in (
+    let μ = l.loop-i.invariant.2 in (
       omega arith,
-      simp length-set l.loop.invariant.1,
+      simp length-set l.loop-i.invariant.1,
       moved-one (omega arith) μ (omega arith) (⊎_elim (λ h. μ.kept.above _ (omega arith)) (λ h. μ.kept.below _ (omega arith)) l.before.requires.2),
     ))
-    (λ c. c.before.loop.invariant.1)
-    (λ c. moved_as c.before.loop.invariant.2 refl refl (omega arith)))
+    (λ c. c.before.loop-i.invariant.1)
+    (λ c. moved_as c.before.loop-i.invariant.2 refl refl (omega arith)))

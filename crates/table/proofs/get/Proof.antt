@@ -14,4 +14,4 @@ get_spec =
     (λ c. search rules)
     (λ c. search rules)
     (λ c κs. omega (arith, c.before.before.requires.0.numbers.below _ c.before.before.requires.1))
-    (λ c. c.read-row.ensures))
+    (λ c. c.read_row.ensures))

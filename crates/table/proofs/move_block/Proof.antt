@@ -7,10 +7,10 @@ use Rattle.table.proofs.StoreLaws.{moved_store, moved-rows, block_kept, block_mo
 use Rattle.table.proofs.move_block.Statement.{statement}
 use Rattle.table.proofs.move_block.Tie as tie
 
-abbrev up : tie.After-copy-forward2 → tie.After-copy-backward
+abbrev up : tie.After-copy_forward-2 → tie.After-copy_backward
 up c = c.before.before.before.before
 
-abbrev saved : tie.After-copy-backward → tie.After-copy-forward
+abbrev saved : tie.After-copy_backward → tie.After-copy_forward
 saved c = c.before.before.before.before
 
 pub move_block_spec : {M : Type 1} → statement M
@@ -31,8 +31,8 @@ move_block_spec =
     let u = up back in
     let v = saved u in
     let s = v.before.before.before in
-    let h = s.pre.0.1 in
-    let l = s.pre.0.2 in
-    let β = block_moved _ _ _ _ h l s.pre.1.0 v.copy-forward.ensures u.copy-backward.ensures back.copy-forward2.ensures in
-    let κ = block_kept _ _ _ _ h l s.pre.1.0 v.copy-forward.ensures u.copy-backward.ensures back.copy-forward2.ensures in
-    (moved_store s.pre.0.0 h l β (back.copy-forward2.auto.0 ∙ u.copy-backward.kept.0 ∙ v.copy-forward.kept.0), moved-rows s.pre.0.0 h l β κ)))
+    let h = s.requires.0.1 in
+    let l = s.requires.0.2 in
+    let β = block_moved _ _ _ _ h l s.requires.1.0 v.copy_forward.ensures u.copy_backward.ensures back.copy_forward-2.ensures in
+    let κ = block_kept _ _ _ _ h l s.requires.1.0 v.copy_forward.ensures u.copy_backward.ensures back.copy_forward-2.ensures in
+    (moved_store s.requires.0.0 h l β (back.copy_forward-2.auto.words ∙ u.copy_backward.auto.words ∙ v.copy_forward.auto.words), moved-rows s.requires.0.0 h l β κ)))

@@ -24,8 +24,8 @@ move_row_spec =
     (λ c. search rules)
     (λ c. search rules)
     (λ c. let s = c.before.before.before.before.before.before in
-    let m = c.before.before.copy-backward in
+    let m = c.before.before.copy_backward in
     let h = s.requires.1 in
-    let β = one-moved _ _ _ h (omega arith) m.auto.0 m.ensures s.args.used in
-    let κ = one_kept _ _ _ h (omega arith) m.auto.0 m.ensures in
-    (moved_store s.requires.0 h (omega arith) β (simp length-set m.auto.0), (moved-rows s.requires.0 h (omega arith) β κ, kept_wider κ (omega arith) (omega arith)))))
+    let β = one-moved _ _ _ h (omega arith) m.auto.words m.ensures s.args.used in
+    let κ = one_kept _ _ _ h (omega arith) m.auto.words m.ensures in
+    (moved_store s.requires.0 h (omega arith) β (simp length-set m.auto.words), (moved-rows s.requires.0 h (omega arith) β κ, kept_wider κ (omega arith) (omega arith)))))

@@ -17,7 +17,7 @@ put_spec =
     omega (arith, s.requires.0.numbers.below _ s.requires.1))
     (λ c. search rules)
     (λ c. let s = c.before.before.before.before.before.before in
-    let w = c.before.before.write-row in (
-      put_store s.requires.0 s.requires.1 w.ensures w.auto.0,
+    let w = c.before.before.write_row in (
+      put_store s.requires.0 s.requires.1 w.ensures w.auto.words,
       (put_row s.requires.0 s.requires.1 w.ensures, kept_wider w.ensures.kept (omega arith) (omega (arith, s.requires.0.numbers.below _ s.requires.1, s.requires.0.rows_end))),
     )))

@@ -6,7 +6,7 @@ use borrow.Author.Rules.{rules}
 use Rattle.table.proofs.swap_blocks.Statement.{statement}
 use Rattle.table.proofs.swap_blocks.Tie as tie
 
-abbrev start : tie.After-move-block → tie.Start
+abbrev start : tie.After-move_block → tie.Start
 start c = c.before.before.before.before
 
 pub swap_blocks_spec : {M : Type 1} → statement M
@@ -17,19 +17,19 @@ swap_blocks_spec =
     (λ c. search rules)
     (λ c κs. search rules)
     (λ c. search rules)
-    (λ c. let x = c.before.before.swap-equal-blocks in (x.ensures.0, swapped_as x.ensures.1 (omega arith) (omega arith)))
+    (λ c. let x = c.before.before.swap_equal_blocks in (x.ensures.0, swapped_as x.ensures.1 (omega arith) (omega arith)))
     (λ c κs. search rules)
     (λ c. search rules)
     (λ c. search rules)
     (λ c. search rules)
     (λ c κs. let b = c.before.before.before.before in
-    ((b.move-block.ensures.0, omega arith, omega arith), (omega arith, omega (arith, b.move-block.auto.0))))
+    ((b.move_block.ensures.0, omega arith, omega arith), (omega arith, omega (arith, b.move_block.auto.words))))
     (λ c. search rules)
     (λ c. let d = c.before.before in
     let b = d.before.before.before.before.before in
     let p = (start b).requires.0 in
-    (d.move-block2.ensures.0, swapped p.1 p.2 p.3 p.4 b.move-block.ensures.1 d.move-block2.ensures.1))
+    (d.move_block-then-lo-hi.ensures.0, swapped p.1 p.2 p.3 p.4 b.move_block.ensures.1 d.move_block-then-lo-hi.ensures.1))
     (λ c. search rules)
     (λ c. let b = c.before.before.before in
     let p = (start b).requires.0 in
-    (b.move-block.ensures.0, swapped p.1 p.2 p.3 p.4 b.move-block.ensures.1 (moved_none (omega arith)))))
+    (b.move_block.ensures.0, swapped p.1 p.2 p.3 p.4 b.move_block.ensures.1 (moved_none (omega arith)))))

@@ -7,10 +7,10 @@ use Rattle.table.proofs.StoreLaws.{exchanged_store, exchanged_rows, swap_kept, s
 use Rattle.table.proofs.swap_equal_blocks.Statement.{statement}
 use Rattle.table.proofs.swap_equal_blocks.Tie as tie
 
-abbrev over : tie.After-copy-forward3 → tie.After-copy-forward2
+abbrev over : tie.After-copy_forward-3 → tie.After-copy_forward-2
 over c = c.before.before.before.before
 
-abbrev saved : tie.After-copy-forward2 → tie.After-copy-forward
+abbrev saved : tie.After-copy_forward-2 → tie.After-copy_forward
 saved c = c.before.before.before.before
 
 pub swap_equal_blocks_spec : {M : Type 1} → statement M
@@ -29,8 +29,8 @@ swap_equal_blocks_spec =
     let u = over back in
     let v = saved u in
     let s = v.before.before.before in
-    let h = s.pre.0.1 in
-    let l = s.pre.0.2 in
-    let τ = swap_swapped _ _ _ _ h l s.pre.1.0 v.copy-forward.ensures u.copy-forward2.ensures back.copy-forward3.ensures in
-    let κ = swap_kept _ _ _ _ h l s.pre.1.0 v.copy-forward.ensures u.copy-forward2.ensures back.copy-forward3.ensures in
-    (exchanged_store _ s.pre.0.0 h l τ (back.copy-forward3.auto.0 ∙ u.copy-forward2.kept.0 ∙ v.copy-forward.kept.0), exchanged_rows _ s.pre.0.0 h l τ κ)))
+    let h = s.requires.0.1 in
+    let l = s.requires.0.2 in
+    let τ = swap_swapped _ _ _ _ h l s.requires.1.0 v.copy_forward.ensures u.copy_forward-2.ensures back.copy_forward-3.ensures in
+    let κ = swap_kept _ _ _ _ h l s.requires.1.0 v.copy_forward.ensures u.copy_forward-2.ensures back.copy_forward-3.ensures in
+    (exchanged_store _ s.requires.0.0 h l τ (back.copy_forward-3.auto.words ∙ u.copy_forward-2.auto.words ∙ v.copy_forward.auto.words), exchanged_rows _ s.requires.0.0 h l τ κ)))

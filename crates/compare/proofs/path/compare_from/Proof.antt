@@ -7,10 +7,10 @@ use Rattle.compare.proofs.PathLaws.{Level, level_start, at_falls, at_order, at_m
 use Rattle.compare.proofs.path.compare_from.Statement.{statement}
 use Rattle.compare.proofs.path.compare_from.Tie as tie
 
-abbrev invariant-loop : tie.invariant-loop
+abbrev invariant-loop : tie.invariant-loop-s
 invariant-loop a b from p₀ q₀ p q = Level a b from p q
 
-abbrev decreases-loop : tie.decreases-loop
+abbrev decreases-loop : tie.decreases-loop-s
 decreases-loop a b from p₀ q₀ p q = length a + 1 - p
 
 pub compare_from_spec : {M : Type 1} → statement M
@@ -38,9 +38,7 @@ compare_from_spec =
     (λ c κs. search rules)
     (λ c κs. search rules)
     (λ c. search (left-stop, rules))
-    (λ c. let x = c.before.before.before.before.before.before.before.before.before in
-    omega (arith, at_most x.before.before.before.next-component.ensures x.x.given.1))
-    (λ c. let y = c.before.before.before.before.before.before in
-    omega (arith, at_most y.before.before.before.before.before.next-component2.ensures y.y.given.1))
+    (λ c. omega (arith, at_most c.before.before.before.before.before.before.before.before.next_component-x.ensures c.before.before.before.before.before.before.in-At.is))
+    (λ c. omega (arith, at_most c.before.before.before.before.before.before.before.next_component-y.ensures c.before.before.before.before.before.in-At-y.is))
     (λ c. search (at_falls, rules))
     (λ c. search (left_on, rules)))

@@ -7,10 +7,10 @@ use Rattle.compare.proofs.path.compare_paths.Statement.{statement}
 use Rattle.compare.proofs.path.compare_paths.Tie as tie
 
 -- the two bytes
-abbrev reads : tie.After-in-name2 → tie.After-shared-slice-known4
+abbrev reads : tie.After-in_name-then-in_name → tie.After-shared_slice_known-then-n-b-2-1
 reads y = y.before.before.before
 
-abbrev both : tie.After-shared-slice-known4 → tie.After-common-prefix
+abbrev both : tie.After-shared_slice_known-then-n-b-2-1 → tie.After-common_prefix-n
 both r = r.before.before.before.before.before
 
 pub compare_paths_spec : {M : Type 1} → statement M
@@ -23,13 +23,13 @@ compare_paths_spec =
     (λ c. search rules)
     (λ c κs. search rules)
     (λ c κs. search rules)
-    (λ c. let r = reads c.before in omega (arith, r.before.shared-slice-known3.given (both r).common-prefix.result))
-    (λ c. let r = reads c.before in omega (arith, r.shared-slice-known4.given (both r).common-prefix.result))
+    (λ c. let r = reads c.before in omega (arith, r.before.shared_slice_known-then-n-b-1.given (both r).common_prefix-n.result))
+    (λ c. let r = reads c.before in omega (arith, r.shared_slice_known-then-n-b-2-1.given (both r).common_prefix-n.result))
     (λ c κs. search rules)
     (λ c. let y = c.before.before in
     let r = reads y in
-    names-differ _ (both r).common-prefix.ensures r.before.before.before.if3.taken r.before.before.if4.taken
-    (y.before.before.in-name.ensures y.before.if5.true) (y.in-name2.ensures c.before.if6.true) c.compare-numbers.ensures)
+    names-differ _ (both r).common_prefix-n.ensures r.before.before.before.if-n-a.true r.before.before.if-n-b.true
+    (y.before.before.in_name.ensures y.before.if-in_name.true) (y.in_name-then-in_name.ensures c.before.if-in_name-2.true) c.compare_numbers.ensures)
     (λ c κs. search rules)
     (λ c κs. search rules)
     (λ c. search (skip_shared, rules)))

@@ -11,4 +11,4 @@ in_name_spec =
     (tie.spec
     (λ c. λ e. impossible cc)
     (λ c. λ e. impossible cc)
-    (λ c. λ e. record { no_slash = c.before.if1.false; no_dot = c.if2.false }))
+    (λ c. λ e. record { no_slash = c.before.if-byte-eq47.false; no_dot = c.if-byte-eq46.false }))

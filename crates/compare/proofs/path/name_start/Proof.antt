@@ -4,10 +4,10 @@ use Rattle.compare.proofs.SplitLaws.{Back, back_start, back_step, back_slash, ba
 use Rattle.compare.proofs.path.name_start.Statement.{statement}
 use Rattle.compare.proofs.path.name_start.Tie as tie
 
-abbrev invariant-loop : tie.invariant-loop
+abbrev invariant-loop : tie.invariant-loop-i
 invariant-loop path n i₀ i = Back path n i
 
-abbrev decreases-loop : tie.decreases-loop
+abbrev decreases-loop : tie.decreases-loop-i
 decreases-loop path n i₀ i = i
 
 pub name_start_spec : {M : Type 1} → statement M

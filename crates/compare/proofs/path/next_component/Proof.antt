@@ -6,10 +6,10 @@ use Rattle.compare.proofs.PlaceLaws.{Passed, passed_start, passed-step, passed-f
 use Rattle.compare.proofs.path.next_component.Statement.{statement}
 use Rattle.compare.proofs.path.next_component.Tie as tie
 
-abbrev invariant-loop : tie.invariant-loop
+abbrev invariant-loop : tie.invariant-loop-p
 invariant-loop path from p₀ p = Passed path from p
 
-abbrev decreases-loop : tie.decreases-loop
+abbrev decreases-loop : tie.decreases-loop-p
 decreases-loop path from p₀ p = length path + 1 - p
 
 pub next_component_spec : {M : Type 1} → statement M

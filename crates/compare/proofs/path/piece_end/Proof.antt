@@ -6,10 +6,10 @@ use Rattle.compare.proofs.SplitLaws.{Cutting, cutting_start, cutting_step, cutti
 use Rattle.compare.proofs.path.piece_end.Statement.{statement}
 use Rattle.compare.proofs.path.piece_end.Tie as tie
 
-abbrev invariant-loop : tie.invariant-loop
+abbrev invariant-loop : tie.invariant-loop-i
 invariant-loop path p i₀ i = Cutting path p i
 
-abbrev decreases-loop : tie.decreases-loop
+abbrev decreases-loop : tie.decreases-loop-i
 decreases-loop path p i₀ i = length path - i
 
 pub piece_end_spec : {M : Type 1} → statement M

@@ -10,5 +10,5 @@ byte_spec =
     tie.close
     (tie.spec
     (λ c. search rules)
-    (λ c. omega (arith, c.shared-slice-known.given c.before.args.i))
-    (λ c. one_byte _ _ c.before.requires c.shared-slice-known.given))
+    (λ c. omega (arith, c.shared_slice_known-1.given c.before.args.i))
+    (λ c. one_byte _ _ c.before.requires c.shared_slice_known-1.given))

@@ -5,10 +5,10 @@ use Rattle.compare.proofs.PrefixLaws.{Sharing, sharing_from, sharing_done, byte_
 use Rattle.compare.proofs.prefix.common_prefix.Statement.{statement}
 use Rattle.compare.proofs.prefix.common_prefix.Tie as tie
 
-abbrev invariant-loop : tie.invariant-loop
+abbrev invariant-loop : tie.invariant-loop-i
 invariant-loop a b n i₀ i = Sharing a b n i
 
-abbrev decreases-loop : tie.decreases-loop
+abbrev decreases-loop : tie.decreases-loop-i
 decreases-loop a b n i₀ i = n - i
 
 pub common_prefix_spec : {M : Type 1} → statement M

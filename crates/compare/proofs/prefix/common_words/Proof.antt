@@ -6,10 +6,10 @@ use Rattle.compare.proofs.PrefixLaws.{Sharing, sharing_start, sharing_done, word
 use Rattle.compare.proofs.prefix.common_words.Statement.{statement}
 use Rattle.compare.proofs.prefix.common_words.Tie as tie
 
-abbrev invariant-loop : tie.invariant-loop
+abbrev invariant-loop : tie.invariant-loop-i
 invariant-loop a b n i₀ i = Sharing a b n i
 
-abbrev decreases-loop : tie.decreases-loop
+abbrev decreases-loop : tie.decreases-loop-i
 decreases-loop a b n i₀ i = n - i
 
 pub common_words_spec : {M : Type 1} → statement M
@@ -23,10 +23,9 @@ common_words_spec =
     (λ c. search rules)
     (λ c κs. search rules)
     (λ c κs. search rules)
-    (λ c. word_differs c.before.before.before.before.loop.invariant _ _ c.before.before.word.ensures c.before.word2.ensures c.if1.true)
+    (λ c. word_differs c.before.before.before.before.loop-i.invariant _ _ c.before.before.word.ensures c.before.word-in-loop-i.ensures c.if-word.true)
     (λ c. search rules)
     (λ c. search rules)
-    (λ c. let s = c.before.before.before.before.before.before in
-    word-alike c.before.before.before.before.loop.invariant _ _ s.before.shared-slice-known.given s.shared-slice-known2.given (omega arith)
-    c.before.before.word.ensures c.before.word2.ensures c.if1.false)
+    (λ c. word-alike c.before.before.before.before.loop-i.invariant _ _ c.before.before.before.before.before.before.before.shared_slice_known-1.given c.before.before.before.before.before.before.shared_slice_known-2-1.given (omega arith)
+    c.before.before.word.ensures c.before.word-in-loop-i.ensures c.if-word.false)
     (λ c. search (sharing_done, rules)))

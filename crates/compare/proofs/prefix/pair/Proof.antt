@@ -14,4 +14,4 @@ pair_spec =
     (λ c κs. search rules)
     (λ c. search rules)
     (λ c. search rules)
-    (λ c. record { is = two_halves _ _ 1 _ _ (omega arith) c.before.byte.ensures c.byte2.ensures; fits = omega arith }))
+    (λ c. record { is = two_halves _ _ 1 _ _ (omega arith) c.before.byte.ensures c.byte-2.ensures; fits = omega arith }))

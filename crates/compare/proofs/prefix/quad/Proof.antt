@@ -14,4 +14,4 @@ quad_spec =
     (λ c κs. search rules)
     (λ c. search rules)
     (λ c. search rules)
-    (λ c. record { is = two_halves _ _ 2 _ _ (omega arith) c.before.pair.ensures c.pair2.ensures; fits = omega arith }))
+    (λ c. record { is = two_halves _ _ 2 _ _ (omega arith) c.before.pair.ensures c.pair-2.ensures; fits = omega arith }))

@@ -14,4 +14,4 @@ word_spec =
     (λ c κs. search rules)
     (λ c. search rules)
     (λ c. search rules)
-    (λ c. record { is = two_halves _ _ 4 _ _ (omega arith) c.before.quad.ensures c.quad2.ensures; fits = omega arith }))
+    (λ c. record { is = two_halves _ _ 4 _ _ (omega arith) c.before.quad.ensures c.quad-2.ensures; fits = omega arith }))
