@@ -1,4 +1,6 @@
 // A bundle of texts (SPEC 7.1): n and T, little-endian u32, then n starts and n lengths, then T text bytes.
+#![tactic(auto)]
+
 ghost use Rattle.std.specs.Prelude.{◌≡◌, true, ◌+◌, ◌*◌, ◌≤◌, ◌<◌, length};
 ghost use Rattle.model.specs.Limits.{u32_max, max_texts};
 ghost use Rattle.model.specs.Bundle.{u32_at, text_count, text_start, text_length, well_formed};

@@ -1,4 +1,6 @@
 // Bytes and decimal numbers written at the front of an output: what prints a count, of SPEC 2.6.
+#![tactic(auto)]
+
 ghost use Rattle.std.specs.Prelude.{◌≡◌, ◌∷◌, ◌+◌, ◌*◌, ◌≤◌, ◌<◌, length, set};
 ghost use Rattle.model.specs.Number.{decimal};
 ghost use Rattle.model.specs.Output.{written, output_after};

@@ -1,5 +1,7 @@
 // Ranges of lines (SPEC 8.1): "a lent slice of start and end pairs (u32) and a number of pairs used". A pair is
 // an array of two, start and end.
+#![tactic(auto)]
+
 ghost use Rattle.std.specs.Prelude.{◌≡◌, true, ◌∷◌, ◌+◌, ◌-◌, ◌≤◌, ◌<◌, min, max, length, take};
 ghost use Rattle.table.specs.Places.{PartitionPoint};
 ghost use Rattle.model.specs.Ranges.{well_formed_ranges, half_open, join_into, insert_call, holds, query_call};

@@ -81,6 +81,7 @@ module _ (R : Entry → Entry → Type 0) where
           go (e, there j, q) = (e, j, q)
 
   pub paired_right : (a b : Report) → Paired R a b → (x : Entry) → Member x a → Holds (entry_key x) b
+  paired_right [] b p x i = elim i [ ]
   paired_right (u ∷ us) (v ∷ vs) p x (here q) = (v, here refl, sym p.0 ∙ sym (ap entry_key q))
   paired_right (u ∷ us) (v ∷ vs) p x (there i) = let (e, m, q) = paired_right us vs p.2 x i in (e, there m, q)
   paired_right (u ∷ us) [] p x i = absurd p
@@ -88,10 +89,13 @@ module _ (R : Entry → Entry → Type 0) where
   pub paired_left : (a b : Report) → Paired R a b → (y : Entry) → Member y b → Holds (entry_key y) a
   paired_left (u ∷ us) (v ∷ vs) p y (here q) = (u, here refl, p.0 ∙ sym (ap entry_key q))
   paired_left (u ∷ us) (v ∷ vs) p y (there i) = let (e, m, q) = paired_left us vs p.2 y i in (e, there m, q)
+  paired_left [] [] p y i = elim i [ ]
+  paired_left (u ∷ us) [] p y i = elim p [ ]
   paired_left [] (v ∷ vs) p y i = absurd p
 
   -- entries of one key are at one place
   pub paired_related : (a b : Report) → SortedReport a → SortedReport b → Paired R a b → (x y : Entry) → Member x a → Member y b → entry_key x ≡ entry_key y → R x y
+  paired_related [] b s t p x y i j q = elim i [ ]
   paired_related (u ∷ us) (v ∷ vs) s t p x y (here i) (here j) q = rw (i, j) p.1
   paired_related (u ∷ us) (v ∷ vs) s t p x y (here i) (there j) q = absurd (not_head v y vs t.0 j (sym p.0 ∙ sym (ap entry_key i) ∙ q))
   paired_related (u ∷ us) (v ∷ vs) s t p x y (there i) (here j) q = absurd (not_head u x us s.0 i (p.0 ∙ sym (ap entry_key j) ∙ sym q))

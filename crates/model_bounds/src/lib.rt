@@ -1,4 +1,6 @@
 // Bounds of sampled counts (SPEC 7.8): how many lines, functions and branches a run can have hit. specs/ defines what they are.
+#![tactic(auto)]
+
 use model::Refusal;
 
 // How many lines, functions and branches are hit.

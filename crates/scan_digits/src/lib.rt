@@ -1,5 +1,7 @@
 // SWAR parse: reads a number of at most eight digits as one word, so that no branch depends on how many digits there
 // are. Crate scan reads all other numbers digit by digit.
+#![tactic(auto)]
+
 ghost use Rattle.std.specs.Prelude.{◌≡◌, ◌+◌, ◌<◌, ◌≤◌, min, length, take, drop};
 ghost use Rattle.scan_digits.specs.Word.{word_of, value_from, Small, EndOf, ShortRead};
 

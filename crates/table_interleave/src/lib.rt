@@ -1,5 +1,7 @@
 // Interleaves rows appended behind sorted ones, given their insert positions, in one backward pass over the index. Each
 // of the sorted rows moves at most once.
+#![tactic(auto)]
+
 ghost use Rattle.std.specs.Prelude.{◌+◌, ◌≤◌, length};
 ghost use Rattle.table.specs.Rows.{word};
 ghost use Rattle.table.specs.Store.{Store, row};

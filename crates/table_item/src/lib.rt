@@ -1,5 +1,7 @@
 // The items of the open section (SPEC 3.3): rows in the order of an index, ascending by key. A row's names are parts of
 // the lent text, so a row means an item only together with the text.
+#![tactic(auto)]
+
 ghost use Rattle.std.specs.Prelude.{◌≡◌, true, List, length};
 ghost use Rattle.std.proofs.Math.Option.{none, some};
 ghost use Prim.Native.Nat.{ℕ, ◌+◌, ◌≤◌, ◌<◌, compare};

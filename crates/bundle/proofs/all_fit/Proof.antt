@@ -8,10 +8,10 @@ use Rattle.bundle.proofs.BundleLaws.{fit_end, fit_next, fit_over}
 use Rattle.bundle.proofs.all_fit.Statement.{statement}
 use Rattle.bundle.proofs.all_fit.Tie as tie
 
-abbrev invariant-loop : tie.invariant-loop
+abbrev invariant-loop : tie.invariant-loop-i
 invariant-loop bundle n total i₀ i = (i ≤ n) × (fits_from bundle 0 n total ≡ fits_from bundle i n total)
 
-abbrev decreases-loop : tie.decreases-loop
+abbrev decreases-loop : tie.decreases-loop-i
 decreases-loop bundle n total i₀ i = n - i
 
 pub all_fit_spec : {M : Type 1} → statement M

@@ -6,10 +6,10 @@ use Rattle.bundle.proofs.BundleLaws.{Passed, passed_none, passed-next, marked-he
 use Rattle.bundle.proofs.next_marked.Statement.{statement}
 use Rattle.bundle.proofs.next_marked.Tie as tie
 
-abbrev invariant-loop : tie.invariant-loop
+abbrev invariant-loop : tie.invariant-loop-at
 invariant-loop marks n i at₀ at = Passed marks i at × (i ≤ at) × (at ≤ n)
 
-abbrev decreases-loop : tie.decreases-loop
+abbrev decreases-loop : tie.decreases-loop-at
 decreases-loop marks n i at₀ at = n - at
 
 pub next_marked_spec : {M : Type 1} → statement M

@@ -4,10 +4,10 @@ use Rattle.format.proofs.PowerLaws.{Counting, count-start, count_20, count_fits,
 use Rattle.format.proofs.decimal_len.Statement.{statement}
 use Rattle.format.proofs.decimal_len.Tie as tie
 
-abbrev invariant-loop : tie.invariant-loop
+abbrev invariant-loop : tie.invariant-loop-power
 invariant-loop v power₀ n₀ power n = Counting v power n
 
-abbrev decreases-loop : tie.decreases-loop
+abbrev decreases-loop : tie.decreases-loop-power
 decreases-loop v power₀ n₀ power n = 20 - n
 
 pub decimal_len_spec : {M : Type 1} → statement M

@@ -3,10 +3,10 @@ use Rattle.format.proofs.PowerLaws.{Taking, taken_none, taken_next, taken-all}
 use Rattle.format.proofs.digit_of.Statement.{statement}
 use Rattle.format.proofs.digit_of.Tie as tie
 
-abbrev invariant-loop : tie.invariant-loop
+abbrev invariant-loop : tie.invariant-loop-rest
 invariant-loop v power rest₀ digit₀ rest digit = Taking v power rest digit
 
-abbrev decreases-loop : tie.decreases-loop
+abbrev decreases-loop : tie.decreases-loop-rest
 decreases-loop v power rest₀ digit₀ rest digit = rest
 
 pub digit_of_spec : {M : Type 1} → statement M

@@ -5,10 +5,10 @@ use Rattle.format.proofs.PutLaws.{Putting, short_len, short-out, put_start, put_
 use Rattle.format.proofs.put_bytes.Statement.{statement}
 use Rattle.format.proofs.put_bytes.Tie as tie
 
-abbrev invariant-loop : tie.invariant-loop
+abbrev invariant-loop : tie.invariant-loop-i
 invariant-loop s out₀ i₀ out i = Putting s out₀ out i
 
-abbrev decreases-loop : tie.decreases-loop
+abbrev decreases-loop : tie.decreases-loop-i
 decreases-loop s out₀ i₀ out i = length s - i
 
 pub put_bytes_spec : {M : Type 1} → statement M

@@ -9,10 +9,10 @@ use Rattle.line_num_pairs.proofs.MoveLaws.{cleared_none, cleared_next, cleared_d
 use Rattle.line_num_pairs.proofs.clear_from.Statement.{statement}
 use Rattle.line_num_pairs.proofs.clear_from.Tie as tie
 
-abbrev invariant-loop : tie.invariant-loop
+abbrev invariant-loop : tie.invariant-loop-k
 invariant-loop pairs₀ from end k₀ pairs k = (from ≤ k) × (k ≤ max from end) × (length pairs ≡ length pairs₀) × Cleared (range_at pairs₀) (range_at pairs) from k
 
-abbrev decreases-loop : tie.decreases-loop
+abbrev decreases-loop : tie.decreases-loop-k
 decreases-loop pairs₀ from end k₀ pairs k = end - k
 
 pub clear_from_spec : {M : Type 1} → statement M

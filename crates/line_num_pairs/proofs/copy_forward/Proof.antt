@@ -9,10 +9,10 @@ use Rattle.line_num_pairs.proofs.MoveLaws.{carried_none, carried_as, down_next}
 use Rattle.line_num_pairs.proofs.copy_forward.Statement.{statement}
 use Rattle.line_num_pairs.proofs.copy_forward.Tie as tie
 
-abbrev invariant-loop : tie.invariant-loop
+abbrev invariant-loop : tie.invariant-loop-i
 invariant-loop pairs₀ from to n i₀ pairs i = (i ≤ n) × (length pairs ≡ length pairs₀) × Carried (range_at pairs₀) (range_at pairs) from to i
 
-abbrev decreases-loop : tie.decreases-loop
+abbrev decreases-loop : tie.decreases-loop-i
 decreases-loop pairs₀ from to n i₀ pairs i = n - i
 
 pub copy_forward_spec : {M : Type 1} → statement M
@@ -30,4 +30,4 @@ copy_forward_spec =
     (λ c. omega arith)
     (λ c. (omega arith, omega arith, search (down_next, rules)))
     (λ c. search rules)
-    (λ c. carried_as c.before.loop.invariant.2 refl refl (omega arith)))
+    (λ c. carried_as c.before.loop-i.invariant.2 refl refl (omega arith)))

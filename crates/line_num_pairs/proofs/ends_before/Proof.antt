@@ -10,10 +10,10 @@ use Rattle.line_num_pairs.proofs.WellLaws.{well_inside, ends-up, ends_down}
 use Rattle.line_num_pairs.proofs.ends_before.Statement.{statement}
 use Rattle.line_num_pairs.proofs.ends_before.Tie as tie
 
-abbrev invariant-loop : tie.invariant-loop
+abbrev invariant-loop : tie.invariant-loop-lo
 invariant-loop pairs used line lo₀ hi₀ lo hi = (used ≤ length pairs) × SearchBounds (EndsBefore pairs line) used lo hi
 
-abbrev decreases-loop : tie.decreases-loop
+abbrev decreases-loop : tie.decreases-loop-lo
 decreases-loop pairs used line lo₀ hi₀ lo hi = hi - lo
 
 pub ends_before_spec : {M : Type 1} → statement M

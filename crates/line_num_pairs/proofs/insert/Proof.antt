@@ -1,4 +1,6 @@
 -- `line_num_pairs::insert` meets its contract. Assumes nothing.
+use mathlib.Core.Bool.{not}
+use mathlib.Core.Path.{ap}
 use native.Mathlib.Omega.{arith}
 use borrow.Author.Rules.{rules}
 use Rattle.model.proofs.CallLaws.{insert_called}
@@ -7,19 +9,17 @@ use Rattle.line_num_pairs.proofs.insert.Statement.{statement}
 use Rattle.line_num_pairs.proofs.insert.Tie as tie
 
 -- where the walk starts, seen from the joined range
-abbrev start : tie.After-join-from → tie.Start
-start c = c.before.before.before.before.before.before.before.before
+abbrev start : tie.After-join_from-joined → tie.Start
+start c = c.before.before.before.before.before
 
-meets : (c : tie.After-join-from)
-    → Meets (start c).args.pairs.now (start c).args.used (start c).args.start (start c).args.end c.before.before.ends-before.result c.join-from.result.range c.join-from.result.past
+meets : (c : tie.After-join_from-joined)
+    → Meets (start c).args.pairs.now (start c).args.used (start c).args.start (start c).args.end c.before.ends_before-first.result c.join_from-joined.result.range c.join_from-joined.result.past
 meets c =
-    let found = c.before.before in
-    let tested = found.before.before.before in
     record {
-      well = told_well _ _ _ tested.before.is-well-formed.ensures tested.if1.false;
-      right = found.before.before.if2.false;
-      cut = found.ends-before.ensures.1;
-      joined = c.join-from.ensures.1;
+      well = told_well _ _ _ c.before.before.before.before.is_well_formed.ensures (ap not c.before.before.before.if-not-is_well_formed.false);
+      right = c.before.before.if-end-start.false;
+      cut = c.before.ends_before-first.ensures.1;
+      joined = c.join_from-joined.ensures.1;
     }
 
 pub insert_spec : {M : Type 1} → statement M
@@ -40,7 +40,7 @@ insert_spec =
     (λ c. omega arith)
     (λ c κs. search rules)
     (λ c. search rules)
-    (λ c. let μ = meets c.before.before.before in insert_called _ _ _ _ (full_answer _ _ _ _ _ _ _ μ (omega arith) _ c.unplaced2.ensures) (full_slice _ _ _ _ _ _ _ μ (omega arith)))
+    (λ c. let μ = meets c.before.before.before in insert_called _ _ _ _ (full_answer _ _ _ _ _ _ _ μ (omega arith) _ c.unplaced-then-pairs-n.ensures) (full_slice _ _ _ _ _ _ _ μ (omega arith)))
     (λ c κs. omega arith)
     (λ c. search rules)
     (λ c. let μ = meets c.before.before.before.before.before in insert_called _ _ _ _ (put_answer _ _ _ _ _ _ _ μ (omega arith)) (put_slice _ _ _ _ _ _ _ μ (omega arith) _ c.before.put_joined.ensures)))

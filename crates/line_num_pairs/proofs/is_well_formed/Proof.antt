@@ -10,10 +10,10 @@ use Rattle.line_num_pairs.proofs.WellLaws.{ascending_from, well_short, well_star
 use Rattle.line_num_pairs.proofs.is_well_formed.Statement.{statement}
 use Rattle.line_num_pairs.proofs.is_well_formed.Tie as tie
 
-abbrev invariant-loop : tie.invariant-loop
+abbrev invariant-loop : tie.invariant-loop-k
 invariant-loop pairs used least₀ k₀ least k = (k ≤ used) × (used ≤ length pairs) × (well_formed_ranges (ranges_in pairs) used ≡ ascending_from (range_at pairs) least k (used - k))
 
-abbrev decreases-loop : tie.decreases-loop
+abbrev decreases-loop : tie.decreases-loop-k
 decreases-loop pairs used least₀ k₀ least k = used - k
 
 pub is_well_formed_spec : {M : Type 1} → statement M

@@ -7,10 +7,10 @@ use Rattle.line_num_pairs.proofs.JoinLaws.{Joining, joining_none, joining_next, 
 use Rattle.line_num_pairs.proofs.join_from.Statement.{statement}
 use Rattle.line_num_pairs.proofs.join_from.Tie as tie
 
-abbrev invariant-loop : tie.invariant-loop
+abbrev invariant-loop : tie.invariant-loop-past
 invariant-loop pairs used first start₀ end₀ past₀ start end past = (end ≤ u32_max) × Joining pairs used first start₀ end₀ start end past
 
-abbrev decreases-loop : tie.decreases-loop
+abbrev decreases-loop : tie.decreases-loop-past
 decreases-loop pairs used first start₀ end₀ past₀ start end past = used - past
 
 pub join_from_spec : {M : Type 1} → statement M
@@ -24,13 +24,13 @@ join_from_spec =
     (λ c. omega arith)
     (λ c. omega arith)
     (λ c. search rules)
-    (λ c. let l = c.before.before.before.before in (
+    (λ c. (
       (omega arith, omega arith),
-      joined-stop _ _ _ _ _ _ _ _ l.loop.invariant.1 (omega arith) l.before.requires.2 _ c.before.before.range_at.ensures (omega arith),
+      joined-stop _ _ _ _ _ _ _ _ c.before.before.before.before.loop-past.invariant.1 (omega arith) c.before.before.before.before.before.requires.2 _ c.before.before.range_at-next.ensures (omega arith),
     ))
     (λ c κs. search rules)
     (λ c κs. search rules)
     (λ c. omega arith)
     (λ c. omega arith)
     (λ c. (omega arith, search (joining_next, rules)))
-    (λ c. ((omega arith, omega arith), joined-all _ _ _ _ _ _ _ _ c.before.loop.invariant.1 (omega arith))))
+    (λ c. ((omega arith, omega arith), joined-all _ _ _ _ _ _ _ _ c.before.loop-past.invariant.1 (omega arith))))

@@ -13,4 +13,4 @@ word_at_spec =
     (λ c. search rules)
     (λ c κs. search rules)
     (λ c. search rules)
-    (λ c. word-there c.before.before.before.args.s.now _ _ _ c.before.before.shared-slice-known.given (search rules) (search rules) (search rules) (search rules)))
+    (λ c. word-there c.before.before.before.args.s.now _ _ _ c.before.before.shared_slice_known-1.given (search rules) (search rules) (search rules) (search rules)))

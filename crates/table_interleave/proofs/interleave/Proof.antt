@@ -10,10 +10,10 @@ use Rattle.table_interleave.proofs.LoopLaws.{Fits, Interleaving, saved_fits, int
 use Rattle.table_interleave.proofs.interleave.Statement.{statement}
 use Rattle.table_interleave.proofs.interleave.Tie as tie
 
-abbrev invariant-loop : tie.invariant-loop
+abbrev invariant-loop : tie.invariant-loop-j
 invariant-loop words₀ index used at n p spare j₀ hi₀ words j hi = Fits words₀ index used at n p spare × Interleaving words₀ words index used at n p spare j hi
 
-abbrev decreases-loop : tie.decreases-loop
+abbrev decreases-loop : tie.decreases-loop-j
 decreases-loop words₀ index used at n p spare j₀ hi₀ words j hi = j
 
 fits : (s : tie.Start invariant-loop decreases-loop)
@@ -21,30 +21,30 @@ fits : (s : tie.Start invariant-loop decreases-loop)
 fits s = record { rows = s.requires.0.1; behind = s.requires.1.0; room = s.requires.1.1; rising = s.requires.1.2 }
 
 -- one iteration of the loop
-abbrev start : tie.In-loop invariant-loop decreases-loop → tie.Start invariant-loop decreases-loop
+abbrev start : tie.In-loop-j invariant-loop decreases-loop → tie.Start invariant-loop decreases-loop
 start i = i.before.before.before.before.before.before.before
 
-abbrev place : tie.In-loop invariant-loop decreases-loop → ℕ
-place i = word i.before.loop.words ((start i).args.spare + (i.before.loop.j - 1))
+abbrev place : tie.In-loop-j invariant-loop decreases-loop → ℕ
+place i = word i.before.loop-j.words ((start i).args.spare + (i.before.loop-j.j - 1))
 
 -- what `omega` needs in it
-record Bounds (i : tie.In-loop invariant-loop decreases-loop) : Type 0 where
-  low : place i ≤ i.before.loop.hi
-  top : i.before.loop.hi ≤ (start i).args.n
-  most : i.before.loop.j ≤ (start i).args.p
-  size : length i.before.loop.words ≡ length (start i).args.words.now
+record Bounds (i : tie.In-loop-j invariant-loop decreases-loop) : Type 0 where
+  low : place i ≤ i.before.loop-j.hi
+  top : i.before.loop-j.hi ≤ (start i).args.n
+  most : i.before.loop-j.j ≤ (start i).args.p
+  size : length i.before.loop-j.words ≡ length (start i).args.words.now
 
-bounds : (i : tie.In-loop invariant-loop decreases-loop) → Bounds i
+bounds : (i : tie.In-loop-j invariant-loop decreases-loop) → Bounds i
 bounds i =
-    let (φ, η) = i.before.loop.invariant in
+    let (φ, η) = i.before.loop-j.invariant in
     record {
-      low = place-low φ (i.before.loop.j - 1) (place i) (omega arith) η refl;
+      low = place-low φ (i.before.loop-j.j - 1) (place i) (omega arith) η refl;
       top = η.top;
       most = η.most;
-      size = η.size ∙ i.before.before.before.before.copy-forward.auto.0;
+      size = η.size ∙ i.before.before.before.before.copy_forward.auto.words;
     }
 
-abbrev turn : tie.After-copy-backward invariant-loop decreases-loop → tie.In-loop invariant-loop decreases-loop
+abbrev turn : tie.After-copy_backward invariant-loop decreases-loop → tie.In-loop-j invariant-loop decreases-loop
 turn m = m.before.before.before
 
 pub interleave_spec : {M : Type 1} → statement M
@@ -59,7 +59,7 @@ interleave_spec =
     (λ c κs. (omega arith, omega arith, inr (omega arith)))
     (λ c. let m = c.before.before in
     let s = m.before.before.before in
-    (saved_fits (fits s) m.copy-forward.auto.0 m.copy-forward.ensures, interleaving_start (fits s) m.copy-forward.auto.0 m.copy-forward.ensures))
+    (saved_fits (fits s) m.copy_forward.auto.words m.copy_forward.ensures, interleaving_start (fits s) m.copy_forward.auto.words m.copy_forward.ensures))
     (λ c. omega arith)
     (λ c. omega arith)
     (λ c. omega arith)
@@ -84,12 +84,12 @@ interleave_spec =
     (λ c. omega arith)
     (λ c. let m = c.before.before.before in
     let i = turn m in
-    let (φ, η) = i.before.loop.inv in
-    (φ, interleaving_next φ (i.before.loop.j - 1) (place i) (omega arith) η refl m.copy-backward.auto.0 m.copy-backward.ensures))
-    (λ c. let l = c.before in l.loop.invariant.1.size ∙ l.before.before.before.copy-forward.auto.0)
+    let (φ, η) = i.before.loop-j.invariant in
+    (φ, interleaving_next φ (i.before.loop-j.j - 1) (place i) (omega arith) η refl m.copy_backward.auto.words m.copy_backward.ensures))
+    (λ c. let l = c.before in l.loop-j.invariant.1.size ∙ l.before.before.before.copy_forward.auto.words)
     (λ c. let l = c.before in
     let m = l.before.before.before in
     let s = m.before.before.before in (
-      interleaving_store s.requires.0.0 (fits s) m.copy-forward.auto.0 m.copy-forward.ensures c.loop-test.false l.loop.invariant.1,
-      interleaving_rows s.requires.0.0 (fits s) m.copy-forward.auto.0 m.copy-forward.ensures c.loop-test.false l.loop.invariant.1,
+      interleaving_store s.requires.0.0 (fits s) m.copy_forward.auto.words m.copy_forward.ensures c.loop-j-test.false l.loop-j.invariant.1,
+      interleaving_rows s.requires.0.0 (fits s) m.copy_forward.auto.words m.copy_forward.ensures c.loop-j-test.false l.loop-j.invariant.1,
     )))

@@ -15,6 +15,5 @@ branch_row_spec =
     (λ c. search rules)
     (λ c. search rules)
     (λ c κs. search rules)
-    (λ c. let t = c.before.before in
-    taken_made _ _ _ t.taken.given.0.0 t.taken.given.1 c.item-row.ensures)
-    (λ c. untaken_made _ _ _ c.before.enum_told.given.1 c.item-row2.ensures))
+    (λ c. taken_made _ _ _ c.before.in-Given.count c.before.in-Given.is c.item_row.ensures)
+    (λ c. untaken_made _ _ _ c.before.in-Absent.is c.item_row-in-Absent.ensures))

@@ -10,4 +10,4 @@ calls_row_spec =
     (tie.spec
     (λ c. search rules)
     (λ c κs. search rules)
-    (λ c. calls-made c.before.args.name c.before.args.count c.item-row.ensures))
+    (λ c. calls-made c.before.args.name c.before.args.count c.item_row.ensures))

@@ -11,8 +11,7 @@ comes_before_spec =
     (tie.spec
     (λ c. search (lines-before, rules))
     (λ c κs. search rules)
-    (λ c. let s = c.before.before.before.before.before.before.before.before in
-    c.branch-before.ensures ∙ branches-before _ _ _ _ s.requires.0 s.requires.1 (omega arith) (omega arith))
+    (λ c. c.branch_before.ensures ∙ branches-before _ _ _ _ c.before.before.before.before.before.before.before.before.requires.0 c.before.before.before.before.before.before.before.before.requires.1 (omega arith) (omega arith))
     (λ c κs. search rules)
     (λ c κs. search rules)
     (λ c. cc))

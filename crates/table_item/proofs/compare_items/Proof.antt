@@ -11,16 +11,14 @@ compare_items_spec =
     (tie.spec
     (λ c. search (kinds_less, rules))
     (λ c. search (kinds_greater, rules))
-    (λ c κs. let s = c.before.before.before.before.before.before in
-    (s.requires.0.name (omega arith), s.requires.1.name (omega arith)))
+    (λ c κs. (c.before.before.before.before.before.before.requires.0.name (omega arith), c.before.before.before.before.before.before.requires.1.name (omega arith)))
     (λ c. search (functions, rules))
     (λ c κs. search rules)
     (λ c κs. search rules)
     (λ c κs. search rules)
     (λ c κs. search rules)
     (λ c κs. search rules)
-    (λ c. let s = c.before.before.before.before.before.before.before.before.before.before.before.before in
-    branches _ _ _ _ s.requires.0 s.requires.1 (omega arith) (omega arith) (omega arith) _ (cc))
+    (λ c. branches _ _ _ _ c.before.before.before.before.before.before.before.before.before.before.before.before.requires.0 c.before.before.before.before.before.before.before.before.before.before.before.before.requires.1 (omega arith) (omega arith) (omega arith) _ (cc))
     (λ c κs. search rules)
     (λ c. search (lines, rules))
     (λ c. search (sections, rules)))

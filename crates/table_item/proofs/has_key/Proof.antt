@@ -12,6 +12,6 @@ has_key_spec =
     (λ c. λ q. impossible cc)
     (λ c. search rules)
     (λ c κs. search rules)
-    (λ c κs. let s = c.before.before.before.before in (s.requires.1, (inner_as c.get.ensures (s.requires.0.inner s.args.i (omega arith))).good))
+    (λ c κs. (c.before.before.before.before.requires.1, (inner_as c.get-here.ensures (c.before.before.before.before.requires.0.inner c.before.before.before.before.args.i (omega arith))).good))
     (λ c κs. search rules)
     (λ c. λ q. (omega arith, cc)))

@@ -15,6 +15,5 @@ line_row_spec =
     (λ c. search rules)
     (λ c. search rules)
     (λ c κs. search rules)
-    (λ c. let t = c.before.before in
-    checksum-made _ _ t.checksum.given.0.0 t.checksum.given.1 c.item-row.ensures)
-    (λ c. line_made _ _ c.before.enum_told.given.1 c.item-row2.ensures))
+    (λ c. checksum-made _ _ c.before.in-Given.part c.before.in-Given.is c.item_row.ensures)
+    (λ c. line_made _ _ c.before.in-Absent.is c.item_row-in-Absent.ensures))

@@ -11,5 +11,4 @@ start_row_spec =
     (λ c κs. search rules)
     (λ c κs. search rules)
     (λ c κs. search rules)
-    (λ c. let w = c.before in
-    start-row-made _ _ (omega arith) _ w.before.extent-tag.ensures w.extent-word.ensures c.item-row.ensures))
+    (λ c. start-row-made _ _ (omega arith) _ c.before.before.extent_tag.ensures c.before.extent_word.ensures c.item_row.ensures))
