@@ -1,5 +1,7 @@
 // Where the rows of a sorted part are, by a hash of their keys: an open-addressing hash table in spare words. Performance only: it hints
 // at a position, which the caller compares with the key. So the contracts say which words are written, and nothing of what is found.
+#![tactic(auto)]
+
 ghost use Rattle.std.specs.Prelude.{◌+◌, ◌<◌, ◌≤◌, length};
 ghost use Rattle.table.specs.Rows.{UnchangedOutside};
 ghost use Rattle.table_item.specs.Items.{ItemInBounds};

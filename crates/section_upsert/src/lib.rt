@@ -2,6 +2,8 @@
 // items are a sorted main part and a small sorted delta behind it. A key greater than all others, as in most texts, is
 // appended to main. Any other new key goes to the delta, which is merged into main when it is full, so that unsorted
 // lines rarely move main.
+#![tactic(auto)]
+
 ghost use Rattle.std.specs.Prelude.{◌+◌, ◌≤◌, ◌<◌, length};
 ghost use Rattle.table.specs.Store.{Store};
 ghost use Rattle.table_item.specs.declared.Found.TheVariants.{Insert};

@@ -2,6 +2,8 @@
 // has replaces that section's data, and the key's first spelling stays" (SPEC 3.4). The index holds the kept entries
 // first: main, then the delta (crate section_commit). The open section's header row and its items follow, then free
 // rows.
+#![tactic(auto)]
+
 ghost use Rattle.std.specs.Prelude.{◌≡◌, ◌≢◌, true, false, ◌+◌, ◌-◌, ◌≤◌, ◌<◌, length};
 ghost use Prim.Native.Nat.{Ordering};
 ghost use Rattle.model.specs.Path.{components, compare_paths};

@@ -1,5 +1,7 @@
 // Tombstones. `mark_deleted` marks replaced rows in place, since removing each from the index would shift the rest of
 // it. `compact` removes all marked rows in one pass. Both read and write only the tag of a row.
+#![tactic(auto)]
+
 ghost use Rattle.std.specs.Prelude.{◌≡◌, true, not, ℕ, ◌+◌, ◌≤◌, ◌<◌, eqb, length};
 ghost use Rattle.table.specs.Store.{Store, row};
 ghost use Rattle.table_item.specs.Items.{tombstone_tag};

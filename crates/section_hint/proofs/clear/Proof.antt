@@ -5,10 +5,10 @@ use Rattle.section_hint.proofs.HintLaws.{kept-none, kept_set}
 use Rattle.section_hint.proofs.clear.Statement.{statement}
 use Rattle.section_hint.proofs.clear.Tie as tie
 
-abbrev invariant-loop : tie.invariant-loop
+abbrev invariant-loop : tie.invariant-loop-i
 invariant-loop words₀ from size i₀ words i = (i ≤ size) × (length words ≡ length words₀) × UnchangedOutside words₀ words from (from + size)
 
-abbrev decreases-loop : tie.decreases-loop
+abbrev decreases-loop : tie.decreases-loop-i
 decreases-loop words₀ from size i₀ words i = size - i
 
 pub clear_spec : {M : Type 1} → statement M
@@ -23,7 +23,6 @@ clear_spec =
     (λ c. omega arith)
     (λ c. omega arith)
     (λ c. omega arith)
-    (λ c. let l = c.before in
-    (omega arith, simp length-set l.loop.invariant.1, kept_set _ _ l.loop.invariant.2 (omega arith) (omega arith)))
-    (λ c. c.before.loop.invariant.1)
-    (λ c. c.before.loop.invariant.2))
+    (λ c. (omega arith, simp length-set c.before.loop-i.invariant.1, kept_set _ _ c.before.loop-i.invariant.2 (omega arith) (omega arith)))
+    (λ c. c.before.loop-i.invariant.1)
+    (λ c. c.before.loop-i.invariant.2))

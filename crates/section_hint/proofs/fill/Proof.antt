@@ -14,6 +14,4 @@ fill_spec =
     (λ c. search rules)
     (λ c. search rules)
     (λ c. search rules)
-    (λ c. let y = c.before.before in
-    let s = y.before.before.before.before in
-    kept_set _ _ (kept_lower _ _ (omega (arith, s.requires.1.2)) y.fill-slots.ensures) (omega arith) (omega (arith, s.requires.1.2))))
+    (λ c. kept_set _ _ (kept_lower _ _ (omega (arith, c.before.before.before.before.before.before.requires.1.2)) c.before.before.fill_slots.ensures) (omega arith) (omega (arith, c.before.before.before.before.before.before.requires.1.2))))

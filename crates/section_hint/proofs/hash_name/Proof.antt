@@ -3,10 +3,10 @@ use Rattle.std.proofs.Common.{◌-◌, ◌≤◌, length, arith, rules}
 use Rattle.section_hint.proofs.hash_name.Statement.{statement}
 use Rattle.section_hint.proofs.hash_name.Tie as tie
 
-abbrev invariant-loop : tie.invariant-loop
+abbrev invariant-loop : tie.invariant-loop-i
 invariant-loop name hash₀ i₀ hash i = i ≤ length name
 
-abbrev decreases-loop : tie.decreases-loop
+abbrev decreases-loop : tie.decreases-loop-i
 decreases-loop name hash₀ i₀ hash i = length name - i
 
 pub hash_name_spec : {M : Type 1} → statement M
@@ -19,7 +19,7 @@ hash_name_spec =
     (λ c. search rules)
     (λ c. search rules)
     (λ c. search rules)
-    (λ c. omega (arith, c.shared-slice-known2.given c.before.before.loop.i))
+    (λ c. omega (arith, c.shared_slice_known-in-loop-i-1.given c.before.before.loop-i.i))
     (λ c κs. search rules)
     (λ c. search rules)
     (λ c. search rules)

@@ -3,10 +3,10 @@ use Rattle.std.proofs.Common.{◌-◌, ◌≤◌, length, rules}
 use Rattle.section_hint.proofs.hash_words.Statement.{statement}
 use Rattle.section_hint.proofs.hash_words.Tie as tie
 
-abbrev invariant-loop : tie.invariant-loop
+abbrev invariant-loop : tie.invariant-loop-i
 invariant-loop name hash₀ i₀ hash i = i ≤ length name
 
-abbrev decreases-loop : tie.decreases-loop
+abbrev decreases-loop : tie.decreases-loop-i
 decreases-loop name hash₀ i₀ hash i = length name - i
 
 pub hash_words_spec : {M : Type 1} → statement M

@@ -7,10 +7,10 @@ use borrow.Author.Rules.{rules}
 use Rattle.section_upsert.proofs.insert_delta.Statement.{statement}
 use Rattle.section_upsert.proofs.insert_delta.Tie as tie
 
-abbrev brought : tie.After-copy-backward → tie.After-move-row
+abbrev brought : tie.After-copy_backward → tie.After-move_row
 brought u = u.before.before.before.before
 
-abbrev put : tie.After-move-row → tie.After-put
+abbrev put : tie.After-move_row → tie.After-put
 put b = b.before.before.before.before
 
 abbrev start : tie.After-put → tie.Start
@@ -35,10 +35,10 @@ insert_delta_spec =
     (λ c. search rules)
     (λ c. let u = c.before.before in
     let b = brought u in
-    simp length-set (u.copy-backward.auto.0 ∙ b.Move-row.kept.0 ∙ (put b).put.kept.0))
+    simp length-set (u.copy_backward.auto.words ∙ b.Move-row.kept.0 ∙ (put b).put.kept.0))
     (λ c. let u = c.before.before in
     let b = brought u in
     let q = put b in
     let s = start q in
-    inserted _ _ _ _ _ _ _ _ s.pre.0.1 s.pre.0.2 s.pre.1.0 (omega (arith, s.pre.1.1, u.copy-backward.auto.0, b.Move-row.kept.0, q.put.kept.0))
-    q.put.ensures.1.0 q.put.ensures.1.1 b.Move-row.ensures.0 b.Move-row.ensures.1.0 b.Move-row.ensures.1.1 u.copy-backward.ensures u.copy-backward.auto.0))
+    inserted _ _ _ _ _ _ _ _ s.requires.0.1 s.requires.0.2 s.requires.1.0 (omega (arith, s.requires.1.1, u.copy_backward.auto.0, b.Move-row.kept.0, q.put.kept.0))
+    q.put.ensures.1.0 q.put.ensures.1.1 b.Move-row.ensures.0 b.Move-row.ensures.1.0 b.Move-row.ensures.1.1 u.copy_backward.ensures u.copy_backward.auto.0))

@@ -15,26 +15,26 @@ use Rattle.section_upsert.proofs.UpsertLaws.{upserted_delta, overflow_delta, del
 use Rattle.section_upsert.proofs.upsert_delta.Statement.{statement}
 use Rattle.section_upsert.proofs.upsert_delta.Tie as tie
 
-abbrev start : tie.After-find-item → tie.Start
-start f = f.before.before.before.before
+abbrev start : tie.After-find_item → tie.Start
+start f = f.before.before.before
 
-abbrev text : tie.After-find-item → List ℕ
+abbrev text : tie.After-find_item → List ℕ
 text f = (start f).args.text.now
 
 -- where the search says that the row's key is
-abbrev Is : tie.After-find-item → Found → Type 0
+abbrev Is : tie.After-find_item → Found → Type 0
 Is f =
     FoundPlace (text f) (start f).args.words.now (start f).args.index ((start f).args.at + (start f).args.n) (start f).args.p
     (item_of (text f) (start f).args.row)
 
 -- the places, as far as `omega` needs them later
-record Places (f : tie.After-find-item) : Type 0 where
+record Places (f : tie.After-find_item) : Type 0 where
   room : (start f).args.at + (start f).args.n + (start f).args.p ≤ (start f).args.used
   index : (start f).args.index + (start f).args.used ≤ (start f).args.spare
   spare : (start f).args.spare + (start f).args.used + (start f).args.used ≤ length (start f).args.words.now
   fits : (start f).args.spare + (start f).args.used + (start f).args.used < 2 ^ 64
 
-places : (f : tie.After-find-item) → Places f
+places : (f : tie.After-find_item) → Places f
 places f = record {
   room = (start f).requires.0.0.delta.room;
   index = (start f).requires.1.0;
@@ -44,31 +44,31 @@ places f = record {
 
 -- ---- the key is there
 
-abbrev found : tie.After-k → tie.After-find-item
-found a = a.before.before
+abbrev found : tie.In-At-2 → tie.After-find_item
+found a = a.before
 
-abbrev k : tie.After-k → ℕ
-k a = a.k.given.0.0
+abbrev k : tie.In-At-2 → ℕ
+k a = a.in-At.k-1
 
-known : (a : tie.After-k) → Is (found a) (At (k a))
-known a = placed_as a.k.given.1 (found a).find-item.ensures
+known : (a : tie.In-At-2) → Is (found a) (At (k a))
+known a = placed_as a.in-At.is (found a).find_item.ensures
 
-abbrev here : tie.After-combine-at → tie.After-k
-here m = m.before.before.before
+abbrev here : tie.After-combine_at → tie.In-At-2
+here m = m.before.before
 
 -- ---- the key is to go there
 
-abbrev found₂ : tie.After-k2 → tie.After-find-item
-found₂ a = a.before.before
+abbrev found₂ : tie.In-Insert-2 → tie.After-find_item
+found₂ a = a.before
 
-abbrev j : tie.After-k2 → ℕ
-j a = a.k2.given.0.0
+abbrev j : tie.In-Insert-2 → ℕ
+j a = a.in-Insert.k-1
 
-gap : (a : tie.After-k2) → Is (found₂ a) (Insert (j a))
-gap a = placed_as a.k2.given.1 (found₂ a).find-item.ensures
+gap : (a : tie.In-Insert-2) → Is (found₂ a) (Insert (j a))
+gap a = placed_as a.in-Insert.is (found₂ a).find_item.ensures
 
-abbrev free : tie.After-insert-delta → tie.After-k2
-free q = q.before.before.before.before
+abbrev free : tie.After-insert_delta → tie.In-Insert-2
+free q = q.before.before.before
 
 pub upsert_delta_spec : {M : Type 1} → statement M
 upsert_delta_spec =
@@ -78,57 +78,48 @@ upsert_delta_spec =
     (λ c κs. search rules)
     (λ c. search rules)
     (λ c. search rules)
-    (λ c. let a = c.before.before in let p = places (found a) in omega (arith, (known a).within))
-    (λ c κs. let a = c.before.before in
-    let p = places (found a) in
-    ((start (found a)).requires.0.0.delta.store, omega (arith, (known a).within), (start (found a)).requires.0.2))
+    (λ c. let p = places (found c.before) in omega (arith, (known c.before).within))
+    (λ c κs. let p = places (found c.before) in
+    ((start (found c.before)).requires.0.0.delta.store, omega (arith, (known c.before).within), (start (found c.before)).requires.0.2))
     (λ c. search rules)
     (λ c. search rules)
-    (λ c. let m = c.before.before.before.before.before in
-    let a = here m in
+    (λ c. let a = here c.before.before.before in
     let s = start (found a) in
-    upserted_delta _ _ _ _ _ _ _ _ _ _ s.pre.0.0 s.args.i s.pre.1.2.is (k a) (known a).within (known a).is s.pre.0.1
-    (replacing_as c.before.-both.given.1 m.combine-at.ensures) s.pre.1.0)
+    upserted_delta _ _ _ _ _ _ _ _ _ _ s.requires.0.0 s.args.i s.requires.1.2.is (k a) (known a).within (known a).is s.requires.0.1
+    (replacing_as c.in-One.is c.before.before.before.combine_at.ensures) s.requires.1.0)
     (λ c. search rules)
     (λ c. search rules)
-    (λ c. let m = c.before.before.before.before in
-    let a = here m in
+    (λ c. let a = here c.before.before.before in
     let s = start (found a) in
-    overflow_delta _ _ _ _ _ _ _ _ _ _ s.pre.0.0 s.args.i s.pre.1.2.is (k a) (known a).within (known a).is
-    (replacing_as c.enum_told.given.1 m.combine-at.ensures))
+    overflow_delta _ _ _ _ _ _ _ _ _ _ s.requires.0.0 s.args.i s.requires.1.2.is (k a) (known a).within (known a).is
+    (replacing_as c.in-Overflow.is c.before.before.before.combine_at.ensures))
     (λ c. search rules)
     (λ c. search rules)
     (λ c. search rules)
     (λ c. search rules)
-    (λ c. let a = c.before.before in
-    let s = start (found₂ a) in
-    delta_full _ _ _ _ _ _ _ _ _ _ s.pre.0.0 s.args.i s.pre.1.2.is (j a) (gap a).within (gap a).is c.if1.true)
+    (λ c. let s = start (found₂ c.before) in
+    delta_full _ _ _ _ _ _ _ _ _ _ s.requires.0.0 s.args.i s.requires.1.2.is (j c.before) (gap c.before).within (gap c.before).is c.if-used-at.true)
     (λ c. search rules)
-    (λ c κs. let a = c.before.before.before in
-    let p = places (found₂ a) in
-    (((start (found₂ a)).requires.0.0.delta.store, (gap a).within, omega arith), (p.index, omega arith)))
+    (λ c κs. let p = places (found₂ c.before.before) in
+    (((start (found₂ c.before.before)).requires.0.0.delta.store, (gap c.before.before).within, omega arith), (p.index, omega arith)))
     (λ c. search rules)
     (λ c. search rules)
     (λ c. search rules)
-    (λ c. let q = c.before.before.before in
-    let a = free q in
+    (λ c. let a = free c.before.before.before in
     let s = start (found₂ a) in
     let l = places (found₂ a) in
-    upserted_inserted _ _ _ _ _ _ _ _ _ _ s.pre.0.0 s.args.i s.pre.1.2.is (j a) (gap a).within (gap a).is _ (omega arith) s.pre.0.1 q.insert-delta.ensures)
+    upserted_inserted _ _ _ _ _ _ _ _ _ _ s.requires.0.0 s.args.i s.requires.1.2.is (j a) (gap a).within (gap a).is _ (omega arith) s.requires.0.1 c.before.before.before.insert_delta.ensures)
     (λ c. search rules)
-    (λ c κs. let q = c.before.before.before.before in
-    let a = free q in
+    (λ c κs. let a = free c.before.before.before.before in
     let s = start (found₂ a) in
     let l = places (found₂ a) in
-    let ε = upserted_inserted _ _ _ _ _ _ _ _ _ s.args.accumulate s.pre.0.0 s.args.i s.pre.1.2.is (j a) (gap a).within (gap a).is _ (omega arith) s.pre.0.1 q.insert-delta.ensures in
-    ((ε.still.main.store, omega arith), (l.index, omega (arith, q.insert-delta.auto.0), parts-rising ε.still _ (omega arith))))
+    let ε = upserted_inserted _ _ _ _ _ _ _ _ _ s.args.accumulate s.requires.0.0 s.args.i s.requires.1.2.is (j a) (gap a).within (gap a).is _ (omega arith) s.requires.0.1 c.before.before.before.before.insert_delta.ensures in
+    ((ε.still.main.store, omega arith), (l.index, omega (arith, c.before.before.before.before.insert_delta.auto.0), parts-rising ε.still _ (omega arith))))
     (λ c. search rules)
     (λ c. search rules)
     (λ c. search rules)
-    (λ c. let w = c.before.before in
-    let q = w.before.before.before.before.before in
-    let a = free q in
+    (λ c. let a = free c.before.before.before.before.before.before.before in
     let s = start (found₂ a) in
     let l = places (found₂ a) in
-    let ε = upserted_inserted _ _ _ _ _ _ _ _ _ s.args.accumulate s.pre.0.0 s.args.i s.pre.1.2.is (j a) (gap a).within (gap a).is _ (omega arith) s.pre.0.1 q.insert-delta.ensures in
-    upserted_interleaved s.args.n (s.args.p + 1) (omega arith) ε w.interleave.ensures.0 w.interleave.ensures.1))
+    let ε = upserted_inserted _ _ _ _ _ _ _ _ _ s.args.accumulate s.requires.0.0 s.args.i s.requires.1.2.is (j a) (gap a).within (gap a).is _ (omega arith) s.requires.0.1 c.before.before.before.before.before.before.before.insert_delta.ensures in
+    upserted_interleaved s.args.n (s.args.p + 1) (omega arith) ε c.before.before.interleave.ensures.0 c.before.before.interleave.ensures.1))

@@ -19,4 +19,4 @@ compare_path_parts_spec =
     (λ c. search rules)
     (λ c. search rules)
     (λ c κs. search rules)
-    (λ c. simp add-sub_cancel_left at c.compare-paths.ensures))
+    (λ c. simp add-sub_cancel_left at c.compare_paths.ensures))

@@ -11,5 +11,5 @@ compare_sections_spec =
     (λ c κs. search rules)
     (λ c κs. search rules)
     (λ c κs. search rules)
-    (λ c. by-path _ _ _ _ _ (cc) c.compare-path-parts.ensures)
-    (λ c. by_name _ _ _ _ _ (cc) c.before.before.compare-parts.ensures))
+    (λ c. by-path _ _ _ _ _ (cc) c.compare_path_parts.ensures)
+    (λ c. by_name _ _ _ _ _ (cc) c.before.before.compare_parts-tests.ensures))

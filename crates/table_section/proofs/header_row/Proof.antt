@@ -12,5 +12,5 @@ header_row_spec =
     (λ c. header-new (omega arith))
     (λ c. search rules)
     (λ c κs. search rules)
-    (λ c. header-other c.before.before.get.ensures (omega arith))
-    (λ c. header-spelled c.before.before.get.ensures (omega arith) (omega arith)))
+    (λ c. header-other c.before.before.get-first.ensures (omega arith))
+    (λ c. header-spelled c.before.before.get-first.ensures (omega arith) (omega arith)))

@@ -8,10 +8,10 @@ use Rattle.table_section.proofs.HeaderLaws.{set-none, set-one, set_done}
 use Rattle.table_section.proofs.set_section.Statement.{statement}
 use Rattle.table_section.proofs.set_section.Tie as tie
 
-abbrev invariant-loop : tie.invariant-loop
+abbrev invariant-loop : tie.invariant-loop-i
 invariant-loop words₀ index used from n key i₀ words i = (i ≤ n) × (length words ≡ length words₀) × SectionSet words₀ words index used from i key
 
-abbrev decreases-loop : tie.decreases-loop
+abbrev decreases-loop : tie.decreases-loop-i
 decreases-loop words₀ index used from n key i₀ words i = n - i
 
 pub set_section_spec : {M : Type 1} → statement M
@@ -22,14 +22,13 @@ set_section_spec =
     decreases-loop
     (λ c. (omega arith, refl, set-none _ _ _ _ _ c.before.requires.0))
     (λ c. omega arith)
-    (λ c κs. (c.before.before.loop.invariant.2.store, omega arith))
+    (λ c κs. (c.before.loop-i.invariant.2.store, omega arith))
     (λ c. omega arith)
     (λ c κs. tt)
-    (λ c κs. (c.before.before.before.before.before.loop.invariant.2.store, omega arith))
+    (λ c κs. (c.before.before.before.before.loop-i.invariant.2.store, omega arith))
     (λ c. omega arith)
     (λ c. omega arith)
-    (λ c. let l = c.before.before.before.before.before.before.before.before in
-    let p = c.before.before.put in
-    (omega arith, p.auto.0 ∙ l.loop.invariant.1, set-one l.loop.invariant.2 (omega arith) (cc) p.ensures.0 p.ensures.1.0))
-    (λ c. c.before.loop.invariant.1)
-    (λ c. set_done c.before.loop.invariant.2 (omega arith)))
+    (λ c. let p = c.before.before.put in
+    (omega arith, p.auto.words ∙ c.before.before.before.before.before.before.before.loop-i.invariant.1, set-one c.before.before.before.before.before.before.before.loop-i.invariant.2 (omega arith) (cc) p.ensures.0 p.ensures.1.0))
+    (λ c. c.before.loop-i.invariant.1)
+    (λ c. set_done c.before.loop-i.invariant.2 (omega arith)))

@@ -10,18 +10,18 @@ use Rattle.table_section.proofs.RangeLaws.{named_as, past_falls}
 use Rattle.table_section.proofs.upper_bound.Statement.{statement}
 use Rattle.table_section.proofs.upper_bound.Tie as tie
 
-abbrev invariant-loop : tie.invariant-loop
+abbrev invariant-loop : tie.invariant-loop-step
 invariant-loop text words index used at n from key lo₀ step₀ lo step =
     SearchBounds (PastRow true text (rows_from words index at) (key_of text key)) n lo n × (0 < step) × (step ≤ n + n + 1)
 
-abbrev decreases-loop : tie.decreases-loop
+abbrev decreases-loop : tie.decreases-loop-step
 decreases-loop text words index used at n from key lo₀ step₀ lo step = n - lo
 
-abbrev start : tie.At-loop invariant-loop decreases-loop → tie.Start invariant-loop decreases-loop
+abbrev start : tie.At-loop-step invariant-loop decreases-loop → tie.Start invariant-loop decreases-loop
 start l = l.before.before.before
 
-abbrev last : tie.At-loop invariant-loop decreases-loop → ℕ
-last l = l.loop.lo + (l.loop.step - 1)
+abbrev last : tie.At-loop-step invariant-loop decreases-loop → ℕ
+last l = l.loop-step.lo + (l.loop-step.step - 1)
 
 pub upper_bound_spec : {M : Type 1} → statement M
 upper_bound_spec =
@@ -30,22 +30,18 @@ upper_bound_spec =
     invariant-loop
     decreases-loop
     (λ c. (c.before.before.requires.1, omega arith, omega arith))
-    (λ c. c.loop.invariant.0.ends)
+    (λ c. c.loop-step.invariant.0.ends)
     (λ c. omega arith)
     (λ c. omega arith)
     (λ c. omega (arith, c.before.before.before.before.requires.0.0.room, c.before.before.before.before.requires.0.0.store.index_end))
-    (λ c κs. let l = c.before in
-    let s = start l in (s.pre.0.0.store, omega (arith, s.pre.0.0.room)))
-    (λ c κs. let l = c.before.before in
-    let s = start l in (s.pre.0.1, named_as c.get.ensures (s.pre.0.0.rows.whole (last l) (omega arith)).named))
+    (λ c κs. let s = start c.before in (s.requires.0.0.store, omega (arith, s.requires.0.0.room)))
+    (λ c κs. let s = start c.before.before in (s.requires.0.1, named_as c.get-other.ensures (s.requires.0.0.rows.whole (last c.before.before) (omega arith)).named))
     (λ c κs. tt)
     (λ c. omega arith)
-    (λ c. omega (arith, (start c.before.before.before.before.before).pre.0.0.room, (start c.before.before.before.before.before).pre.0.0.store.index_end))
+    (λ c. omega (arith, (start c.before.before.before.before.before).requires.0.0.room, (start c.before.before.before.before.before).requires.0.0.store.index_end))
     (λ c. omega arith)
-    (λ c. let l = c.before.before.before.before.before in
-    (bounds-up (past_falls _ _ (start l).requires.0.0.rows) l.loop.invariant.0 (last l) (omega arith) (omega arith) (cc), omega arith, omega arith))
-    (λ c κs. let l = c.before.before.before.before.before in
-    let s = start l in (s.pre.0, bounds_down (past_falls _ _ s.pre.0.0.rows) l.loop.invariant.0 (last l) (omega arith) (omega arith) (cc)))
-    (λ c. c.partition-point.ensures)
-    (λ c κs. let l = c.before in ((start l).requires.0, l.loop.invariant.0))
-    (λ c. c.partition-point2.ensures))
+    (λ c. (bounds-up (past_falls _ _ (start c.before.before.before.before.before).requires.0.0.rows) c.before.before.before.before.before.loop-step.invariant.0 (last c.before.before.before.before.before) (omega arith) (omega arith) (cc), omega arith, omega arith))
+    (λ c κs. let s = start c.before.before.before.before.before in (s.requires.0, bounds_down (past_falls _ _ s.requires.0.0.rows) c.before.before.before.before.before.loop-step.invariant.0 (last c.before.before.before.before.before) (omega arith) (omega arith) (cc)))
+    (λ c. c.partition_point.ensures)
+    (λ c κs. ((start c.before).requires.0, c.before.loop-step.invariant.0))
+    (λ c. c.partition_point-2.ensures))

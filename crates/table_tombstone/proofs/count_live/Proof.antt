@@ -11,5 +11,5 @@ pub count_live_spec : {M : Type 1} → statement M
 count_live_spec =
     tie.close
     (tie.spec
-    (λ c. (sym (ap (λ (t : Bool). one_for (not t)) (eq-eqb _ _ c.if1.true)), omega arith))
-    (λ c. (sym (ap (λ (t : Bool). one_for (not t)) (ne_eqb _ _ c.if1.false)), omega arith)))
+    (λ c. (sym (ap (λ (t : Bool). one_for (not t)) (eq-eqb _ _ c.if-tag-eq-TOMBSTONE.true)), omega arith))
+    (λ c. (sym (ap (λ (t : Bool). one_for (not t)) (ne_eqb _ _ c.if-tag-eq-TOMBSTONE.false)), omega arith)))
