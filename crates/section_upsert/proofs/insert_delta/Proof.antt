@@ -35,10 +35,10 @@ insert_delta_spec =
     (λ c. search rules)
     (λ c. let u = c.before.before in
     let b = brought u in
-    simp length-set (u.copy_backward.auto.words ∙ b.Move-row.kept.0 ∙ (put b).put.kept.0))
+    simp length-set (u.copy_backward.auto.words ∙ b.move_row.auto.words ∙ (put b).put.auto.words))
     (λ c. let u = c.before.before in
     let b = brought u in
     let q = put b in
     let s = start q in
-    inserted _ _ _ _ _ _ _ _ s.requires.0.1 s.requires.0.2 s.requires.1.0 (omega (arith, s.requires.1.1, u.copy_backward.auto.0, b.Move-row.kept.0, q.put.kept.0))
-    q.put.ensures.1.0 q.put.ensures.1.1 b.Move-row.ensures.0 b.Move-row.ensures.1.0 b.Move-row.ensures.1.1 u.copy_backward.ensures u.copy_backward.auto.0))
+    inserted _ _ _ _ _ _ _ _ s.requires.0.1 s.requires.0.2 s.requires.1.0 (omega (arith, s.requires.1.1, u.copy_backward.auto.words, b.move_row.auto.words, q.put.auto.words))
+    q.put.ensures.1.0 q.put.ensures.1.1 b.move_row.ensures.0 b.move_row.ensures.1.0 b.move_row.ensures.1.1 u.copy_backward.ensures u.copy_backward.auto.words))

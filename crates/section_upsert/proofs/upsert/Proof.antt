@@ -26,27 +26,27 @@ Is f = FoundPlace (text f) (start f).args.words.now (start f).args.index (start 
 
 -- ---- the key is there
 
-abbrev found : tie.In-At-2 → tie.After-find_item
+abbrev found : tie.In-At → tie.After-find_item
 found a = a.before
 
-abbrev i : tie.In-At-2 → ℕ
-i a = a.in-At.i-1
+abbrev i : tie.In-At → ℕ
+i a = a.in-At.i
 
-known : (a : tie.In-At-2) → Is (found a) (At (i a))
+known : (a : tie.In-At) → Is (found a) (At (i a))
 known a = placed_as a.in-At.is (found a).find_item.ensures
 
-abbrev here : tie.After-combine_at → tie.In-At-2
+abbrev here : tie.After-combine_at → tie.In-At
 here m = m.before.before
 
 -- ---- the key is to go there
 
-abbrev found₂ : tie.In-Insert-2 → tie.After-find_item
+abbrev found₂ : tie.In-Insert → tie.After-find_item
 found₂ a = a.before
 
-abbrev j : tie.In-Insert-2 → ℕ
-j a = a.in-Insert.i-1
+abbrev j : tie.In-Insert → ℕ
+j a = a.in-Insert.i
 
-gap : (a : tie.In-Insert-2) → Is (found₂ a) (Insert (j a))
+gap : (a : tie.In-Insert) → Is (found₂ a) (Insert (j a))
 gap a = placed_as a.in-Insert.is (found₂ a).find_item.ensures
 
 pub upsert_spec : {M : Type 1} → statement M

@@ -44,30 +44,30 @@ places f = record {
 
 -- ---- the key is there
 
-abbrev found : tie.In-At-2 → tie.After-find_item
+abbrev found : tie.In-At → tie.After-find_item
 found a = a.before
 
-abbrev k : tie.In-At-2 → ℕ
-k a = a.in-At.k-1
+abbrev k : tie.In-At → ℕ
+k a = a.in-At.k
 
-known : (a : tie.In-At-2) → Is (found a) (At (k a))
+known : (a : tie.In-At) → Is (found a) (At (k a))
 known a = placed_as a.in-At.is (found a).find_item.ensures
 
-abbrev here : tie.After-combine_at → tie.In-At-2
+abbrev here : tie.After-combine_at → tie.In-At
 here m = m.before.before
 
 -- ---- the key is to go there
 
-abbrev found₂ : tie.In-Insert-2 → tie.After-find_item
+abbrev found₂ : tie.In-Insert → tie.After-find_item
 found₂ a = a.before
 
-abbrev j : tie.In-Insert-2 → ℕ
-j a = a.in-Insert.k-1
+abbrev j : tie.In-Insert → ℕ
+j a = a.in-Insert.k
 
-gap : (a : tie.In-Insert-2) → Is (found₂ a) (Insert (j a))
+gap : (a : tie.In-Insert) → Is (found₂ a) (Insert (j a))
 gap a = placed_as a.in-Insert.is (found₂ a).find_item.ensures
 
-abbrev free : tie.After-insert_delta → tie.In-Insert-2
+abbrev free : tie.After-insert_delta → tie.In-Insert
 free q = q.before.before.before
 
 pub upsert_delta_spec : {M : Type 1} → statement M
@@ -114,7 +114,7 @@ upsert_delta_spec =
     let s = start (found₂ a) in
     let l = places (found₂ a) in
     let ε = upserted_inserted _ _ _ _ _ _ _ _ _ s.args.accumulate s.requires.0.0 s.args.i s.requires.1.2.is (j a) (gap a).within (gap a).is _ (omega arith) s.requires.0.1 c.before.before.before.before.insert_delta.ensures in
-    ((ε.still.main.store, omega arith), (l.index, omega (arith, c.before.before.before.before.insert_delta.auto.0), parts-rising ε.still _ (omega arith))))
+    ((ε.still.main.store, omega arith), (l.index, omega (arith, c.before.before.before.before.insert_delta.auto.words), parts-rising ε.still _ (omega arith))))
     (λ c. search rules)
     (λ c. search rules)
     (λ c. search rules)
