@@ -2,6 +2,8 @@
 // one gives is kept, and so is a key's earlier spelling. Function counts add and stop at 2^64 − 1. Taken counts add, none adding nothing.
 // Line counts add." Of two end lines the larger is kept. In the lossy mode "the later given start line or checksum wins", and the end
 // line, or none, that came with that start line.
+#![tactic(auto)]
+
 ghost use Rattle.std.specs.Prelude.{◌≡◌, List, ℕ, ◌+◌, ◌%◌, min};
 ghost use Rattle.model.specs.Limits.{u64_max};
 ghost use Rattle.model.specs.Bytes.{same_bytes};

@@ -1,4 +1,6 @@
 // Search in a table whose first n rows ascend by key.
+#![tactic(auto)]
+
 pub mod names;
 
 ghost use Rattle.std.specs.Prelude.{◌≡◌, true, List, ℕ, ◌≤◌, ◌<◌};

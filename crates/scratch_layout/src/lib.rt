@@ -1,4 +1,6 @@
 // The entry limit that a scratch has, and the layout of its words: the joined table, then the table for the text that is read.
+#![tactic(auto)]
+
 ghost use Rattle.std.specs.Prelude.{◌≡◌, ◌≤◌};
 ghost use Rattle.model.specs.Limits.{max_entries};
 ghost use Rattle.model.specs.Gather.{entry_limit};

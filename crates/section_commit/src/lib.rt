@@ -3,6 +3,8 @@
 // it fits there; main's rows of that key become tombstones. Any other section goes to the delta, which is merged into
 // main when it exceeds DELTA_ENTRIES. Its insert position in main is searched once, at commit, and cached in k1 of the
 // header row, which no header row uses otherwise.
+#![tactic(auto)]
+
 ghost use Rattle.std.specs.Prelude.{◌≡◌, ◌≢◌, true, ◌+◌, ◌-◌, ◌≤◌, ◌<◌, length};
 ghost use Prim.Native.Nat.{Ordering};
 ghost use Rattle.table.specs.Rows.{word};

@@ -1,6 +1,8 @@
 // The open section's append tail (SPEC 3.3). Rows that arrive out of order are appended behind the items, with no search. The exact
 // items are needed only at end_of_record, when no row is free and where the calls so far may pass 2^64 − 1: then the tail is flushed, that
 // is presorted with main and upserted row by row.
+#![tactic(auto)]
+
 ghost use Rattle.std.specs.Prelude.{◌≡◌, ◌≢◌, true, cond, ℕ, ◌+◌, ◌-◌, ◌≤◌, ◌<◌, length};
 ghost use Rattle.std.proofs.Math.Dec.{compare_is_eq};
 ghost use Rattle.table.specs.Store.{row, Store};

@@ -9,10 +9,7 @@ pub combine_branches_spec : {M : Type 1} → statement M
 combine_branches_spec =
     tie.close
     (tie.spec
-    (λ c. let s = c.before.before in
-    λ text mode w v. branch-earlier text mode s.args.old s.args.new s.requires.0 s.requires.1 (omega arith) w)
-    (λ c. let s = c.before.before.before.before in
-    λ text mode w v. branch_later text mode s.args.old s.args.new s.requires.0 s.requires.1 (omega arith) (omega arith) w)
+    (λ c. λ text mode w v. branch-earlier text mode c.before.before.args.old c.before.before.args.new c.before.before.requires.0 c.before.before.requires.1 (omega arith) w)
+    (λ c. λ text mode w v. branch_later text mode c.before.before.before.before.args.old c.before.before.before.before.args.new c.before.before.before.before.requires.0 c.before.before.before.before.requires.1 (omega arith) (omega arith) w)
     (λ c κs. search rules)
-    (λ c. let s = c.before.before.before.before.before in
-    λ text mode w v. branch-sum text mode s.args.old s.args.new s.requires.0 s.requires.1 _ c.with-sum.ensures (omega arith) (omega arith) w))
+    (λ c. λ text mode w v. branch-sum text mode c.before.before.before.before.before.args.old c.before.before.before.before.before.args.new c.before.before.before.before.before.requires.0 c.before.before.before.before.before.requires.1 _ c.with_sum.ensures (omega arith) (omega arith) w))

@@ -4,10 +4,10 @@ use borrow.Author.Rules.{rules}
 use Rattle.merge_combine.proofs.combine_functions.Statement.{statement}
 use Rattle.merge_combine.proofs.combine_functions.Tie as tie
 
-abbrev keys : tie.After-choose → tie.After-start-key2
+abbrev keys : tie.After-choose → tie.After-start_key-later
 keys h = h.before
 
-abbrev summed : tie.After-choose → tie.After-saturating-add
+abbrev summed : tie.After-choose → tie.After-saturating_add
 summed h = (keys h).before.before
 
 abbrev start : tie.After-choose → tie.Start
@@ -23,18 +23,15 @@ combine_functions_spec =
     (λ c κs. search rules)
     (λ c. search rules)
     (λ c κs. search rules)
-    (λ c. let h = c.before.before.before in
-    let s = start h in
-    λ text w v. function-earlier text s.args.mode s.args.old s.args.new s.pre.0 s.pre.1 _ (summed h).saturating-add.ensures
-    _ _ (keys h).before.start-key.ensures (keys h).start-key2.ensures _ h.choose.ensures _ c.before.enum_told.given.1 c.with-larger-end.ensures w)
+    (λ c. let s = start c.before.before in
+    λ text w v. function-earlier text s.args.mode s.args.old s.args.new s.requires.0 s.requires.1 _ (summed c.before.before).saturating_add.ensures
+    _ _ (keys c.before.before).before.start_key-earlier.ensures (keys c.before.before).start_key-later.ensures _ c.before.before.choose.ensures _ c.before.in-Earlier.is c.with_larger_end.ensures w)
     (λ c. search rules)
     (λ c κs. search rules)
-    (λ c. let h = c.before.before.before in
-    let s = start h in
-    λ text w v. function_later text s.args.mode s.args.old s.args.new s.pre.0 s.pre.1 _ (summed h).saturating-add.ensures
-    _ _ (keys h).before.start-key.ensures (keys h).start-key2.ensures _ h.choose.ensures _ c.before.enum-told2.given.1 c.with-extent.ensures w)
+    (λ c. let s = start c.before.before in
+    λ text w v. function_later text s.args.mode s.args.old s.args.new s.requires.0 s.requires.1 _ (summed c.before.before).saturating_add.ensures
+    _ _ (keys c.before.before).before.start_key-earlier.ensures (keys c.before.before).start_key-later.ensures _ c.before.before.choose.ensures _ c.before.in-Later.is c.with_extent.ensures w)
     (λ c. search rules)
-    (λ c. let h = c.before.before in
-    let s = start h in
-    λ text w v. function_neither text s.args.mode s.args.old s.args.new s.pre.0 s.pre.1 _ (summed h).saturating-add.ensures
-    _ _ (keys h).before.start-key.ensures (keys h).start-key2.ensures _ h.choose.ensures c.enum-told3.given.1))
+    (λ c. let s = start c.before in
+    λ text w v. function_neither text s.args.mode s.args.old s.args.new s.requires.0 s.requires.1 _ (summed c.before).saturating_add.ensures
+    _ _ (keys c.before).before.start_key-earlier.ensures (keys c.before).start_key-later.ensures _ c.before.choose.ensures c.in-Neither.is))

@@ -4,7 +4,7 @@ use borrow.Author.Rules.{rules}
 use Rattle.merge_combine.proofs.combine_lines.Statement.{statement}
 use Rattle.merge_combine.proofs.combine_lines.Tie as tie
 
-abbrev checksums : tie.After-choose → tie.After-same-checksums
+abbrev checksums : tie.After-choose → tie.After-same_checksums-alike
 checksums h = h.before.before.before
 
 abbrev start : tie.After-choose → tie.Start
@@ -14,19 +14,16 @@ pub combine_lines_spec : {M : Type 1} → statement M
 combine_lines_spec =
     tie.close
     (tie.spec
-    (λ c κs. let s = c.before in (s.requires.0.good, s.requires.1.good, s.requires.2, s.requires.3))
+    (λ c κs. (c.before.requires.0.good, c.before.requires.1.good, c.before.requires.2, c.before.requires.3))
     (λ c κs. search rules)
     (λ c. search rules)
     (λ c κs. search rules)
-    (λ c. let h = c.before.before.before in
-    let s = start h in
-    line-earlier _ s.args.mode s.args.old s.args.new s.pre.2 s.pre.3 s.pre.0 s.pre.1 _ (checksums h).same-checksums.ensures _ h.choose.ensures _ c.before.enum_told.given.1 c.with-sum.ensures)
+    (λ c. let s = start c.before.before in
+    line-earlier _ s.args.mode s.args.old s.args.new s.requires.2 s.requires.3 s.requires.0 s.requires.1 _ (checksums c.before.before).same_checksums-alike.ensures _ c.before.before.choose.ensures _ c.before.in-Earlier.is c.with_sum.ensures)
     (λ c. search rules)
     (λ c κs. search rules)
-    (λ c. let h = c.before.before.before in
-    let s = start h in
-    line_later _ s.args.mode s.args.old s.args.new s.pre.2 s.pre.3 s.pre.0 s.pre.1 _ (checksums h).same-checksums.ensures _ h.choose.ensures _ c.before.enum-told2.given.1 c.with-sum2.ensures)
+    (λ c. let s = start c.before.before in
+    line_later _ s.args.mode s.args.old s.args.new s.requires.2 s.requires.3 s.requires.0 s.requires.1 _ (checksums c.before.before).same_checksums-alike.ensures _ c.before.before.choose.ensures _ c.before.in-Later.is c.with_sum-in-Later.ensures)
     (λ c. search rules)
-    (λ c. let h = c.before.before in
-    let s = start h in
-    line_neither _ s.args.mode s.args.old s.args.new s.pre.2 s.pre.3 s.pre.0 s.pre.1 _ (checksums h).same-checksums.ensures _ h.choose.ensures c.enum-told3.given.1))
+    (λ c. let s = start c.before in
+    line_neither _ s.args.mode s.args.old s.args.new s.requires.2 s.requires.3 s.requires.0 s.requires.1 _ (checksums c.before).same_checksums-alike.ensures _ c.before.choose.ensures c.in-Neither.is))

@@ -10,9 +10,9 @@ combine_rows_spec =
     tie.close
     (tie.spec
     (λ c κs. (omega arith, omega arith))
-    (λ c. let s = c.before.before.before.before in c.combine-functions.ensures _ s.requires.0 s.requires.1)
+    (λ c. c.combine_functions.ensures _ c.before.before.before.before.requires.0 c.before.before.before.before.requires.1)
     (λ c κs. (omega arith, omega arith))
-    (λ c. let s = c.before.before.before.before.before in c.combine-branches.ensures _ _ s.requires.0 s.requires.1)
-    (λ c κs. let s = c.before.before.before.before.before in (s.requires.0, s.requires.1, omega arith, omega arith))
+    (λ c. c.combine_branches.ensures _ _ c.before.before.before.before.before.requires.0 c.before.before.before.before.before.requires.1)
+    (λ c κs. (c.before.before.before.before.before.requires.0, c.before.before.before.before.before.requires.1, omega arith, omega arith))
     (λ c. search rules)
-    (λ c. let s = c.before.before.before.before.before in combined_section _ _ _ _ (omega (arith, s.requires.0.good.kind)) s.requires.0))
+    (λ c. combined_section _ _ _ _ (omega (arith, c.before.before.before.before.before.requires.0.good.kind)) c.before.before.before.before.before.requires.0))

@@ -10,7 +10,6 @@ same_checksums_spec =
     (tie.spec
     (λ c. λ a b. absurd (omega arith))
     (λ c. λ a b. absurd (omega arith))
-    (λ c κs. let s = c.before.before.before.before.before in
-    (s.requires.0.checksum s.requires.2 (omega arith), s.requires.1.checksum s.requires.3 (omega arith)))
+    (λ c κs. (c.before.before.before.before.before.requires.0.checksum c.before.before.before.before.before.requires.2 (omega arith), c.before.before.before.before.before.requires.1.checksum c.before.before.before.before.before.requires.3 (omega arith)))
     (λ c κs. search rules)
     (λ c. λ a b. cc))

@@ -10,8 +10,6 @@ compare_entries_spec =
     (tie.spec
     (λ c κs. search rules)
     (λ c κs. search rules)
-    (λ c. let l = c.before.before in
-    let s = l.before.before in
-    by_lines s.requires.0 s.requires.1 (l.lines-of-one.ensures (cc)) _ c.compare-numbers.ensures)
+    (λ c. by_lines c.before.before.before.before.requires.0 c.before.before.before.before.requires.1 (c.before.before.lines_of_one.ensures (cc)) _ c.compare_numbers.ensures)
     (λ c κs. search rules)
     (λ c. search rules))

@@ -8,8 +8,8 @@ pub compare_rows_spec : {M : Type 1} → statement M
 compare_rows_spec =
     tie.close
     (tie.spec
-    (λ c κs. let s = c.before in (s.requires.0.named, s.requires.1.named))
+    (λ c κs. (c.before.requires.0.named, c.before.requires.1.named))
     (λ c κs. search rules)
-    (λ c κs. let s = c.before.before.before.before in (s.requires.0.good, s.requires.1.good))
-    (λ c. by-item _ _ _ (cc) c.compare-items.ensures)
-    (λ c. by-section _ _ _ (cc) c.before.before.compare-sections.ensures))
+    (λ c κs. (c.before.before.before.before.requires.0.good, c.before.before.before.before.requires.1.good))
+    (λ c. by-item _ _ _ (cc) c.compare_items.ensures)
+    (λ c. by-section _ _ _ (cc) c.before.before.compare_sections-sections.ensures))

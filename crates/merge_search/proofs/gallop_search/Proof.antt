@@ -8,5 +8,5 @@ gallop_search_spec =
     tie.close
     (tie.spec
     (λ c κs. search rules)
-    (λ c κs. let s = c.before.before.before in (s.requires.0, s.requires.1, c.lower-bound-entry.ensures))
+    (λ c κs. (c.before.before.before.requires.0, c.before.before.before.requires.1, c.lower_bound_entry-i.ensures))
     (λ c. search rules))

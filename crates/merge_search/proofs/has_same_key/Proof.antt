@@ -11,5 +11,5 @@ has_same_key_spec =
     (tie.spec
     (λ c κs. search rules)
     (λ c κs. search rules)
-    (λ c. λ e text wx wy. equal-entries text (c.same_names.ensures e) (c.before.before.same_numbers.ensures c.before.if1.true text wx.good wy.good))
+    (λ c. λ e text wx wy. equal-entries text (c.same_names.ensures e) (c.before.before.same_numbers.ensures c.before.if-same_numbers.true text wx.good wy.good))
     (λ c. λ e. impossible cc))

@@ -14,11 +14,8 @@ is_between_spec =
     (λ c κs. search rules)
     (λ c κs. search rules)
     (λ c κs. search rules)
-    (λ c. λ e. let t = c.before.before in
-    let l = t.before.before.before.before in
-    let k = l.before.before in
-    between k.before.before.get.ensures k.before.get2.ensures (k.lines-of-one.ensures l.before.if1.true)
-    (l.lines-of-one2.ensures t.before.before.before.if2.true) t.if3.true e)
+    (λ c. λ e. between c.before.before.before.before.before.before.before.before.before.before.get-before.ensures c.before.before.before.before.before.before.before.before.before.get-here.ensures (c.before.before.before.before.before.before.before.before.lines_of_one.ensures c.before.before.before.before.before.before.before.if-lines_of_one.true)
+    (c.before.before.before.before.before.before.lines_of_one-then-lines_of_one.ensures c.before.before.before.before.before.if-lines_of_one-2.true) c.before.before.if-before-key.true e)
     (λ c. λ e. impossible cc)
     (λ c. λ e. impossible cc)
     (λ c. λ e. impossible cc))

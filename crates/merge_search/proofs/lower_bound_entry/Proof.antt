@@ -9,17 +9,17 @@ use borrow.Author.Rules.{rules}
 use Rattle.merge_search.proofs.lower_bound_entry.Statement.{statement}
 use Rattle.merge_search.proofs.lower_bound_entry.Tie as tie
 
-abbrev invariant-loop : tie.invariant-loop
+abbrev invariant-loop : tie.invariant-loop-lo
 invariant-loop text words index used n from key lo₀ hi₀ lo hi = SearchBounds (Before text words index key) n lo hi
 
-abbrev decreases-loop : tie.decreases-loop
+abbrev decreases-loop : tie.decreases-loop-lo
 decreases-loop text words index used n from key lo₀ hi₀ lo hi = hi - lo
 
-abbrev start : tie.At-loop invariant-loop decreases-loop → tie.Start invariant-loop decreases-loop
+abbrev start : tie.At-loop-lo invariant-loop decreases-loop → tie.Start invariant-loop decreases-loop
 start l = l.before.before.before.before
 
-abbrev mid : tie.At-loop invariant-loop decreases-loop → ℕ
-mid l = l.loop.lo + (l.loop.hi - l.loop.lo) / 2
+abbrev mid : tie.At-loop-lo invariant-loop decreases-loop → ℕ
+mid l = l.loop-lo.lo + (l.loop-lo.hi - l.loop-lo.lo) / 2
 
 pub lower_bound_entry_spec : {M : Type 1} → statement M
 lower_bound_entry_spec =
@@ -28,15 +28,13 @@ lower_bound_entry_spec =
     invariant-loop
     decreases-loop
     (λ c κs. search rules)
-    (λ c. let s = c.before.before.before in span-bounds s.args.key s.requires.0 c.gallop.ensures)
+    (λ c. span-bounds c.before.before.before.args.key c.before.before.before.requires.0 c.gallop-span.ensures)
     (λ c. omega arith)
     (λ c. omega arith)
-    (λ c κs. let l = c.before in ((start l).requires.0, (start l).requires.1, omega arith))
+    (λ c κs. ((start c.before).requires.0, (start c.before).requires.1, omega arith))
     (λ c. omega arith)
     (λ c. omega arith)
-    (λ c. let l = c.before.before.before in
-    bounds-up (before_falls (start l).args.key (start l).requires.0) l.loop.invariant (mid l) (omega arith) (omega arith) (cc))
+    (λ c. bounds-up (before_falls (start c.before.before.before).args.key (start c.before.before.before).requires.0) c.before.before.before.loop-lo.invariant (mid c.before.before.before) (omega arith) (omega arith) (cc))
     (λ c. omega arith)
-    (λ c. let l = c.before.before.before in
-    bounds_down (before_falls (start l).args.key (start l).requires.0) l.loop.invariant (mid l) (omega arith) (omega arith) (cc))
-    (λ c. bounds_done c.before.loop.invariant c.loop-test.false))
+    (λ c. bounds_down (before_falls (start c.before.before.before).args.key (start c.before.before.before).requires.0) c.before.before.before.loop-lo.invariant (mid c.before.before.before) (omega arith) (omega arith) (cc))
+    (λ c. bounds_done c.before.loop-lo.invariant c.loop-lo-test.false))

@@ -10,7 +10,7 @@ search_with_hint_spec =
     (tie.spec
     (λ c. omega arith)
     (λ c. omega arith)
-    (λ c κs. let s = c.before.before.before.before in (s.requires, (omega arith, omega arith)))
+    (λ c κs. (c.before.before.before.before.requires, (omega arith, omega arith)))
     (λ c. search rules)
     (λ c κs. search rules)
     (λ c. search rules))

@@ -8,46 +8,41 @@ use borrow.Author.Rules.{rules}
 use Rattle.section_commit.proofs.commit_section.Statement.{statement}
 use Rattle.section_commit.proofs.commit_section.Tie as tie
 
-abbrev known : tie.After-equal-range → tie.After-with-known-test
-known f = f.before.before
+abbrev known : tie.After-equal_range-range → tie.After-with_known_test-known
+known f = f.before
 
-abbrev start : tie.After-equal-range → tie.Start
-start f = (known f).before.before.before.before.before
+abbrev start : tie.After-equal_range-range → tie.Start
+start f = (known f).before.before.before.before
 
-abbrev found : tie.Then3 → tie.After-equal-range
+abbrev found : tie.Then-range-main → tie.After-equal_range-range
 found t = t.before.before.before.before
 
-abbrev kept : tie.After-commit → tie.After-equal-range
+abbrev kept : tie.After-commit-after → tie.After-equal_range-range
 kept k = k.before.before.before.before
 
 pub commit_section_spec : {M : Type 1} → statement M
 commit_section_spec =
     tie.close
     (tie.spec
-    (λ c. let s = c.before.before.before in (committed_empty s.args.key s.requires.0.0 (omega arith), omega arith))
+    (λ c. (committed_empty c.before.before.before.args.key c.before.before.before.requires.0.0 (omega arith), omega arith))
     (λ c κs. search rules)
     (λ c κs. search rules)
     (λ c κs. let f = found c.before in
     let s = start f in (
-      (s.pre.0.0.main.store, range-ends f.equal-range.ensures, f.equal-range.ensures.high.most, omega (arith, s.pre.0.1.room)),
-      (s.pre.1.0.2, omega (arith, s.pre.1.0.3)),
+      (s.requires.0.0.main.store, range-ends f.equal_range-range.ensures, f.equal_range-range.ensures.high.most, omega (arith, s.requires.0.1.room)),
+      (s.requires.1.0.2, omega (arith, s.requires.1.0.3)),
     ))
     (λ c. search rules)
-    (λ c. let p = c.before.before in
-    let f = found p.before.before in
+    (λ c. let f = found c.before.before.before.before in
     let s = start f in
-    let σ = (known f).with-known-test.ensures in (
-      committed_named σ (committed_last _ s.pre.0.0 s.pre.0.1 (omega arith) σ.named (σ.tag ∙ s.pre.1.0.1) f.equal-range.ensures (omega arith)
-          (omega arith) p.splice.ensures.1.0 p.splice.ensures.0 p.splice.ensures.1.1.1),
+    let σ = (known f).with_known_test-known.ensures in (
+      committed_named σ (committed_last _ s.requires.0.0 s.requires.0.1 (omega arith) σ.named (σ.tag ∙ s.requires.1.0.1) f.equal_range-range.ensures (omega arith)
+          (omega arith) c.before.before.splice-grown.ensures.1.0 c.before.before.splice-grown.ensures.0 c.before.before.splice-grown.ensures.1.1.1),
       omega arith,
     ))
-    (λ c κs. let f = c.before.before.before in
-    let s = start f in
-    let σ = (known f).with-known-test.ensures in
-    ((s.pre.0.0, s.pre.0.1, omega arith), (f.equal-range.ensures, (σ.named, σ.tag ∙ s.pre.1.0.1, s.pre.1.0.2, s.pre.1.0.3))))
-    (λ c κs. let k = c.before.before.before in
-    let s = start (kept k) in (k.commit.ensures.held, s.pre.1.0.2, omega (arith, s.pre.1.0.3, k.commit.auto.1.0)))
+    (λ c κs. let s = start c.before.before.before in
+    let σ = (known c.before.before.before).with_known_test-known.ensures in
+    ((s.requires.0.0, s.requires.0.1, omega arith), (c.before.before.before.equal_range-range.ensures, (σ.named, σ.tag ∙ s.requires.1.0.1, s.requires.1.0.2, s.requires.1.0.3))))
+    (λ c κs. let s = start (kept c.before.before.before) in (c.before.before.before.commit-after.ensures.held, s.requires.1.0.2, omega (arith, s.requires.1.0.3, c.before.before.before.commit-after.auto.words)))
     (λ c. search rules)
-    (λ c. let m = c.before.before in
-    let k = m.before.before.before.before in
-    (committed_named (known (kept k)).with-known-test.ensures (committed_as k.commit.ensures m.maintain.ensures.0), m.maintain.ensures.1)))
+    (λ c. (committed_named (known (kept c.before.before.before.before.before.before)).with_known_test-known.ensures (committed_as c.before.before.before.before.before.before.commit-after.ensures c.before.before.maintain.ensures.0), c.before.before.maintain.ensures.1)))

@@ -8,10 +8,10 @@ use Rattle.section_commit.proofs.DeltaLaws.{filled_none, filled-one, filled_as}
 use Rattle.section_commit.proofs.fill.Statement.{statement}
 use Rattle.section_commit.proofs.fill.Tie as tie
 
-abbrev invariant-loop : tie.invariant-loop
+abbrev invariant-loop : tie.invariant-loop-i
 invariant-loop words₀ at n value i₀ words i = (i ≤ n) × (length words ≡ length words₀) × Filled words₀ words at i value
 
-abbrev decreases-loop : tie.decreases-loop
+abbrev decreases-loop : tie.decreases-loop-i
 decreases-loop words₀ at n value i₀ words i = n - i
 
 pub fill_spec : {M : Type 1} → statement M
@@ -26,7 +26,6 @@ fill_spec =
     (λ c. omega arith)
     (λ c. omega arith)
     (λ c. omega arith)
-    (λ c. let l = c.before in
-    (omega arith, simp length-set l.loop.invariant.1, filled-one l.loop.invariant.2 (omega (arith, l.loop.invariant.1))))
-    (λ c. c.before.loop.invariant.1)
-    (λ c. filled_as c.before.loop.invariant.2 (omega arith)))
+    (λ c. (omega arith, simp length-set c.before.loop-i.invariant.1, filled-one c.before.loop-i.invariant.2 (omega (arith, c.before.loop-i.invariant.1))))
+    (λ c. c.before.loop-i.invariant.1)
+    (λ c. filled_as c.before.loop-i.invariant.2 (omega arith)))

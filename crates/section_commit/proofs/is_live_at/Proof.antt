@@ -13,4 +13,4 @@ is_live_at_spec =
     (tie.spec
     (λ c e. impossible cc)
     (λ c κs. search rules)
-    (λ c e. (omega arith, ap is_live (sym c.before.get.ensures) ∙ e)))
+    (λ c e. (omega arith, ap is_live (sym c.before.get-first.ensures) ∙ e)))

@@ -11,8 +11,8 @@ maintain_spec =
     (tie.spec
     (λ c κs. search rules)
     (λ c. search rules)
-    (λ c. (many_compacted c.before.before.merge-and-compact.ensures, omega arith))
+    (λ c. (many_compacted c.before.before.merge_and_compact-all.ensures, omega arith))
     (λ c κs. search rules)
     (λ c. search rules)
-    (λ c. let t = c.before.before in (t.merge-delta.ensures.0, omega (arith, t.merge-delta.ensures.1)))
-    (λ c. let s = c.before.before.before.before.before.before in (many_same s.args.kept s.requires.0, omega arith)))
+    (λ c. (c.before.before.merge_delta.ensures.0, omega (arith, c.before.before.merge_delta.ensures.1)))
+    (λ c. (many_same c.before.before.before.before.before.before.args.kept c.before.before.before.before.before.before.requires.0, omega arith)))

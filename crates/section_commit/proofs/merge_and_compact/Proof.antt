@@ -5,10 +5,10 @@ use borrow.Author.Rules.{rules}
 use Rattle.section_commit.proofs.merge_and_compact.Statement.{statement}
 use Rattle.section_commit.proofs.merge_and_compact.Tie as tie
 
-abbrev start : tie.After-merge-delta → tie.Start
+abbrev start : tie.After-merge_delta-all → tie.Start
 start t = t.before.before.before.before
 
-abbrev main-size : tie.Else1 → tie.After-merge-delta
+abbrev main-size : tie.Else-all-eq0 → tie.After-merge_delta-all
 main-size e = e.before.before.before.before
 
 pub merge_and_compact_spec : {M : Type 1} → statement M
@@ -17,12 +17,11 @@ merge_and_compact_spec =
     (tie.spec
     (λ c κs. search rules)
     (λ c. search rules)
-    (λ c. let t = c.before.before.before.before in all_whole t.merge-delta.result t.merge-delta.ensures.1.0 t.merge-delta.ensures.0 (omega arith))
+    (λ c. all_whole c.before.before.before.before.merge_delta-all.result c.before.before.before.before.merge_delta-all.ensures.1.0 c.before.before.before.before.merge_delta-all.ensures.0 (omega arith))
     (λ c κs. let t = main-size c.before in
     let s = start t in
-    let π = t.merge-delta.ensures.0.held in
-    ((π.main.store, omega (arith, π.main.room)), (s.pre.1, omega (arith, π.main.room, s.pre.2, t.merge-delta.kept.1.0))))
+    let π = t.merge_delta-all.ensures.0.held in
+    ((π.main.store, omega (arith, π.main.room)), (s.requires.1, omega (arith, π.main.room, s.requires.2, t.merge_delta-all.auto.words))))
     (λ c. search rules)
-    (λ c. let f = c.before.before in
-    let t = main-size f.before.before in
-    all_compacted t.merge-delta.result t.merge-delta.ensures.1.0 t.merge-delta.ensures.0 f.compact.ensures.0 f.compact.ensures.1))
+    (λ c. let t = main-size c.before.before.before.before in
+    all_compacted t.merge_delta-all.result t.merge_delta-all.ensures.1.0 t.merge_delta-all.ensures.0 c.before.before.compact.ensures.0 c.before.before.compact.ensures.1))

@@ -8,11 +8,11 @@ use borrow.Author.Rules.{rules}
 use Rattle.section_commit.proofs.position_of.Statement.{statement}
 use Rattle.section_commit.proofs.position_of.Tie as tie
 
-abbrev start : tie.After-get → tie.Start
+abbrev start : tie.After-get-entry → tie.Start
 start g = g.before.before.before
 
-named : (g : tie.After-get) → NamesInBounds (start g).args.text.now g.get.result
-named g = let s = start g in named_as g.get.ensures (s.pre.0.0.delta.rows.whole s.args.j s.pre.0.1).named
+named : (g : tie.After-get-entry) → NamesInBounds (start g).args.text.now g.get-entry.result
+named g = let s = start g in named_as g.get-entry.ensures (s.requires.0.0.delta.rows.whole s.args.j s.requires.0.1).named
 
 pub position_of_spec : {M : Type 1} → statement M
 position_of_spec =
@@ -20,29 +20,23 @@ position_of_spec =
     (tie.spec
     (λ c. search rules)
     (λ c κs. search rules)
-    (λ c. let g = c.before.before in
-    let s = start g in
-    position_cached s.args.j s.pre.0.0 s.pre.0.1 g.get.ensures (omega arith))
+    (λ c. let s = start c.before.before in
+    position_cached s.args.j s.requires.0.0 s.requires.0.1 c.before.before.get-entry.ensures (omega arith))
     (λ c. search rules)
     (λ c. search rules)
     (λ c κs. search rules)
-    (λ c κs. let g = c.before.before.before.before in
-    let s = start g in
-    (named g, named_as c.get2.ensures (s.pre.0.0.delta.rows.whole (s.args.j - 1) (omega (arith, s.pre.0.1))).named))
+    (λ c κs. let s = start c.before.before.before.before in
+    (named c.before.before.before.before, named_as c.get-before.ensures (s.requires.0.0.delta.rows.whole (s.args.j - 1) (omega (arith, s.requires.0.1))).named))
     (λ c κs. search rules)
     (λ c. search rules)
     (λ c. search rules)
     (λ c. search rules)
     (λ c. search rules)
-    (λ c. let e = c.before.before in
-    let b = e.before.before in
-    let g = b.before.before.before.before in
-    let s = start g in
-    position_again s.args.text.now s.args.words.now s.args.index s.args.kept.main (s.args.j - 1) s.args.j g.get.ensures
-    b.get2.ensures (cc)
-    (s.pre.1 (omega arith)))
-    (λ c κs. let g = c.before.before.before in ((start g).requires.0.0.main, named g))
-    (λ c. let g = c.before.before.before.before in
-    let s = start g in
-    position_row s.args.text.now s.args.words.now s.args.index s.args.kept.main s.args.j g.get.ensures
-    c.equal-range.ensures.low))
+    (λ c. let s = start c.before.before.before.before.before.before.before.before in
+    position_again s.args.text.now s.args.words.now s.args.index s.args.kept.main (s.args.j - 1) s.args.j c.before.before.before.before.before.before.before.before.get-entry.ensures
+    c.before.before.before.before.get-before.ensures (cc)
+    (s.requires.1 (omega arith)))
+    (λ c κs. ((start c.before.before.before).requires.0.0.main, named c.before.before.before))
+    (λ c. let s = start c.before.before.before.before in
+    position_row s.args.text.now s.args.words.now s.args.index s.args.kept.main s.args.j c.before.before.before.before.get-entry.ensures
+    c.equal_range-range.ensures.low))

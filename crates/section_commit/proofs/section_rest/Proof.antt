@@ -11,7 +11,7 @@ use borrow.Author.Rules.{rules}
 use Rattle.section_commit.proofs.section_rest.Statement.{statement}
 use Rattle.section_commit.proofs.section_rest.Tie as tie
 
-abbrev start : tie.After-get → tie.Start
+abbrev start : tie.After-get-first → tie.Start
 start g = g.before.before.before.before
 
 -- the entry itself
@@ -29,14 +29,11 @@ section_rest_spec =
     (λ c. search rules)
     (λ c. none c.before.before.before.before.before.before.before.before)
     (λ c. omega arith)
-    (λ c. let s = c.before.before.before.before.before.before.before.before.before in omega (arith, s.requires.0.delta.room))
-    (λ c κs. let s = c.before.before.before.before.before.before.before.before.before in (s.requires.0.main.store, omega (arith, s.requires.0.delta.room)))
-    (λ c κs. let g = c.before.before.before.before.before.before in
-    let s = start g in
-    let rows = s.pre.0.delta.rows in
-    (named_as g.get.ensures (rows.whole s.args.j s.pre.1).named, named_as c.get2.ensures (rows.whole _ (omega arith)).named))
+    (λ c. omega (arith, c.before.before.before.before.before.before.before.before.before.requires.0.delta.room))
+    (λ c κs. (c.before.before.before.before.before.before.before.before.before.requires.0.main.store, omega (arith, c.before.before.before.before.before.before.before.before.before.requires.0.delta.room)))
+    (λ c κs. let s = start c.before.before.before.before.before.before in
+    let rows = s.requires.0.delta.rows in
+    (named_as c.before.before.before.before.before.before.get-first.ensures (rows.whole s.args.j s.requires.1).named, named_as c.get-last.ensures (rows.whole _ (omega arith)).named))
     (λ c κs. search rules)
-    (λ c. let h = c.before.before.before in
-    let g = h.before.before.before.before.before.before in
-    (omega arith, section_as (start g).args.text.now g.get.ensures h.get2.ensures (cc)))
+    (λ c. (omega arith, section_as (start c.before.before.before.before.before.before.before.before.before).args.text.now c.before.before.before.before.before.before.before.before.before.get-first.ensures c.before.before.before.get-last.ensures (cc)))
     (λ c. none c.before.before.before.before.before.before.before.before.before.before.before.before.before))

@@ -6,13 +6,13 @@ use Rattle.section_commit.proofs.DeltaLaws.{WritingPositions, writing_none, writ
 use Rattle.section_commit.proofs.write_positions.Statement.{statement}
 use Rattle.section_commit.proofs.write_positions.Tie as tie
 
-abbrev invariant-loop : tie.invariant-loop
+abbrev invariant-loop : tie.invariant-loop-j
 invariant-loop text words₀ index used spare parts j₀ words j = WritingPositions text words₀ words index spare parts.main parts.delta j
 
-abbrev decreases-loop : tie.decreases-loop
+abbrev decreases-loop : tie.decreases-loop-j
 decreases-loop text words₀ index used spare parts j₀ words j = parts.delta - j
 
-abbrev start : tie.At-loop invariant-loop decreases-loop → tie.Start invariant-loop decreases-loop
+abbrev start : tie.At-loop-j invariant-loop decreases-loop → tie.Start invariant-loop decreases-loop
 start l = l.before.before.before
 
 pub write_positions_spec : {M : Type 1} → statement M
@@ -22,25 +22,19 @@ write_positions_spec =
     invariant-loop
     decreases-loop
     (λ c. writing_none _ _ _ _ _ _)
-    (λ c κs. let l = c.before.before.before in
-    let s = start l in (
-      (writing_parts s.pre.0 s.pre.1 l.loop.invariant, omega arith, omega (arith, s.pre.2, l.loop.invariant.size)),
-      writing_last s.pre.0 s.pre.1 l.loop.invariant (omega arith),
+    (λ c κs. let s = start c.before.before in (
+      (writing_parts s.requires.0 s.requires.1 c.before.before.loop-j.invariant, omega arith, omega (arith, s.requires.2, c.before.before.loop-j.invariant.size)),
+      writing_last s.requires.0 s.requires.1 c.before.before.loop-j.invariant (omega arith),
     ))
-    (λ c κs. let l = c.before.before.before.before.before in
-    let s = start l in (writing_parts s.pre.0 s.pre.1 l.loop.invariant, omega arith))
-    (λ c. let l = c.before.before.before.before.before.before.before in omega (arith, (start l).requires.2))
-    (λ c. let l = c.before.before.before.before.before.before.before in omega (arith, c.before.section-rest.ensures.0, (start l).requires.2))
-    (λ c κs. let l = c.before.before.before.before.before.before.before in omega (arith, c.before.section-rest.ensures.0, (start l).requires.2, l.loop.invariant.size))
-    (λ c. let l = c.before.before.before.before.before.before.before.before.before.before in omega (arith, c.before.before.before.before.section-rest.ensures.0, (start l).requires.2))
-    (λ c. let l = c.before.before.before.before.before.before.before.before.before.before in omega (arith, c.before.before.before.before.section-rest.ensures.0, (start l).requires.2))
+    (λ c κs. let s = start c.before.before.before in (writing_parts s.requires.0 s.requires.1 c.before.before.before.loop-j.invariant, omega arith))
+    (λ c. omega (arith, (start c.before.before.before.before.before).requires.2))
+    (λ c. omega (arith, c.before.section_rest-rest.ensures.0, (start c.before.before.before.before.before).requires.2))
+    (λ c κs. omega (arith, c.before.section_rest-rest.ensures.0, (start c.before.before.before.before.before).requires.2, c.before.before.before.before.before.loop-j.invariant.size))
+    (λ c. omega (arith, c.before.before.before.before.section_rest-rest.ensures.0, (start c.before.before.before.before.before.before.before.before).requires.2))
+    (λ c. omega (arith, c.before.before.before.before.section_rest-rest.ensures.0, (start c.before.before.before.before.before.before.before.before).requires.2))
     (λ c. omega arith)
-    (λ c. let f = c.before.before in
-    let r = f.before.before in
-    let p = r.before.before in
-    let l = p.before.before.before.before in
-    let s = start l in
-    writing_run s.pre.0 s.pre.1 l.loop.invariant p.position-of.result r.section-rest.result p.position-of.ensures r.section-rest.ensures.0
-    r.section-rest.ensures.1 f.fill.ensures f.fill.auto.0)
-    (λ c. c.before.before.loop.invariant.size)
-    (λ c. writing_done c.before.before.loop.invariant c.if1.false))
+    (λ c. let s = start c.before.before.before.before.before.before.before.before in
+    writing_run s.requires.0 s.requires.1 c.before.before.before.before.before.before.before.before.loop-j.invariant c.before.before.before.before.before.position_of-place.result c.before.before.before.before.section_rest-rest.result c.before.before.before.before.before.position_of-place.ensures c.before.before.before.before.section_rest-rest.ensures.0
+    c.before.before.before.before.section_rest-rest.ensures.1 c.before.before.fill.ensures c.before.before.fill.auto.words)
+    (λ c. c.before.before.loop-j.invariant.size)
+    (λ c. writing_done c.before.before.loop-j.invariant c.loop-j-test.false))

@@ -12,8 +12,7 @@ add_row_spec =
     (λ c. search rules)
     (λ c. search rules)
     (λ c. search rules)
-    (λ c κs. let s = c.before.before.before.before.before.before.before.before.before.before.before in
-    ((s.requires.0.0, omega arith, s.requires.0.1, s.requires.0.2), ((omega arith, omega arith, omega arith), (s.requires.1.0, s.requires.1.1))))
+    (λ c κs. ((c.before.before.before.before.before.before.before.before.before.before.before.requires.0.0, omega arith, c.before.before.before.before.before.before.before.before.before.before.before.requires.0.1, c.before.before.before.before.before.before.before.before.before.before.before.requires.0.2), ((omega arith, omega arith, omega arith), (c.before.before.before.before.before.before.before.before.before.before.before.requires.1.0, c.before.before.before.before.before.before.before.before.before.before.before.requires.1.1))))
     (λ c. search rules)
     (λ c. search rules)
     (λ c κs. search rules)

@@ -18,42 +18,30 @@ append_or_flush_spec =
     (λ c. search rules)
     (λ c. search rules)
     (λ c κs. search rules)
-    (λ c. let s = c.before.before.before.before.before.before.before.before.before in omega (arith, s.requires.0.1))
-    (λ c κs. let s = c.before.before.before.before.before.before.before.before.before in (s.requires.0.0.parts.main.store, omega (arith, s.requires.0.0.room, s.requires.0.1)))
-    (λ c κs. let s = c.before.before.before.before.before.before.before.before.before.before in
-    (inner_as c.get.ensures (last_inner _ s.requires.0.0 s.requires.0.1 (omega (arith, s.requires.0.1))), s.requires.0.2))
-    (λ c κs. let s = c.before.before.before.before.before.before.before.before.before.before.before.before in adds-calls _ _ (λ text. sym (s.requires.0.3.adding text)))
+    (λ c. omega (arith, c.before.before.before.before.before.before.before.before.requires.0.1))
+    (λ c κs. (c.before.before.before.before.before.before.before.before.requires.0.0.parts.main.store, omega (arith, c.before.before.before.before.before.before.before.before.requires.0.0.room, c.before.before.before.before.before.before.before.before.requires.0.1)))
+    (λ c κs. (inner_as c.get-last.ensures (last_inner _ c.before.before.before.before.before.before.before.before.before.requires.0.0 c.before.before.before.before.before.before.before.before.before.requires.0.1 (omega (arith, c.before.before.before.before.before.before.before.before.before.requires.0.1))), c.before.before.before.before.before.before.before.before.before.requires.0.2))
+    (λ c κs. adds-calls _ _ (λ text. sym (c.before.before.before.before.before.before.before.before.before.before.before.requires.0.3.adding text)))
     (λ c. search rules)
-    (λ c. let s = c.before.before.before.before.before.before.before.before.before.before.before.before.before.before.before.before.before in omega (arith, s.requires.0.1))
-    (λ c κs. let s = c.before.before.before.before.before.before.before.before.before.before.before.before.before.before.before.before.before in (s.requires.0.0.parts.main.store, omega (arith, s.requires.0.0.room, s.requires.0.1)))
-    (λ c κs. let s = c.before.before.before.before.before.before.before.before.before.before.before.before.before.before.before.before.before.before.before.before in omega (arith, s.requires.0.0.room))
+    (λ c. omega (arith, c.before.before.before.before.before.before.before.before.before.before.before.before.before.before.requires.0.1))
+    (λ c κs. (c.before.before.before.before.before.before.before.before.before.before.before.before.before.before.requires.0.0.parts.main.store, omega (arith, c.before.before.before.before.before.before.before.before.before.before.before.before.before.before.requires.0.0.room, c.before.before.before.before.before.before.before.before.before.before.before.before.before.before.requires.0.1)))
+    (λ c κs. omega (arith, c.before.before.before.before.before.before.before.before.before.before.before.before.before.before.before.before.before.requires.0.0.room))
     (λ c. search rules)
-    (λ c. let q = c.before.before.before in
-    let m = c.before.before.before.before.before.before.before.before in
-    let t = m.before in
-    let g = c.before.before.before.before.before.before.before.before.before.before.before in
-    let f = g.before.before.before in
-    let s = c.before.before.before.before.before.before.before.before.before.before.before.before.before.before.before.before.before.before.before.before.before in
-    let j = t.before.joins.ensures t.if3.true in
+    (λ c. let j = c.before.before.before.before.before.before.before.before.joins.ensures c.before.before.before.before.before.before.before.if-joins.true in
     sizes_as c.with_tail.ensures
-    (included_last-row s.args.row s.args.accumulate s.requires.0.0 s.requires.0.3 (f.before.calls-fit.ensures f.if1.true) s.requires.1.0 s.requires.0.2 q.put.ensures.0
-    q.put.ensures.1.1 (omega (arith, s.requires.0.1)) s.requires.0.1 g.get.ensures j.0 j.1
-    (ap (seen_one _) (sym c.before.before.before.before.before.before.both.given.1) ∙ m.combine.ensures.0 _) (inner_made c.before.before.before.before.before.before.both.given.1 (m.combine.ensures.1 _)) q.put.ensures.1.0))
+    (included_last-row c.before.before.before.before.before.before.before.before.before.before.before.before.before.before.before.before.before.before.args.row c.before.before.before.before.before.before.before.before.before.before.before.before.before.before.before.before.before.before.args.accumulate c.before.before.before.before.before.before.before.before.before.before.before.before.before.before.before.before.before.before.requires.0.0 c.before.before.before.before.before.before.before.before.before.before.before.before.before.before.before.before.before.before.requires.0.3 (c.before.before.before.before.before.before.before.before.before.before.before.before.calls_fit.ensures c.before.before.before.before.before.before.before.before.before.before.before.if-calls_fit.true) c.before.before.before.before.before.before.before.before.before.before.before.before.before.before.before.before.before.before.requires.1.0 c.before.before.before.before.before.before.before.before.before.before.before.before.before.before.before.before.before.before.requires.0.2 c.before.before.before.put.ensures.0
+    c.before.before.before.put.ensures.1.1 (omega (arith, c.before.before.before.before.before.before.before.before.before.before.before.before.before.before.before.before.before.before.requires.0.1)) c.before.before.before.before.before.before.before.before.before.before.before.before.before.before.before.before.before.before.requires.0.1 c.before.before.before.before.before.before.before.before.before.get-last.ensures j.0 j.1
+    (ap (seen_one _) (sym c.before.before.before.before.before.in-One.is) ∙ c.before.before.before.before.before.before.combine.ensures.0 _) (inner_made c.before.before.before.before.before.in-One.is (c.before.before.before.before.before.before.combine.ensures.1 _)) c.before.before.before.put.ensures.1.0))
     (λ c. search rules)
-    (λ c κs. let s = c.before.before.before.before.before.before.before.before.before.before in (s.requires.0.0.parts.main.store, omega (arith, s.requires.0.1), omega arith))
-    (λ c κs. let s = c.before.before.before.before.before.before.before.before.before.before.before.before.before in (s.requires.0.0.parts.main.store, omega arith))
-    (λ c κs. let s = c.before.before.before.before.before.before.before.before.before.before.before.before.before.before.before.before in omega (arith, s.requires.0.0.room))
+    (λ c κs. (c.before.before.before.before.before.before.before.before.before.requires.0.0.parts.main.store, omega (arith, c.before.before.before.before.before.before.before.before.before.requires.0.1), omega arith))
+    (λ c κs. (c.before.before.before.before.before.before.before.before.before.before.before.before.requires.0.0.parts.main.store, omega arith))
+    (λ c κs. omega (arith, c.before.before.before.before.before.before.before.before.before.before.before.before.before.before.before.requires.0.0.room))
     (λ c. search rules)
-    (λ c. let q = c.before.before.before in
-    let f = c.before.before.before.before.before.before.before.before.before.before in
-    let s = c.before.before.before.before.before.before.before.before.before.before.before.before.before.before.before.before.before in
-    sizes_as c.with-tail2.ensures
-    (included_next s.args.row s.args.accumulate s.requires.0.0 s.requires.0.3 (f.before.calls-fit.ensures f.if1.true) s.requires.1.0 s.requires.0.2 q.put2.ensures.0
-    q.put2.ensures.1.1 (omega arith) (s.requires.0.0.alone s.requires.0.1) (omega (arith, c.before.before.before.before.before.before.before.before.if4.true)) q.put2.ensures.1.0))
-    (λ c κs. let s = c.before.before.before.before.before.before.before.before in (s.requires.0.0, s.requires.1.0, s.requires.1.1))
-    (λ c κs. let y = c.before.before.before in
-    let s = c.before.before.before.before.before.before.before.before.before.before.before.before in
-    let η = y.flush-midway.ensures in
-    ((η.still, η.none, s.requires.0.2, s.requires.0.3), (s.requires.1.0, omega (arith, s.requires.1.1, y.flush-midway.auto.1.0))))
+    (λ c. sizes_as c.with_tail-then-not-flushes_first.ensures
+    (included_next c.before.before.before.before.before.before.before.before.before.before.before.before.before.before.before.before.args.row c.before.before.before.before.before.before.before.before.before.before.before.before.before.before.before.before.args.accumulate c.before.before.before.before.before.before.before.before.before.before.before.before.before.before.before.before.requires.0.0 c.before.before.before.before.before.before.before.before.before.before.before.before.before.before.before.before.requires.0.3 (c.before.before.before.before.before.before.before.before.before.before.calls_fit.ensures c.before.before.before.before.before.before.before.before.before.if-calls_fit.true) c.before.before.before.before.before.before.before.before.before.before.before.before.before.before.before.before.requires.1.0 c.before.before.before.before.before.before.before.before.before.before.before.before.before.before.before.before.requires.0.2 c.before.before.before.put-then-not-flushes_first.ensures.0
+    c.before.before.before.put-then-not-flushes_first.ensures.1.1 (omega arith) (c.before.before.before.before.before.before.before.before.before.before.before.before.before.before.before.before.requires.0.0.alone c.before.before.before.before.before.before.before.before.before.before.before.before.before.before.before.before.requires.0.1) (omega (arith, c.before.before.before.before.before.before.before.if-end-used.true)) c.before.before.before.put-then-not-flushes_first.ensures.1.0))
+    (λ c κs. (c.before.before.before.before.before.before.before.before.requires.0.0, c.before.before.before.before.before.before.before.before.requires.1.0, c.before.before.before.before.before.before.before.before.requires.1.1))
+    (λ c κs. let η = c.before.before.before.flush_midway-all.ensures in
+    ((η.still, η.none, c.before.before.before.before.before.before.before.before.before.before.before.before.requires.0.2, c.before.before.before.before.before.before.before.before.before.before.before.before.requires.0.3), (c.before.before.before.before.before.before.before.before.before.before.before.before.requires.1.0, omega (arith, c.before.before.before.before.before.before.before.before.before.before.before.before.requires.1.1, c.before.before.before.flush_midway-all.auto.words))))
     (λ c. search rules)
-    (λ c. let n = c.before.before in after_emptied n.before.before.before.before.flush-midway.ensures n.upsert-row.ensures))
+    (λ c. after_emptied c.before.before.before.before.before.before.flush_midway-all.ensures c.before.before.upsert_row.ensures))

@@ -7,8 +7,8 @@ use borrow.Author.Rules.{rules}
 use Rattle.section_tail.proofs.append_sorted.Statement.{statement}
 use Rattle.section_tail.proofs.append_sorted.Tie as tie
 
-abbrev start : tie.After-get → tie.Start
-start g = g.before.before.before.before
+abbrev start : tie.After-get-last → tie.Start
+start g = g.before.before.before
 
 pub append_sorted_spec : {M : Type 1} → statement M
 append_sorted_spec =
@@ -17,34 +17,30 @@ append_sorted_spec =
     (λ c. search rules)
     (λ c. search rules)
     (λ c κs. search rules)
-    (λ c κs. let s = start c in ((inner_as c.get.ensures (s.pre.0.0.parts.main.inner (s.args.sizes.main - 1) (omega (arith, s.pre.1.0.1)))).good, s.pre.0.2.good))
+    (λ c κs. let s = start c in ((inner_as c.get-last.ensures (s.requires.0.0.parts.main.inner (s.args.sizes.main - 1) (omega (arith, s.requires.1.0.1)))).good, s.requires.0.2.good))
     (λ c. search rules)
     (λ c κs. search rules)
     (λ c. search rules)
     (λ c κs. search rules)
     (λ c. search rules)
-    (λ c. let q = c.before.before.before in
-    let g = c.before.before.before.before.before.before.before in
-    let s = start g in
-    calls_as c.more-calls.ensures
-    (after_last s.args.row s.args.accumulate s.pre.0.0 s.pre.0.3 s.pre.0.1 s.pre.1.0.0 s.pre.1.0.1 s.pre.1.0.2 s.pre.0.2 g.get.ensures (cc)
-    q.put.ensures.0 q.put.ensures.1.0))
-    (λ c κs. let g = c.before.before in
-    let s = start g in (inner_as g.get.ensures (s.pre.0.0.parts.main.inner (s.args.sizes.main - 1) (omega (arith, s.pre.1.0.1))), s.pre.0.2))
-    (λ c κs. let s = start c.before.before.before.before in (s.pre.0.2, omega (arith, s.pre.1.0.2), s.pre.1.1.1))
+    (λ c. let s = start c.before.before.before.before.before.before.before in
+    calls_as c.more_calls.ensures
+    (after_last s.args.row s.args.accumulate s.requires.0.0 s.requires.0.3 s.requires.0.1 s.requires.1.0.0 s.requires.1.0.1 s.requires.1.0.2 s.requires.0.2 c.before.before.before.before.before.before.before.get-last.ensures (cc)
+    c.before.before.before.put.ensures.0 c.before.before.before.put.ensures.1.0))
+    (λ c κs. let s = start c.before.before in (inner_as c.before.before.get-last.ensures (s.requires.0.0.parts.main.inner (s.args.sizes.main - 1) (omega (arith, s.requires.1.0.1))), s.requires.0.2))
+    (λ c κs. let s = start c.before.before.before in (s.requires.0.2, omega (arith, s.requires.1.0.2), s.requires.1.1.1))
     (λ c κs. search rules)
     (λ c κs. search rules)
     (λ c. search rules)
-    (λ c κs. let s = start c.before.before.before.before.before.before.before.before.before.before in (s.pre.0.0.parts.main.store, s.pre.1.0.2))
-    (λ c. let s = start c.before.before.before.before.before.before.before.before.before.before.before.before.before.before in omega (arith, s.pre.0.1))
-    (λ c. let t = c.before.before.before.before.before.before.before.before.before.starts-tail.ensures c.before.before.before.before.before.before.before.before.if2.true in omega (arith, t))
+    (λ c κs. let s = start c.before.before.before.before.before.before.before.before.before in (s.requires.0.0.parts.main.store, s.requires.1.0.2))
+    (λ c. let s = start c.before.before.before.before.before.before.before.before.before.before.before.before.before in omega (arith, s.requires.0.1))
+    (λ c. let t = c.before.before.before.before.before.before.before.before.before.starts_tail.ensures c.before.before.before.before.before.before.before.before.if-starts_tail.true in omega (arith, t))
     (λ c κs. search rules)
     (λ c. search rules)
-    (λ c. let q = c.before.before.before.before.before in
-    let s = start c.before.before.before.before.before.before.before.before.before.before.before.before.before.before.before.before in
-    calls_as c.more-calls2.ensures
-    (included_next s.args.row s.args.accumulate s.pre.0.0 s.pre.0.3 (c.before.before.before.before.before.before.before.before.calls-fit.ensures c.before.before.before.before.before.before.before.if3.true) s.pre.1.1.0 s.pre.0.2 q.put2.ensures.0
-    q.put2.ensures.1.1 (omega (arith, s.pre.0.1, s.pre.1.0.0)) s.pre.1.0.0 s.pre.1.0.2 q.put2.ensures.1.0))
-    (λ c κs. let s = start c.before.before.before.before.before.before.before.before in ((s.pre.0.0, s.pre.0.1, s.pre.0.2, s.pre.0.3), s.pre.1.1))
+    (λ c. let s = start c.before.before.before.before.before.before.before.before.before.before.before.before.before.before.before in
+    calls_as c.more_calls-then-calls_fit.ensures
+    (included_next s.args.row s.args.accumulate s.requires.0.0 s.requires.0.3 (c.before.before.before.before.before.before.before.before.calls_fit.ensures c.before.before.before.before.before.before.before.if-calls_fit.true) s.requires.1.1.0 s.requires.0.2 c.before.before.before.before.before.put-then-calls_fit.ensures.0
+    c.before.before.before.before.before.put-then-calls_fit.ensures.1.1 (omega (arith, s.requires.0.1, s.requires.1.0.0)) s.requires.1.0.0 s.requires.1.0.2 c.before.before.before.before.before.put-then-calls_fit.ensures.1.0))
+    (λ c κs. let s = start c.before.before.before.before.before.before.before in ((s.requires.0.0, s.requires.0.1, s.requires.0.2, s.requires.0.3), s.requires.1.1))
     (λ c. search rules)
-    (λ c. c.before.before.upsert-row.ensures))
+    (λ c. c.before.before.upsert_row.ensures))

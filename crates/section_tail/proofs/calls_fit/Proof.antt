@@ -9,5 +9,5 @@ calls_fit_spec =
     tie.close
     (tie.spec
     (λ c. search rules)
-    (λ c. fits_with c.before.before.args.calls c.before.before.args.row.count c.before.before.args.accumulate c.before.if1.true (search rules))
-    (λ c. fits_without c.before.args.calls c.before.args.row.count c.before.args.accumulate c.if1.false))
+    (λ c. fits_with c.before.before.args.calls c.before.before.args.row.count c.before.before.args.accumulate c.before.if-accumulate.true (search rules))
+    (λ c. fits_without c.before.args.calls c.before.args.row.count c.before.args.accumulate c.if-accumulate.false))

@@ -6,10 +6,10 @@ use borrow.Author.Rules.{rules}
 use Rattle.section_tail.proofs.flush_all.Statement.{statement}
 use Rattle.section_tail.proofs.flush_all.Tie as tie
 
-abbrev emptied : tie.After-interleave-arg → tie.After-flush-tail
+abbrev emptied : tie.After-interleave-arg-1 → tie.After-flush_tail-all
 emptied a = a.before.before.before
 
-abbrev start : tie.After-flush-tail → tie.Start
+abbrev start : tie.After-flush_tail-all → tie.Start
 start y = y.before.before.before.before
 
 pub flush_all_spec : {M : Type 1} → statement M
@@ -19,12 +19,11 @@ flush_all_spec =
     (λ c κs. search rules)
     (λ c κs. let y = emptied c in
     let s = start y in
-    let π = y.flush-tail.ensures.still.parts in (
+    let π = y.flush_tail-all.ensures.still.parts in (
       (π.main.store, π.delta.room),
-      (s.pre.1, omega (arith, π.delta.room, s.pre.2, y.flush-tail.kept.1.0), parts-rising π _ (omega arith)),
+      (s.requires.1, omega (arith, π.delta.room, s.requires.2, y.flush_tail-all.auto.words), parts-rising π _ (omega arith)),
     ))
-    (λ c. let y = emptied c.before.before.before in omega (arith, y.flush-tail.ensures.still.parts.delta.room))
+    (λ c. let y = emptied c.before.before.before in omega (arith, y.flush_tail-all.ensures.still.parts.delta.room))
     (λ c. search rules)
-    (λ c. let w = c.before.before in
-    let y = emptied w.before in
-    in_order y.flush-tail.ensures (main_now y.flush-tail.ensures.still.parts w.interleave.ensures.0 w.interleave.ensures.1)))
+    (λ c. let y = emptied c.before.before.before in
+    in_order y.flush_tail-all.ensures (main_now y.flush_tail-all.ensures.still.parts c.before.before.interleave.ensures.0 c.before.before.interleave.ensures.1)))

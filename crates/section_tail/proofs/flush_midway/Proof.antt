@@ -11,18 +11,14 @@ flush_midway_spec =
     (tie.spec
     (λ c κs. search rules)
     (λ c. search rules)
-    (λ c. c.before.before.before.flush-tail.ensures)
+    (λ c. c.before.before.before.flush_tail-all.ensures)
     (λ c. search rules)
-    (λ c. c.before.before.before.before.before.flush-tail.ensures)
-    (λ c. search rules)
-    (λ c. search rules)
-    (λ c. search rules)
-    (λ c κs. let y = c.before.before.before.before.before.before in
-    let s = y.before.before.before.before in
-    let η = y.flush-tail.ensures in
-    (η.still.parts.main, (omega (arith, s.requires.1), omega (arith, s.requires.2, y.flush-tail.auto.1.0), omega (arith, η.still.parts.main.room))))
+    (λ c. c.before.before.before.before.before.flush_tail-all.ensures)
     (λ c. search rules)
     (λ c. search rules)
-    (λ c. let f = c.before.before.before in
-    let y = c.before.before.before.before.before.before.before.before.before.before in
-    flushes_as (hinted y.before.before.before.before.requires.1 (omega arith) f.fill.ensures f.fill.auto.1.0 y.flush-tail.ensures)))
+    (λ c. search rules)
+    (λ c κs. let η = c.before.before.before.before.before.before.flush_tail-all.ensures in
+    (η.still.parts.main, (omega (arith, c.before.before.before.before.before.before.before.before.before.before.requires.1), omega (arith, c.before.before.before.before.before.before.before.before.before.before.requires.2, c.before.before.before.before.before.before.flush_tail-all.auto.words), omega (arith, η.still.parts.main.room))))
+    (λ c. search rules)
+    (λ c. search rules)
+    (λ c. flushes_as (hinted c.before.before.before.before.before.before.before.before.before.before.before.before.before.before.requires.1 (omega arith) c.before.before.before.fill.ensures c.before.before.before.fill.auto.words c.before.before.before.before.before.before.before.before.before.before.flush_tail-all.ensures)))

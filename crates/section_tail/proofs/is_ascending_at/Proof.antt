@@ -16,7 +16,5 @@ is_ascending_at_spec =
     (λ c κs. search rules)
     (λ c. search rules)
     (λ c κs. search rules)
-    (λ c κs. let s = c.before.before.before.before.before in
-    ((inner_as c.before.get.ensures (s.requires.2 _ (omega arith))).good, (inner_as c.get2.ensures (s.requires.2 _ (omega arith))).good))
-    (λ c. λ t z. let s = c.before.before.before.before.before.before in
-    rises_as s.args.text.now s.args.words.now s.args.index s.args.at s.args.k c.before.before.get.ensures c.before.get2.ensures c.comes-before.ensures t))
+    (λ c κs. ((inner_as c.before.get-before.ensures (c.before.before.before.before.before.requires.2 _ (omega arith))).good, (inner_as c.get-here.ensures (c.before.before.before.before.before.requires.2 _ (omega arith))).good))
+    (λ c. λ t z. rises_as c.before.before.before.before.before.before.args.text.now c.before.before.before.before.before.before.args.words.now c.before.before.before.before.before.before.args.index c.before.before.before.before.before.before.args.at c.before.before.before.before.before.before.args.k c.before.before.get-before.ensures c.before.get-here.ensures c.comes_before.ensures t))

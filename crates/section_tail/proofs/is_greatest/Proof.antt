@@ -5,7 +5,7 @@ use Rattle.table_item.proofs.CompareLaws.{inner_as}
 use Rattle.section_tail.proofs.is_greatest.Statement.{statement}
 use Rattle.section_tail.proofs.is_greatest.Tie as tie
 
-abbrev start : tie.After-get → tie.Start
+abbrev start : tie.After-get-last → tie.Start
 start g = g.before.before.before.before.before.before.before.before
 
 pub is_greatest_spec : {M : Type 1} → statement M
@@ -17,5 +17,5 @@ is_greatest_spec =
     (λ c. omega arith)
     (λ c. omega arith)
     (λ c κs. let ο = c.before.before.before.before.before.before.before.requires.0 in (ο.store, omega (arith, ο.room)))
-    (λ c κs. let s = start c in ((inner_as c.get.ensures (s.pre.0.inner _ (omega arith))).good, s.pre.1.good))
+    (λ c κs. let s = start c in ((inner_as c.get-last.ensures (s.requires.0.inner _ (omega arith))).good, s.requires.1.good))
     (λ c. λ e. (omega arith, omega arith, cc)))

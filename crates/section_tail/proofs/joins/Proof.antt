@@ -1,5 +1,4 @@
 use borrow.Author.Rules.{rules}
-use Rattle.section_tail.proofs.CallLaws.{not_false}
 use Rattle.ordmap.proofs.Results.{impossible}
 use Rattle.section_tail.proofs.joins.Statement.{statement}
 use Rattle.section_tail.proofs.joins.Tie as tie
@@ -10,6 +9,6 @@ joins_spec =
     (tie.spec
     (λ c. λ q. impossible cc)
     (λ c. λ q. impossible cc)
-    (λ c κs. let s = c.before.before.before.before.before in (s.requires.1.good, s.requires.0.good))
+    (λ c κs. (c.before.before.before.before.before.requires.1.good, c.before.before.before.before.before.requires.0.good))
     (λ c κs. search rules)
-    (λ c. λ q. (not_false _ c.before.before.before.before.before.if1.false, cc)))
+    (λ c. λ q. (c.before.before.before.before.before.if-not-accumulate.false, cc)))

@@ -7,10 +7,10 @@ use borrow.Author.Rules.{rules}
 use Rattle.section_tail.proofs.sorted_prefix_len.Statement.{statement}
 use Rattle.section_tail.proofs.sorted_prefix_len.Tie as tie
 
-abbrev invariant-loop : tie.invariant-loop
+abbrev invariant-loop : tie.invariant-loop-k
 invariant-loop text words index used at m k₀ k = SortedItems text words index used at k × (k ≤ m)
 
-abbrev decreases-loop : tie.decreases-loop
+abbrev decreases-loop : tie.decreases-loop-k
 decreases-loop text words index used at m k₀ k = m - k
 
 pub sorted_prefix_len_spec : {M : Type 1} → statement M
@@ -19,12 +19,10 @@ sorted_prefix_len_spec =
     (tie.spec
     invariant-loop
     decreases-loop
-    (λ c. let s = c.before.before in (none_open s.requires.0 (omega (arith, s.requires.1)), omega arith))
-    (λ c κs. let s = c.before.before.before.before in (s.requires.0, omega (arith, s.requires.1), λ i h. s.requires.2 i (omega arith)))
+    (λ c. (none_open c.before.before.requires.0 (omega (arith, c.before.before.requires.1)), omega arith))
+    (λ c κs. (c.before.before.before.before.requires.0, omega (arith, c.before.before.before.before.requires.1), λ i h. c.before.before.before.before.requires.2 i (omega arith)))
     (λ c. omega arith)
     (λ c. omega arith)
-    (λ c. let l = c.before.before.before in
-    let s = l.before.before.before in
-    (open_next l.loop.k l.loop.invariant.0 (omega (arith, s.requires.1)) (s.requires.2 _ (omega arith)) (c.before.is-ascending-at.ensures c.if1.true), omega arith))
-    (λ c. c.before.before.before.loop.invariant)
-    (λ c. c.before.loop.invariant))
+    (λ c. (open_next c.before.before.before.loop-k.k c.before.before.before.loop-k.invariant.0 (omega (arith, c.before.before.before.before.before.before.requires.1)) (c.before.before.before.before.before.before.requires.2 _ (omega arith)) (c.before.is_ascending_at.ensures c.if-is_ascending_at.true), omega arith))
+    (λ c. c.before.before.before.loop-k.invariant)
+    (λ c. c.before.loop-k.invariant))

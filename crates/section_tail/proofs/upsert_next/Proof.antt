@@ -9,13 +9,13 @@ use borrow.Author.Rules.{rules}
 use Rattle.section_tail.proofs.upsert_next.Statement.{statement}
 use Rattle.section_tail.proofs.upsert_next.Tie as tie
 
-abbrev start : tie.After-get → tie.Start
-start g = g.before.before.before.before
+abbrev start : tie.After-get-row → tie.Start
+start g = g.before.before.before
 
-abbrev asked : tie.After-is-greatest → tie.After-get
-asked b = b.before.before
+abbrev asked : tie.After-is_greatest → tie.After-get-row
+asked b = b.before
 
-abbrev got : tie.After-is-calls → tie.After-get
+abbrev got : tie.After-is_calls → tie.After-get-row
 got n = asked n.before.before.before
 
 pub upsert_next_spec : {M : Type 1} → statement M
@@ -24,9 +24,8 @@ upsert_next_spec =
     (tie.spec
     (λ c. search rules)
     (λ c κs. search rules)
-    (λ c κs. let g = c.before in
-    let s = start g in
-    (s.pre.0.0.main, inner_as g.get.ensures s.pre.1.0.1))
+    (λ c κs. let s = start c in
+    (s.requires.0.0.main, inner_as c.get-row.ensures s.requires.1.0.1))
     (λ c. omega arith)
     (λ c. omega arith)
     (λ c. omega arith)
@@ -34,41 +33,32 @@ upsert_next_spec =
     (λ c. omega arith)
     (λ c. omega arith)
     (λ c κs. let s = start (asked c.before.before.before) in
-    ((s.pre.0.0.main.store, omega arith, omega arith, omega arith, omega arith), (s.pre.1.0.2, omega arith)))
+    ((s.requires.0.0.main.store, omega arith, omega arith, omega arith, omega arith), (s.requires.1.0.2, omega arith)))
     (λ c κs. omega arith)
     (λ c. search rules)
-    (λ c. let w = c.before.before.before in
-    let t = w.before.before.before in
-    let b = t.before in
-    let g = asked b in
+    (λ c. let g = asked c.before.before.before.before.before.before.before in
     let s = start g in
-    let ρ = w.swap-blocks.ensures in
-    rw c.with-one-more.ensures
-    (one-greater s.args.sizes s.pre.0.0 s.pre.0.1 s.pre.1.0.0 s.pre.1.0.1 g.get.ensures (b.is-greatest.ensures t.if1.true)
+    let ρ = c.before.before.before.swap_blocks.ensures in
+    rw c.with_one_more.ensures
+    (one-greater s.args.sizes s.requires.0.0 s.requires.0.1 s.requires.1.0.0 s.requires.1.0.1 g.get-row.ensures (c.before.before.before.before.before.before.before.is_greatest.ensures c.before.before.before.before.before.before.if-is_greatest.true)
     ρ.0 ρ.1.below (ρ.1.third _ _ (omega arith) (omega arith) (omega arith)) ρ.1.above))
     (λ c κs. omega arith)
     (λ c. search rules)
-    (λ c. let t = c.before.before in
-    let b = t.before in
-    let g = asked b in
+    (λ c. let g = asked c.before.before.before in
     let s = start g in
     let e : s.args.sizes.main ≡ s.args.i = omega arith in
-    rw c.with-one-more2.ensures
-    (one-greater s.args.sizes s.pre.0.0 s.pre.0.1 s.pre.1.0.0 s.pre.1.0.1 g.get.ensures (b.is-greatest.ensures t.if1.true)
-    s.pre.0.0.main.store (λ k x y. refl) (ap (λ (k : ℕ). row s.args.words.now s.args.index (s.args.at + k)) e) (λ k x y. refl)))
+    rw c.with_one_more-then-is_greatest.ensures
+    (one-greater s.args.sizes s.requires.0.0 s.requires.0.1 s.requires.1.0.0 s.requires.1.0.1 g.get-row.ensures (c.before.before.before.is_greatest.ensures c.before.before.if-is_greatest.true)
+    s.requires.0.0.main.store (λ k x y. refl) (ap (λ (k : ℕ). row s.args.words.now s.args.index (s.args.at + k)) e) (λ k x y. refl)))
     (λ c κs. search rules)
     (λ c κs. let g = got c in
     let s = start g in
-    ((s.pre.0.0, inner_as g.get.ensures s.pre.1.0.1, adds-calls _ _ c.is-calls.ensures), (s.pre.1.0.2, s.pre.1.0.3)))
+    ((s.requires.0.0, inner_as g.get-row.ensures s.requires.1.0.1, adds-calls _ _ c.is_calls.ensures), (s.requires.1.0.2, s.requires.1.0.3)))
     (λ c. search rules)
     (λ c. search rules)
     (λ c. search rules)
-    (λ c. let n = c.before.before.before.before in
-    let i = n.before in
-    let s = start (got i) in
-    never_refused s.args.sizes s.pre.0.0 s.pre.0.1 s.pre.1.0.0 (got i).get.ensures s.pre.1.1 i.is-calls.ensures n.upsert.ensures c.enum_told.given.1)
+    (λ c. let s = start (got c.before.before.before.before) in
+    never_refused s.args.sizes s.requires.0.0 s.requires.0.1 s.requires.1.0.0 (got c.before.before.before.before).get-row.ensures s.requires.1.1 c.before.before.before.before.is_calls.ensures c.before.before.before.upsert-got.ensures c.in_default.is)
     (λ c. search rules)
-    (λ c. let n = c.before.before.before.before.before in
-    let i = n.before in
-    let s = start (got i) in
-    one_more s.args.sizes s.pre.0.0 s.pre.0.1 s.pre.1.0.0 (got i).get.ensures s.pre.1.1 i.is-calls.ensures n.upsert.ensures c.before.got.given.1))
+    (λ c. let s = start (got c.before.before.before.before) in
+    one_more s.args.sizes s.requires.0.0 s.requires.0.1 s.requires.1.0.0 (got c.before.before.before.before).get-row.ensures s.requires.1.1 c.before.before.before.before.is_calls.ensures c.before.before.before.upsert-got.ensures c.in-Items.is))

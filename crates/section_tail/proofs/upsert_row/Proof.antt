@@ -13,15 +13,13 @@ pub upsert_row_spec : {M : Type 1} → statement M
 upsert_row_spec =
     tie.close
     (tie.spec
-    (λ c κs. let s = c.before.before.before in ((s.requires.0.0.parts, s.requires.0.2, adds-calls _ _ (λ text. sym (s.requires.0.3.adding text))), s.requires.1))
+    (λ c κs. ((c.before.before.before.requires.0.0.parts, c.before.before.before.requires.0.2, adds-calls _ _ (λ text. sym (c.before.before.before.requires.0.3.adding text))), c.before.before.before.requires.1))
     (λ c. search rules)
     (λ c. search rules)
     (λ c. search rules)
-    (λ c. let n = c.before.before.before.before.before.before in
-    let s = start n in
-    calls_as c.more-calls.ensures (exact_items s.args.row s.args.accumulate s.pre.0.0 s.pre.0.3 s.pre.0.1 (exact_as c.before.before.main.given.1 n.upsert.ensures)))
+    (λ c. let s = start c.before.before.before.before in
+    calls_as c.more_calls.ensures (exact_items s.args.row s.args.accumulate s.requires.0.0 s.requires.0.3 s.requires.0.1 (exact_as c.before.in-Items.is c.before.before.before.before.upsert.ensures)))
     (λ c. search rules)
     (λ c. search rules)
-    (λ c. let n = c.before.before.before.before.before in
-    let s = start n in
-    exact_refused s.args.row s.args.accumulate s.pre.0.0 s.pre.0.3 s.pre.0.1 (exact_as c.before.fault.given.1 n.upsert.ensures)))
+    (λ c. let s = start c.before.before.before in
+    exact_refused s.args.row s.args.accumulate s.requires.0.0 s.requires.0.3 s.requires.0.1 (exact_as c.in-Refused.is c.before.before.before.upsert.ensures)))

@@ -10,4 +10,4 @@ with_tail_spec =
     (tie.spec
     (λ c. search rules)
     (λ c κs. search rules)
-    (λ c. ap (with_tail c.before.before.args.sizes c.before.before.args.more) c.more-calls.ensures))
+    (λ c. ap (with_tail c.before.before.args.sizes c.before.before.args.more) c.more_calls.ensures))

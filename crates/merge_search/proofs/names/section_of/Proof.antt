@@ -8,12 +8,12 @@ use borrow.Author.Rules.{rules}
 use Rattle.merge_search.proofs.names.section_of.Statement.{statement}
 use Rattle.merge_search.proofs.names.section_of.Tie as tie
 
-abbrev start : tie.After-get → tie.Start
+abbrev start : tie.After-get-before → tie.Start
 start g = g.before.before.before.before.before.before
 
 -- the entry before the place has names in the text
-named : (g : tie.After-get) → NamesInBounds (start g).args.text.now g.get.result
-named g = let s = start g in (whole_as g.get.ensures (s.pre.0.whole (s.args.from - 1) (omega (arith, s.pre.1)))).named
+named : (g : tie.After-get-before) → NamesInBounds (start g).args.text.now g.get-before.result
+named g = let s = start g in (whole_as g.get-before.ensures (s.requires.0.whole (s.args.from - 1) (omega (arith, s.requires.1)))).named
 
 pub section_of_spec : {M : Type 1} → statement M
 section_of_spec =
@@ -21,9 +21,9 @@ section_of_spec =
     (tie.spec
     (λ c. search rules)
     (λ c. search rules)
-    (λ c κs. let s = c.before.before.before.before.before in (s.requires.0.store, omega (arith, s.requires.0.room, s.requires.1)))
+    (λ c κs. (c.before.before.before.before.before.requires.0.store, omega (arith, c.before.before.before.before.before.requires.0.room, c.before.before.before.before.before.requires.1)))
     (λ c κs. ((start c).requires.2.named, named c))
     (λ c κs. search rules)
-    (λ c. let g = c.before.before.before in known_joined (cc) (named g))
+    (λ c. known_joined (cc) (named c.before.before.before))
     (λ c. known-new (start c.before.before.before).requires.2)
     (λ c. known-new c.before.before.before.before.before.requires.2))

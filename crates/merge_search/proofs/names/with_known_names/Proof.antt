@@ -12,5 +12,5 @@ with_known_names_spec =
     (λ c. λ text σ w. same-entry_itself w)
     (λ c κs. search rules)
     (λ c κs. search rules)
-    (λ c. λ text σ w. same-entry-joined c.with-section.ensures (c.before.before.same_names.ensures (cc)) (omega arith) σ w)
+    (λ c. λ text σ w. same-entry-joined c.with_section.ensures (c.before.before.before.same_names.ensures (cc)) (omega arith) σ w)
     (λ c. λ text σ w. same-entry_itself w))
