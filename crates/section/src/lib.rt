@@ -1,5 +1,7 @@
 // The reading state between two lines, and the effect of each record on it (SPEC 3.2). Each step answers the model's next
 // state, read back from the words, or the fault; entries are counted after the record took effect.
+#![tactic(auto)]
+
 ghost use Rattle.std.specs.Prelude.{◌≡◌, List, [], ℕ, ◌+◌, ◌≤◌, ◌<◌, ◌^◌, length};
 ghost use Rattle.model.specs.Record.{test_name, source_file, end_of_record};
 ghost use Rattle.model.specs.Reading.{outside, enter_item, ignored, effect};

@@ -6,7 +6,7 @@ use borrow.Author.Rules.{rules}
 use Rattle.section.proofs.finish.Statement.{statement}
 use Rattle.section.proofs.finish.Tie as tie
 
-abbrev start : tie.After-kept-sizes → tie.Start
+abbrev start : tie.After-kept_sizes → tie.Start
 start p = p.before.before.before.before.before
 
 pub finish_spec : {M : Type 1} → statement M
@@ -18,6 +18,6 @@ finish_spec =
     (λ c κs. search rules)
     (λ c κs. let ζ = (start c).requires in
     let rows = c.before.before.capacity.ensures in
-    (held_as c.kept-sizes.ensures ζ.sections, omega (arith, rows, ζ.space.most), omega (arith, rows, ζ.space.most, ζ.space.room.words)))
+    (held_as c.kept_sizes.ensures ζ.sections, omega (arith, rows, ζ.space.most), omega (arith, rows, ζ.space.most, ζ.space.room.words)))
     (λ c. search rules)
-    (λ c. let t = c.before.before in delta-main t.before.kept-sizes.ensures t.merge-and-compact.ensures))
+    (λ c. delta-main c.before.before.before.kept_sizes.ensures c.before.before.merge_and_compact.ensures))

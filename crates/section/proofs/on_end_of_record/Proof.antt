@@ -12,17 +12,17 @@ use borrow.Author.Rules.{rules}
 use Rattle.section.proofs.on_end_of_record.Statement.{statement}
 use Rattle.section.proofs.on_end_of_record.Tie as tie
 
-abbrev start : tie.Else1 → tie.Start
+abbrev start : tie.Else-sizes-eq0 → tie.Start
 start e = e.before.before.before.before.before.before
 
-abbrev spare : tie.After-flush-all → tie.After-capacity
+abbrev spare : tie.After-flush_all-items → tie.After-capacity
 spare w = w.before.before.before
 
-abbrev all-in-main : tie.After-commit-section-arg → tie.After-flush-all
+abbrev all-in-main : tie.After-commit_section-arg-1 → tie.After-flush_all-items
 all-in-main a = a.before.before.before.before.before
 
 -- the section has items, as far as `omega` sees it here
-some : (e : tie.Else1) → rows_of (start e).args.state.sizes ≢ 0
+some : (e : tie.Else-sizes-eq0) → rows_of (start e).args.state.sizes ≢ 0
 some e = omega arith
 
 pub on_end_of_record_spec : {M : Type 1} → statement M
@@ -34,21 +34,20 @@ on_end_of_record_spec =
     (λ c. let ζ = c.before.before.before.before.before.requires in
     by-inside ζ (λ o. omega (arith, (ζ.open_items o).room, ζ.space.most, ζ.space.room.words)) (λ z e. omega (arith, z)))
     (λ c κs. search rules)
-    (λ c. next_as c.with-closed.ensures (end_empty c.before.before.before.before.before.before.before.requires (omega arith)))
+    (λ c. next_as c.with_closed.ensures (end_empty c.before.before.before.before.before.before.before.requires (omega arith)))
     (λ c κs. search rules)
     (λ c. search rules)
     (λ c. search rules)
-    (λ c κs. let k = c.before.before in
-    let ζ = (start k.before).requires in
-    let rows = k.capacity.ensures in
-    (open_as rows (ζ.open_items (items-inside ζ (some k.before))), omega (arith, rows, ζ.space.most), omega (arith, rows, ζ.space.most, ζ.space.room.words)))
+    (λ c κs. let ζ = (start c.before.before.before).requires in
+    let rows = c.before.before.capacity.ensures in
+    (open_as rows (ζ.open_items (items-inside ζ (some c.before.before.before))), omega (arith, rows, ζ.space.most), omega (arith, rows, ζ.space.most, ζ.space.room.words)))
     (λ c κs. search rules)
     (λ c κs. search rules)
-    (λ c κs. let p = c.before.kept-sizes.ensures in
+    (λ c κs. let p = c.before.kept_sizes.ensures in
     let w = all-in-main c.before.before in
     let s = start (spare w).before in
-    let ζ = s.pre in
-    let ς = w.flush-all.ensures in
+    let ζ = s.requires in
+    let ς = w.flush_all-items.ensures in
     let rows = (spare w).capacity.ensures in (
       (held_as p (all-sections ζ ς), main_open ζ ς p),
       (
@@ -57,15 +56,14 @@ on_end_of_record_spec =
           refl,
           omega (arith, rows, ζ.space.most),
           omega
-              (arith, rows, ζ.space.most, ζ.space.room.words, w.flush-all.kept.1.0),
+              (arith, rows, ζ.space.most, ζ.space.room.words, w.flush_all-items.auto.words),
         ),
         omega (arith, ap (λ (q : KeptSizes). q.tombstones) p, c.slack.ensures, ζ.space.tombstones),
       ),
     ))
-    (λ c. let k = c.before.before.before in
-    let s = start (spare (all-in-main k.before.before.before)).before in
-    let most : k.commit-section.result.main + k.commit-section.result.delta ≤ s.args.state.used = k.commit-section.ensures.0.held.delta.room in
-    let room : k.commit-section.result.main + k.commit-section.result.delta < 2 ^ 64 = omega (arith, most, s.pre.space.most, s.pre.space.room.words) in
+    (λ c. let s = start (spare (all-in-main c.before.before.before.before.before.before)).before in
+    let most : c.before.before.before.commit_section-after.result.main + c.before.before.before.commit_section-after.result.delta ≤ s.args.state.used = c.before.before.before.commit_section-after.ensures.0.held.delta.room in
+    let room : c.before.before.before.commit_section-after.result.main + c.before.before.before.commit_section-after.result.delta < 2 ^ 64 = omega (arith, most, s.requires.space.most, s.requires.space.room.words) in
     record { fits = room })
     (λ c κs. search rules)
     (λ c. search rules)
@@ -73,6 +71,6 @@ on_end_of_record_spec =
     let l = k.before in
     let w = all-in-main l.before.before in
     let e = (spare w).before in
-    next_as c.with-closed2.ensures
-    (end_kept (start e).pre w.flush-all.ensures _ k.commit-section.result (some e) refl refl (k.commit-section.auto.1.0 ∙ w.flush-all.kept.1.0) l.before.kept-sizes.ensures
-    l.slack.ensures k.commit-section.ensures.1 k.commit-section.ensures.0)))
+    next_as c.with_closed-2.ensures
+    (end_kept (start e).requires w.flush_all-items.ensures _ k.commit_section-after.result (some e) refl refl (k.commit_section-after.auto.words ∙ w.flush_all-items.auto.words) l.before.kept_sizes.ensures
+    l.slack.ensures k.commit_section-after.ensures.1 k.commit_section-after.ensures.0)))

@@ -9,6 +9,6 @@ pub on_test_name_spec : {M : Type 1} → statement M
 on_test_name_spec =
     tie.close
     (tie.spec
-    (λ c text words index limit ζ i. test-inside c.before.args.state _ c.if1.true)
+    (λ c text words index limit ζ i. test-inside c.before.args.state _ c.if-inside.true)
     (λ c κs. search rules)
-    (λ c text words index limit ζ i. next_as c.with-closed.ensures (test-outside c.before.before.args.state ζ i c.before.if1.false)))
+    (λ c text words index limit ζ i. next_as c.with_closed.ensures (test-outside c.before.before.args.state ζ i c.before.if-inside.false)))

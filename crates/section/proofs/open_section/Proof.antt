@@ -12,8 +12,8 @@ open_section_spec =
     (tie.spec
     (λ c. search rules)
     (λ c text ζ. open_full ζ (omega arith))
-    (λ c κs. let s = c.before.before.before.before in (s.requires.store, s.requires.room, s.requires.most, s.requires.kept))
+    (λ c κs. (c.before.before.before.before.requires.store, c.before.before.before.before.requires.room, c.before.before.before.before.requires.most, c.before.before.before.before.requires.kept))
     (λ c κs. search rules)
     (λ c. search rules)
     (λ c text ζ. let y = c.before.before.before in
-    next_as c.with_open.ensures (open_next ζ y.reserve-row.ensures (omega arith) y.reserve-row.auto.0)))
+    next_as c.with_open.ensures (open_next ζ y.reserve_row-used.ensures (omega arith) y.reserve_row-used.auto.words)))

@@ -9,4 +9,4 @@ start_spec =
     tie.close
     (tie.spec
     (λ c κs. search rules)
-    (λ c. (λ text words index limit ρ. rw c.with-closed.ensures (start-valid ρ), λ text words index. rw c.with-closed.ensures (start_state text words index))))
+    (λ c. (λ text words index limit ρ. rw c.with_closed.ensures (start-valid ρ), λ text words index. rw c.with_closed.ensures (start_state text words index))))
