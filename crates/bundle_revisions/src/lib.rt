@@ -1,4 +1,6 @@
 // A bundle of texts with revisions: n and T, little-endian u32, then n starts, n lengths, n run numbers and n revisions, then T text bytes.
+#![tactic(auto)]
+
 ghost use Rattle.std.specs.Prelude.{◌≡◌, true, ◌+◌, ◌*◌, ◌≤◌, ◌<◌, length};
 ghost use Rattle.model.specs.Limits.{max_texts};
 ghost use Rattle.model.specs.Bundle.{text_count};

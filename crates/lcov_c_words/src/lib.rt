@@ -1,4 +1,6 @@
 // What the C calling form hands back for an answer: a number, which is 0 or a refusal's, and eight words (specs/Words.antt).
+#![tactic(auto)]
+
 ghost use Rattle.std.specs.Prelude.{◌≡◌, length};
 ghost use Rattle.model.specs.Answer.{number_of};
 ghost use Rattle.lcov_c_words.specs.Words.{function_words, branch_words, line_data_words, record_words, refusal_words, line_words, line_number, counted_words, counted_number, write_words, write_number, insert_words, insert_number, held_word, query_words, query_number, bounds_words, bounds_number, with_prefix};

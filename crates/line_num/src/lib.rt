@@ -1,6 +1,7 @@
 // Ranges of lines (SPEC 8.1): "a lent slice of start and end pairs (u32) and a number of pairs used", a pair as
-// the struct `model::Range`. The borrow checker covers no function over a slice of structs: those that take one are thin and proved by
-// hand, and what they decide is decided by functions on numbers.
+// the struct `model::Range`. The functions over the slice are thin: what they decide is decided by functions on numbers.
+#![tactic(auto)]
+
 ghost use Rattle.std.specs.Prelude.{◌≡◌, ◌&&◌, ◌||◌, ◌+◌, ◌-◌, ◌<◌, ◌^◌, min, leb, length, get_or, set};
 ghost use Rattle.model.specs.Ranges.{query_call, insert_call};
 ghost use Rattle.model.specs.Calls.{query_answer, InsertCall, QueryCall};
@@ -348,7 +349,7 @@ pub struct Inserted {
     pub list: [Range; LIST],
 }
 
-// An insert into a list by value: who calls it holds no slice of structs, and needs no walk by hand.
+// An insert into a list by value: who calls it holds no slice of structs.
 pub fn insert_by_value(mut list: [Range; LIST], used: usize, start: u32, end: u32) -> Inserted
     ensures { InsertCall (insert_call list used (pair start end)) list result.list result.answer }
 {

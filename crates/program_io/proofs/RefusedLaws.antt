@@ -14,7 +14,7 @@ use Rattle.model.specs.Output.{written, output_after}
 use Rattle.model.specs.Gather.{printed_answer}
 use Rattle.format.specs.Put.{put_len, over, pair}
 use Rattle.format.proofs.DecimalLaws.{decimal-most}
-use Rattle.format.proofs.OverLaws.{put_over, put_len_lem, first-room, second_at, second-room, second_fits, second_len, second-out, last_within, last-kept, last_out}
+use Rattle.format.proofs.OverLaws.{put_over, put_len_lem, first-room, second_at, second-room, second_fits, second_len, second-out, last_within, last_out}
 use Rattle.program_io.specs.Refused.{refused_line, max_refused, places, refused_places}
 
 places_is : (number text line field : ℕ) → places number text line field ≡ pair 32 number 32 text ++ pair 32 line 32 field
@@ -130,9 +130,6 @@ module _ (r : Refusal) where
 
         pub refused-within : at + n < length whole
         refused-within = last_within old whole (refused_places r) (at + n) 10 done end short
-
-        pub refused-kept : length (set whole (at + n) 10) ≡ length old
-        refused-kept = last-kept old whole (refused_places r) (at + n) 10 done end short
 
         pub refused-out : set whole (at + n) 10 ≡ over (refused_line r) old
         refused-out = last_out old whole (refused_places r) (at + n) 10 done end short ∙ ap (λ (s : Bytes). over s old) line_is

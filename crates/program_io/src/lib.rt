@@ -1,5 +1,7 @@
 // Shared by the programs: recorded cases from standard input, a refusal in words and numbers, the front of a buffer
 // written.
+#![tactic(auto)]
+
 ghost use Rattle.std.specs.Prelude.{◌≡◌, ◌+◌, ◌≤◌, length};
 ghost use Rattle.format.specs.Put.{over};
 ghost use Rattle.program_io.specs.Cases.{u16_at, case_end};

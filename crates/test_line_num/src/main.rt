@@ -1,6 +1,8 @@
 // Makes calls on a list of range structs, as standard input asks: cases of 21 little-endian u32, which are the call (0 insert, else query),
 // the number of ranges used in two halves, start and end, and the eight ranges of the list. For each it writes the answer, and after an
 // insert the list. tests/README.md says how the cases and the Rust's answers were recorded.
+#![tactic(auto)]
+
 ghost use Rattle.std.specs.Prelude.{◌+◌, ◌*◌, ◌≤◌, ◌≡◌, length};
 
 use line_num::Inserted;

@@ -1,5 +1,7 @@
 // Compares pairs of paths and writes a line for each: those of SPEC 11.1's case (h), and the spellings that its
 // paragraph on paths distinguishes or not.
+#![tactic(auto)]
+
 use compare::Order;
 
 fn sign(order: Order) -> u8 {

@@ -10,10 +10,10 @@ use Rattle.bundle_revisions.proofs.RevisionLaws.{repeat_first, no_repeat}
 use Rattle.bundle_revisions.proofs.first_repeat.Statement.{statement}
 use Rattle.bundle_revisions.proofs.first_repeat.Tie as tie
 
-abbrev invariant-loop : tie.invariant-loop
+abbrev invariant-loop : tie.invariant-loop-i
 invariant-loop bundle n i₀ i = (i ≤ n) × ((k : _) → k < i → is_repeat bundle k ≡ false)
 
-abbrev decreases-loop : tie.decreases-loop
+abbrev decreases-loop : tie.decreases-loop-i
 decreases-loop bundle n i₀ i = n - i
 
 pub first_repeat_spec : {M : Type 1} → statement M
@@ -28,5 +28,5 @@ first_repeat_spec =
     (λ c. search (repeat_first, rules))
     (λ c. omega arith)
     (λ c. omega arith)
-    (λ c. (omega arith, below_more (λ k. is_repeat _ k ≡ false) _ c.before.before.before.loop.invariant.1 (sym c.before.is-repeat.ensures ∙ c.if1.false)))
+    (λ c. (omega arith, below_more (λ k. is_repeat _ k ≡ false) _ c.before.before.before.loop-i.invariant.1 (sym c.before.is_repeat.ensures ∙ c.if-is_repeat.false)))
     (λ c. search (no_repeat, rules)))

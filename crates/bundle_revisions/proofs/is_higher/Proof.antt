@@ -14,4 +14,4 @@ is_higher_spec =
     (λ c. search (other-run, rules))
     (λ c κs. search rules)
     (λ c κs. search rules)
-    (λ c. one-run ltb c.before.before.before.before.run_at.ensures c.before.before.before.run-at2.ensures c.before.before.if1.false c.before.revision-at.ensures c.revision-at2.ensures))
+    (λ c. one-run ltb c.before.before.before.before.run_at.ensures c.before.before.before.run_at-2.ensures c.before.before.if-run_at.false c.before.revision_at.ensures c.revision_at-2.ensures))

@@ -10,10 +10,10 @@ use Rattle.bundle_revisions.proofs.RevisionLaws.{surpassed, unsurpassed}
 use Rattle.bundle_revisions.proofs.is_highest.Statement.{statement}
 use Rattle.bundle_revisions.proofs.is_highest.Tie as tie
 
-abbrev invariant-loop : tie.invariant-loop
+abbrev invariant-loop : tie.invariant-loop-j
 invariant-loop bundle n i j₀ j = (j ≤ n) × ((k : _) → k < j → is_higher bundle i k ≡ false)
 
-abbrev decreases-loop : tie.decreases-loop
+abbrev decreases-loop : tie.decreases-loop-j
 decreases-loop bundle n i j₀ j = n - j
 
 pub is_highest_spec : {M : Type 1} → statement M
@@ -27,5 +27,5 @@ is_highest_spec =
     (λ c. search (surpassed, rules))
     (λ c. omega arith)
     (λ c. omega arith)
-    (λ c. (omega arith, below_more (λ k. is_higher _ _ k ≡ false) _ c.before.before.before.loop.invariant.1 (sym c.before.is-higher.ensures ∙ c.if1.false)))
+    (λ c. (omega arith, below_more (λ k. is_higher _ _ k ≡ false) _ c.before.before.before.loop-j.invariant.1 (sym c.before.is_higher.ensures ∙ c.if-is_higher.false)))
     (λ c. search (unsurpassed, rules)))

@@ -10,4 +10,4 @@ is_well_formed_spec =
     tie.close
     (tie.spec
     (λ c κs. omega arith)
-    (λ c. c.is-well-formed-as.ensures ∙ second-kind _))
+    (λ c. c.is_well_formed_as.ensures ∙ second-kind _))

@@ -11,10 +11,10 @@ use Rattle.bundle_revisions.proofs.RevisionLaws.{all-marked}
 use Rattle.bundle_revisions.proofs.mark_highest.Statement.{statement}
 use Rattle.bundle_revisions.proofs.mark_highest.Tie as tie
 
-abbrev invariant-loop : tie.invariant-loop
+abbrev invariant-loop : tie.invariant-loop-i
 invariant-loop bundle marks₀ n i₀ marks i = (i ≤ n) × (length marks ≡ length marks₀) × MarkedAs (is_highest bundle) i marks
 
-abbrev decreases-loop : tie.decreases-loop
+abbrev decreases-loop : tie.decreases-loop-i
 decreases-loop bundle marks₀ n i₀ marks i = n - i
 
 pub mark_highest_spec : {M : Type 1} → statement M
@@ -30,6 +30,6 @@ mark_highest_spec =
     (λ c. omega arith)
     (λ c. omega arith)
     (λ c. omega arith)
-    (λ c. (omega arith, search rules, one-marked (is_highest _) c.before.before.loop.marks _ c.before.before.loop.invariant.2 (omega arith) c.is-highest.result c.is-highest.ensures))
+    (λ c. (omega arith, search rules, one-marked (is_highest _) c.before.before.loop-i.marks _ c.before.before.loop-i.invariant.2 (omega arith) c.is_highest.result c.is_highest.ensures))
     (λ c. search rules)
     (λ c. search (all-marked, rules)))

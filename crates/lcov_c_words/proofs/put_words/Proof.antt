@@ -6,10 +6,10 @@ use Rattle.format.proofs.PutLaws.{Putting, short-out, put_start}
 use Rattle.lcov_c_words.proofs.put_words.Statement.{statement}
 use Rattle.lcov_c_words.proofs.put_words.Tie as tie
 
-abbrev invariant-loop : tie.invariant-loop
+abbrev invariant-loop : tie.invariant-loop-i
 invariant-loop slice₀ words i₀ slice i = Putting words slice₀ slice i
 
-abbrev decreases-loop : tie.decreases-loop
+abbrev decreases-loop : tie.decreases-loop-i
 decreases-loop slice₀ words i₀ slice i = 8 - i
 
 pub put_words_spec : {M : Type 1} → statement M
