@@ -48,7 +48,7 @@ module _ (tag : Kind → Bytes) (text : Bytes) where
 
   pub end_line_lem : line_in tag text Lent.EndOfRecord ≡ print_records tag (end_of_record ∷ [])
   unfolding record_in
-  end_line = one_line Lent.EndOfRecord end_of_record refl
+  end_line_lem = one_line Lent.EndOfRecord end_of_record refl
 
   module _ (p : Part) (start len : ℕ) (is : p ≡ lent_part start len) (inside : start + len ≤ length text) where
     pub test-line : line_in tag text (Lent.TestName p) ≡ print_records tag (test_name (part text start len) ∷ [])

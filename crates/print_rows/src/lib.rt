@@ -1,5 +1,7 @@
 // Prints rows as lines (SPEC 6), in one code for two passes: one measures, with an offset that
 // saturates at 2^64 − 1; one writes: "Each line is written into the rest of the output".
+#![tactic(auto)]
+
 ghost use Rattle.std.specs.Prelude.{◌≡◌, true, List, [], ◌∷◌, ℕ, suc, ◌+◌, ◌%◌, ◌≤◌, min, length};
 ghost use Rattle.table.specs.Places.{tabulate};
 ghost use Rattle.model.specs.Lists.{concat_map};

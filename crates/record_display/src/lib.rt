@@ -1,4 +1,6 @@
 // A record printed as a line: `Display for Record`, SPEC 2.6's "The line printer tries 17, then 14".
+#![tactic(auto)]
+
 ghost use Rattle.std.specs.Prelude.{◌≡◌, [], length, true};
 ghost use Rattle.model.specs.Calls.{WriteCall};
 ghost use Rattle.model.specs.Parts.{print_line};

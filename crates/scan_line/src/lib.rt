@@ -1,4 +1,6 @@
 // The end of a line, searched eight bytes at a time: "A text is cut at each byte 10" (SPEC 3.1).
+#![tactic(auto)]
+
 ghost use Rattle.std.specs.Prelude.{◌≡◌, ◌≤◌, length};
 ghost use Rattle.model.specs.Bytes.{newline, before};
 ghost use Rattle.scan_line.specs.Plain.{Plain};

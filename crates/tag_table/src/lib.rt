@@ -1,5 +1,7 @@
 // The thirteen tags (SPEC 2.2): a lent table is checked, a tag's kind is told, and a kind's tag is written. Inside the library an empty
 // slice stands for the default tags, and any other is a table that was checked.
+#![tactic(auto)]
+
 ghost use Rattle.std.specs.Prelude.{◌≡◌, true, [], ◌≤◌, ◌<◌, length};
 ghost use Rattle.model.specs.Bytes.{before, same_bytes};
 ghost use Rattle.model.specs.Tags.{default_tag};

@@ -11,16 +11,12 @@ emit_data_spec =
     tie.close
     (tie.spec
     (λ c. search rules)
-    (λ c. let s = c.before.before.before.before.before.before.before.before in
-    line-number-fits s.args.text.now s.args.row s.requires.1.0.1 (omega arith))
-    (λ c κs. let s = c.before.before.before.before.before.before.before.before.before in
-    (s.requires.0, room-written s.args.write s.args.out.now s.args.at _ _ (search rules) (count-line _ s.args.text.now s.args.row (omega arith)) s.requires.1.1))
+    (λ c. line-number-fits c.before.before.before.before.before.before.before.before.args.text.now c.before.before.before.before.before.before.before.before.args.row c.before.before.before.before.before.before.before.before.requires.1.0.1 (omega arith))
+    (λ c κs. (c.before.before.before.before.before.before.before.before.before.requires.0, room-written c.before.before.before.before.before.before.before.before.before.args.write c.before.before.before.before.before.before.before.before.before.args.out.now c.before.before.before.before.before.before.before.before.before.args.at _ _ (search rules) (count-line _ c.before.before.before.before.before.before.before.before.before.args.text.now c.before.before.before.before.before.before.before.before.before.args.row (omega arith)) c.before.before.before.before.before.before.before.before.before.requires.1.1))
     (λ c. search rules)
-    (λ c. let s = c.before.before.before.before.before.before.before.before.before.before.before.before in
-    emitted-written s.args.write _ _ (search rules) (count-line _ s.args.text.now s.args.row (omega arith)) c.before.before.emit-line-data.ensures)
+    (λ c. emitted-written c.before.before.before.before.before.before.before.before.before.before.before.before.args.write _ _ (search rules) (count-line _ c.before.before.before.before.before.before.before.before.before.before.before.before.args.text.now c.before.before.before.before.before.before.before.before.before.before.before.before.args.row (omega arith)) c.before.before.emit_line_data.ensures)
     (λ c κs. search rules)
     (λ c. search rules)
     (λ c. search rules)
     (λ c κs. search rules)
-    (λ c. let s = c.before.before.before.before.before in
-    emitted-past s.args.write s.args.out.now _ s.args.at _ c.before.if1.false (c.measure-data.ensures s.args.text.now s.requires.1.0.0)))
+    (λ c. emitted-past c.before.before.before.before.before.args.write c.before.before.before.before.before.args.out.now _ c.before.before.before.before.before.args.at _ c.before.if-write.false (c.measure_data.ensures c.before.before.before.before.before.args.text.now c.before.before.before.before.before.requires.1.0.0)))

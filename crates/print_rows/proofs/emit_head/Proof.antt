@@ -9,7 +9,7 @@ use Rattle.print_rows.proofs.PassLaws.{two_first, two_then, two_emitted}
 use Rattle.print_rows.proofs.emit_head.Statement.{statement}
 use Rattle.print_rows.proofs.emit_head.Tie as tie
 
-abbrev start : tie.After-part-of → tie.Start
+abbrev start : tie.After-part_of-test → tie.Start
 start p = p.before.before.before.before
 
 abbrev test : tie.Start → Record
@@ -24,25 +24,19 @@ emit_head_spec =
     (tie.spec
     (λ c κs. search rules)
     (λ c κs. let s = start c.before in (
-      s.pre.0,
-      room_as s.args.write s.args.out.now s.args.at _ _ (test-line _ s.args.text.now _ _ _ c.before.part_of.ensures s.pre.1.0.0)
-          (two_first _ s.args.write s.args.out.now s.args.at (test s) (path s) s.pre.1.1),
+      s.requires.0,
+      room_as s.args.write s.args.out.now s.args.at _ _ (test-line _ s.args.text.now _ _ _ c.before.part_of-test.ensures s.requires.1.0.0)
+          (two_first _ s.args.write s.args.out.now s.args.at (test s) (path s) s.requires.1.1),
     ))
     (λ c κs. search rules)
-    (λ c κs. let e = c.before.before.before.before in
-    let p = e.before.before in
-    let s = start p in (
-      s.pre.0,
-      room_as s.args.write e.emit-record.new.1.1.1.0 e.emit-record.result _ _ (path-line _ s.args.text.now _ _ _ c.before.part-of2.ensures s.pre.1.0.1)
-          (two_then _ s.args.write s.args.out.now s.args.at (test s) (path s) s.pre.1.1 (omega arith)
-          (emitted_as _ _ _ (test-line _ _ _ _ _ p.part_of.ensures s.pre.1.0.0) e.emit-record.ensures)),
+    (λ c κs. let s = start c.before.before.before.before.before.before in (
+      s.requires.0,
+      room_as s.args.write c.before.before.before.before.emit_record-end.new.out c.before.before.before.before.emit_record-end.result _ _ (path-line _ s.args.text.now _ _ _ c.before.part_of-path.ensures s.requires.1.0.1)
+          (two_then _ s.args.write s.args.out.now s.args.at (test s) (path s) s.requires.1.1 (omega arith)
+          (emitted_as _ _ _ (test-line _ _ _ _ _ c.before.before.before.before.before.before.part_of-test.ensures s.requires.1.0.0) c.before.before.before.before.emit_record-end.ensures)),
     ))
     (λ c. search rules)
-    (λ c. let e₂ = c.before.before in
-    let p₂ = e₂.before.before in
-    let e = p₂.before.before.before in
-    let p = e.before.before in
-    let s = start p in
-    two_emitted _ s.args.write s.args.out.now s.args.at (test s) (path s) s.pre.1.1 (omega arith)
-    (emitted_as _ _ _ (test-line _ _ _ _ _ p.part_of.ensures s.pre.1.0.0) e.emit-record.ensures)
-    (emitted_as _ _ _ (path-line _ _ _ _ _ p₂.part-of2.ensures s.pre.1.0.1) e₂.emit-record2.ensures)))
+    (λ c. let s = start c.before.before.before.before.before.before.before.before.before in
+    two_emitted _ s.args.write s.args.out.now s.args.at (test s) (path s) s.requires.1.1 (omega arith)
+    (emitted_as _ _ _ (test-line _ _ _ _ _ c.before.before.before.before.before.before.before.before.before.part_of-test.ensures s.requires.1.0.0) c.before.before.before.before.before.before.before.emit_record-end.ensures)
+    (emitted_as _ _ _ (path-line _ _ _ _ _ c.before.before.before.before.part_of-path.ensures s.requires.1.0.1) c.before.before.emit_record.ensures)))

@@ -9,8 +9,8 @@ use Rattle.print_rows.proofs.EmitLaws.{wrote-fits, wrote-line, wrote_none}
 use Rattle.print_rows.proofs.emit_line_data.Statement.{statement}
 use Rattle.print_rows.proofs.emit_line_data.Tie as tie
 
-abbrev start : tie.After-known-told → tie.Start
-start c = c.before.before.before.before.before.before.before.before.before
+abbrev start : tie.In-Written → tie.Start
+start c = c.before.before.before.before.before.before.before
 
 pub emit_line_data_spec : {M : Type 1} → statement M
 emit_line_data_spec =

@@ -7,7 +7,7 @@ use Rattle.print_rows.proofs.LentLaws.{key-start, start-line, no_start, start_fi
 use Rattle.print_rows.proofs.emit_start.Statement.{statement}
 use Rattle.print_rows.proofs.emit_start.Tie as tie
 
-abbrev start : tie.After-start-key → tie.Start
+abbrev start : tie.After-start_key-key → tie.Start
 start k = k.before.before.before.before
 
 pub emit_start_spec : {M : Type 1} → statement M
@@ -15,31 +15,25 @@ emit_start_spec =
     tie.close
     (tie.spec
     (λ c κs. search rules)
-    (λ c. let k = c.before in emitted_empty _ _ _ _ (omega arith) (no_start _ _ _ (sym (k.start-key.ensures (start k).args.text.now) ∙ c.if1.true)))
+    (λ c. emitted_empty _ _ _ _ (omega arith) (no_start _ _ _ (sym (c.before.start_key-key.ensures (start c.before).args.text.now) ∙ c.if-key-eq0.true)))
     (λ c. search rules)
-    (λ c. let k = c.before.before in
-    let s = start k in
-    start_fits s.args.text.now s.args.row _ (key-start (k.start-key.ensures s.args.text.now) c.before.if1.false) s.pre.1.0.1)
+    (λ c. let s = start c.before.before in
+    start_fits s.args.text.now s.args.row _ (key-start (c.before.before.start_key-key.ensures s.args.text.now) c.before.if-key-eq0.false) s.requires.1.0.1)
     (λ c κs. search rules)
     (λ c κs. search rules)
-    (λ c κs. let p = c.before in
-    let k = p.before.before.before.before in
-    let s = start k in
+    (λ c κs. let s = start c.before.before.before.before.before in
     let text = s.args.text.now in (
-      s.pre.0,
+      s.requires.0,
       room_as s.args.write s.args.out.now s.args.at _ _
-          (start-line _ text s.args.row _ (key-start (k.start-key.ensures text) p.before.before.before.if1.false) _ _ (p.before.end_line.ensures text) s.pre.1.0.0 p.part_of.ensures)
-          s.pre.1.1,
+          (start-line _ text s.args.row _ (key-start (c.before.before.before.before.before.start_key-key.ensures text) c.before.before.before.before.if-key-eq0.false) _ _ (c.before.before.end_line.ensures text) s.requires.1.0.0 c.before.part_of.ensures)
+          s.requires.1.1,
     ))
     (λ c. search rules)
-    (λ c. let e = c.before.before in
-    let p = e.before.before in
-    let k = p.before.before.before.before in
-    let s = start k in
+    (λ c. let s = start c.before.before.before.before.before.before.before.before in
     let text = s.args.text.now in
     emitted_as _ _ _
-    (start-line _ text s.args.row _ (key-start (k.start-key.ensures text) p.before.before.before.if1.false) _ _ (p.before.end_line.ensures text) s.pre.1.0.0 p.part_of.ensures)
-    e.emit-record.ensures)
-    (λ c κs. let k = c.before.before in ((start k).requires.0, λ text. key-start (k.start-key.ensures text) c.before.if1.false))
+    (start-line _ text s.args.row _ (key-start (c.before.before.before.before.before.before.before.before.start_key-key.ensures text) c.before.before.before.before.before.before.before.if-key-eq0.false) _ _ (c.before.before.before.before.before.end_line.ensures text) s.requires.1.0.0 c.before.before.before.before.part_of.ensures)
+    c.before.before.emit_record.ensures)
+    (λ c κs. ((start c.before.before).requires.0, λ text. key-start (c.before.before.start_key-key.ensures text) c.before.if-key-eq0.false))
     (λ c. let s = start c.before.before.before in
-    emitted-past s.args.write s.args.out.now _ s.args.at _ c.before.if2.false (c.measure-start.ensures s.args.text.now s.pre.1.0.0)))
+    emitted-past s.args.write s.args.out.now _ s.args.at _ c.before.if-write.false (c.measure_start.ensures s.args.text.now s.requires.1.0.0)))

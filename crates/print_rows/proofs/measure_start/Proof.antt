@@ -16,9 +16,5 @@ measure_start_spec =
     (λ c. search rules)
     (λ c κs. search rules)
     (λ c κs. search rules)
-    (λ c. let e = c.before.before in
-    let l = e.before in
-    let t = l.before.before in
-    let s = t.before.before in
-    λ text g. past-start _ text s.args.row g s.args.at _ s.args.start (s.requires.1 text) l.end_line.result (l.end_line.ensures text) _ t.tag-len.ensures.0 _ _ _
-    l.before.decimal-len.ensures.0 e.end-len.ensures.0 c.before.saturating-add.ensures c.saturating-add2.ensures))
+    (λ c. λ text g. past-start _ text c.before.before.before.before.before.before.before.args.row g c.before.before.before.before.before.before.before.args.at _ c.before.before.before.before.before.before.before.args.start (c.before.before.before.before.before.before.before.requires.1 text) c.before.before.before.end_line.result (c.before.before.before.end_line.ensures text) _ c.before.before.before.before.before.tag_len-tag.ensures.0 _ _ _
+    c.before.before.before.before.decimal_len.ensures.0 c.before.before.end_len.ensures.0 c.before.saturating_add.ensures c.saturating_add-2.ensures))

@@ -11,7 +11,6 @@ print_line_data_spec =
     (λ c κs. search (counted-room, rules))
     (λ c. search rules)
     (λ c. search (write_called, counted-written, counted-out, rules))
-    (λ c. search rules)
     (λ c κs. search rules)
     (λ c. search rules)
     (λ c. search rules))

@@ -35,4 +35,4 @@ read_body_spec =
     (λ c. search (test-body, rules))
     (λ c. search (source_body, rules))
     (λ c. search (end_body, rules))
-    (λ c. other-body _ _ _ _ _ c.before.before.match.keys8 c.before.total_of.ensures c.read-total.ensures))
+    (λ c. other-body _ _ _ _ _ c.before.before.in_default.in_default-own.keys8 c.before.total_of.ensures c.read_total.ensures))

@@ -19,4 +19,4 @@ kind_at_spec =
     (λ c. search rules)
     (λ c. search rules)
     (λ c. search rules)
-    (λ c. last-place _ c.before.requires c.match.rest))
+    (λ c. last-place _ c.before.requires c.in_default.in_default-own.rest))

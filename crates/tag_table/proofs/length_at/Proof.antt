@@ -9,5 +9,5 @@ length_at_spec =
     tie.close
     (tie.spec
     (λ c. search rules)
-    (λ c. omega (arith, c.shared-slice-known.given c.before.args.k))
-    (λ c. length_at _ _ c.before.requires c.shared-slice-known.given))
+    (λ c. omega (arith, c.shared_slice_known-1.given c.before.args.k))
+    (λ c. length_at _ _ c.before.requires c.shared_slice_known-1.given))

@@ -4,10 +4,10 @@ use Rattle.tag_table.proofs.KindLaws.{has_it, NoneBefore, none_first, none-next,
 use Rattle.tag_table.proofs.search_kind.Statement.{statement}
 use Rattle.tag_table.proofs.search_kind.Tie as tie
 
-abbrev invariant-loop : tie.invariant-loop
+abbrev invariant-loop : tie.invariant-loop-k
 invariant-loop tags s k₀ k = (k ≤ 13) × NoneBefore tags s k
 
-abbrev decreases-loop : tie.decreases-loop
+abbrev decreases-loop : tie.decreases-loop-k
 decreases-loop tags s k₀ k = 13 - k
 
 pub search_kind_spec : {M : Type 1} → statement M

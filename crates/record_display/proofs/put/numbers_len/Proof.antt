@@ -7,10 +7,10 @@ use Rattle.record_display.proofs.FieldLaws.{len_next, len_end}
 use Rattle.record_display.proofs.put.numbers_len.Statement.{statement}
 use Rattle.record_display.proofs.put.numbers_len.Tie as tie
 
-abbrev invariant-loop : tie.invariant-loop
+abbrev invariant-loop : tie.invariant-loop-i
 invariant-loop count numbers n₀ i₀ n i = (i ≤ count) × (n ≤ 21 * i) × (n + length (separated 58 (drop i (number_texts numbers count))) ≡ length (separated 58 (number_texts numbers count)))
 
-abbrev decreases-loop : tie.decreases-loop
+abbrev decreases-loop : tie.decreases-loop-i
 decreases-loop count numbers n₀ i₀ n i = count - i
 
 pub numbers_len_spec : {M : Type 1} → statement M

@@ -5,10 +5,10 @@ use Rattle.record_display.proofs.FieldLaws.{Putting, putting_start, putting_at, 
 use Rattle.record_display.proofs.put.put_numbers.Statement.{statement}
 use Rattle.record_display.proofs.put.put_numbers.Tie as tie
 
-abbrev invariant-loop : tie.invariant-loop
+abbrev invariant-loop : tie.invariant-loop-i
 invariant-loop count out₀ numbers at₀ sep₀ i₀ out at sep i = (i ≤ count) × Putting (number_texts numbers count) out₀ out at sep i
 
-abbrev decreases-loop : tie.decreases-loop
+abbrev decreases-loop : tie.decreases-loop-i
 decreases-loop count out₀ numbers at₀ sep₀ i₀ out at sep i = count - i
 
 pub put_numbers_spec : {M : Type 1} → statement M

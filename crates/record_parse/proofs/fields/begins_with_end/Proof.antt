@@ -9,10 +9,10 @@ use Rattle.record_parse.proofs.EndLaws.{begins_behind, digit_passed, comma_met, 
 use Rattle.record_parse.proofs.fields.begins_with_end.Statement.{statement}
 use Rattle.record_parse.proofs.fields.begins_with_end.Tie as tie
 
-abbrev invariant-loop : tie.invariant-loop
+abbrev invariant-loop : tie.invariant-loop-i
 invariant-loop rest i₀ i = (i ≤ length rest) × (end_behind i (drop i rest) ≡ begins_with_end rest)
 
-abbrev decreases-loop : tie.decreases-loop
+abbrev decreases-loop : tie.decreases-loop-i
 decreases-loop rest i₀ i = length rest - i
 
 pub begins_with_end_spec : {M : Type 1} → statement M

@@ -9,10 +9,8 @@ read_taken_spec =
     (tie.spec
     (λ c. search rules)
     (λ c. search (taken-short, rules))
-    (λ c. search rules)
     (λ c κs. search rules)
     (λ c. search (taken_dash, rules))
-    (λ c. search rules)
     (λ c κs. search rules)
     (λ c κs. search rules)
     (λ c. search (taken_more, rules))

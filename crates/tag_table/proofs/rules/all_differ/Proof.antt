@@ -8,10 +8,10 @@ use Rattle.tag_table.proofs.RuleLaws.{differ-first, differ_fails, differ-next, d
 use Rattle.tag_table.proofs.rules.all_differ.Statement.{statement}
 use Rattle.tag_table.proofs.rules.all_differ.Tie as tie
 
-abbrev invariant-loop : tie.invariant-loop
+abbrev invariant-loop : tie.invariant-loop-k
 invariant-loop table k₀ k = (k ≤ 13) × (differ_from table k ≡ differ (lent_tag table) all_kinds)
 
-abbrev decreases-loop : tie.decreases-loop
+abbrev decreases-loop : tie.decreases-loop-k
 decreases-loop table k₀ k = 13 - k
 
 pub all_differ_spec : {M : Type 1} → statement M

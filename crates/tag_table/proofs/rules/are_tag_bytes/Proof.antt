@@ -8,10 +8,10 @@ use Rattle.tag_table.proofs.RuleLaws.{test_fails, test-next, test-end}
 use Rattle.tag_table.proofs.rules.are_tag_bytes.Statement.{statement}
 use Rattle.tag_table.proofs.rules.are_tag_bytes.Tie as tie
 
-abbrev invariant-loop : tie.invariant-loop
+abbrev invariant-loop : tie.invariant-loop-i
 invariant-loop s i₀ i = (i ≤ length s) × (all tag_byte (drop i s) ≡ all tag_byte s)
 
-abbrev decreases-loop : tie.decreases-loop
+abbrev decreases-loop : tie.decreases-loop-i
 decreases-loop s i₀ i = length s - i
 
 pub are_tag_bytes_spec : {M : Type 1} → statement M

@@ -6,10 +6,10 @@ use Rattle.tag_table.proofs.RuleLaws.{other_fails, other-next, other-end}
 use Rattle.tag_table.proofs.rules.differs.Statement.{statement}
 use Rattle.tag_table.proofs.rules.differs.Tie as tie
 
-abbrev invariant-loop : tie.invariant-loop
+abbrev invariant-loop : tie.invariant-loop-j
 invariant-loop table k j₀ j = (j ≤ 13) × (other_than table k j ≡ other_than table k (k + 1))
 
-abbrev decreases-loop : tie.decreases-loop
+abbrev decreases-loop : tie.decreases-loop-j
 decreases-loop table k j₀ j = 13 - j
 
 pub differs_spec : {M : Type 1} → statement M

@@ -7,10 +7,10 @@ use Rattle.tag_table.proofs.RuleLaws.{size_wrong, fits-first, fits_fails, fits_n
 use Rattle.tag_table.proofs.rules.is_well_formed.Statement.{statement}
 use Rattle.tag_table.proofs.rules.is_well_formed.Tie as tie
 
-abbrev invariant-loop : tie.invariant-loop
+abbrev invariant-loop : tie.invariant-loop-k
 invariant-loop table k₀ k = (k ≤ 13) × (fits_from table k ≡ well_formed_tags table)
 
-abbrev decreases-loop : tie.decreases-loop
+abbrev decreases-loop : tie.decreases-loop-k
 decreases-loop table k₀ k = 13 - k
 
 pub is_well_formed_spec : {M : Type 1} → statement M
