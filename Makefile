@@ -2,12 +2,12 @@
 PREFIX = /usr/local
 DESTDIR =
 
-library := target/staticlib/liblcov_c.a
+library := crates/lcov_c/out/liblcov_c.a
 program := rust/lcov-gather/target/release/lcov-gather
 samples := tests/samples/room-a.info tests/samples/room-b.info
 
-# What the two are made of. The time of a folder tells that a file came or went.
-crates := crates.txt $(shell find crates -type d -o -name '*.rt' -o -name '*.antt')
+# What the two are made of. The time of a folder tells that a file came or went. A crate's out/ is made by rt.
+crates := crates.txt $(shell find crates/*/src crates/*/specs crates/*/proofs -type d -o -name '*.rt' -o -name '*.antt')
 sources := $(shell find rust/lcov-sys rust/lcov-gather -name target -prune -o \( -name '*.rs' -o -name Cargo.toml \) -print)
 
 # SOURCE=PLACE: `make install` copies each SOURCE to its PLACE below PREFIX, `make uninstall` removes each PLACE.
@@ -29,7 +29,7 @@ all: $(library) $(program) ## build the static library and the command lcov-gath
 
 # rt and cargo leave a file that is up to date as it is, so its time is set here.
 $(library): $(crates)
-	rt staticlib lcov_c
+	cd crates/lcov_c && rt lib
 	touch $@
 
 $(program): $(library) $(sources)
@@ -59,6 +59,7 @@ bench-peers: ## compare lcov-gather with grcov and lcov on real tracefiles
 	tools/bench-peers
 
 install: all $(completions) ## install the command, its page and completions, the header and the library below PREFIX
+	mkdir -p target
 	sed -e 's|@PREFIX@|$(PREFIX)|' -e "s|@VERSION@|$$(cat VERSION)|" packaging/lcov.pc.in >target/lcov.pc
 	set -e; for file in $(files); do \
 		case $$file in *=bin/*) mode=755 ;; *) mode=644 ;; esac; \
@@ -73,7 +74,7 @@ uninstall: ## remove what install puts there
 	for file in $(files); do rm -f '$(DESTDIR)$(PREFIX)'/"$${file#*=}"; done
 
 clean: ## remove all that was built, proofs included
-	rm -rf target rust/target rust/lcov-gather/target
+	rm -rf target crates/*/out rust/target rust/lcov-gather/target
 
 help: ## print this list
 	@awk -F':.*## ' '/^[a-z-]+:.*## / { printf "make %-11s %s\n", $$1, $$2 }' Makefile

@@ -1,6 +1,6 @@
 /* Gathers two tracefiles with the C calls: the texts are packed into a bundle, and the output is lent again where it was too short.
  *
- *     cc -Iinclude examples/gather.c target/staticlib/liblcov_c.a -o gather && ./gather a.info b.info
+ *     cc -Iinclude examples/gather.c crates/lcov_c/out/liblcov_c.a -o gather && ./gather a.info b.info
  *
  * or, after `make install`,
  *

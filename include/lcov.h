@@ -1,5 +1,5 @@
 /* The LCOV gatherer in the C calling form. Link the static library: `make install` and `pkg-config --libs lcov`, or
- * target/staticlib/liblcov_c.a, which `rt staticlib lcov_c` writes.
+ * crates/lcov_c/out/liblcov_c.a, which `rt lib` in crates/lcov_c writes.
  *
  * Any bytes and any buffers may be handed in: every call returns. A slice is a pointer and a length; a pointer may be anything where the
  * length is 0. Slices that are written to must not overlap others of the call.

@@ -39,12 +39,12 @@ def version_of(package):
 # a source, and the places that must say the same
 SAME = [
     (("VERSION", r"^(.*)$"), [macro("VERSION"), *map(version_of, ["lcov-sys", "lcov-gather", "oracle", "harness"])]),
-    (definition("max-entries"), [macro("MAX_ENTRIES"), constant("MAX_ENTRIES")]),
-    (definition("max-texts"), [macro("MAX_TEXTS"), constant("MAX_TEXTS")]),
-    (definition("max-width"), [macro("MAX_WIDTH"), constant("MAX_WIDTH")]),
-    (definition("max-labs"), [macro("LABS"), constant("LABS")]),
-    (("crates/lab_quotas/specs/Labs.antt", r"^mark-words = (\d+)$"), [macro("MARK_WORDS"), constant("MARK_WORDS")]),
-    (definition("words-per-entry"), [macro("WORDS_PER_ENTRY"), constant("WORDS_PER_ENTRY")]),
+    (definition("max_entries"), [macro("MAX_ENTRIES"), constant("MAX_ENTRIES")]),
+    (definition("max_texts"), [macro("MAX_TEXTS"), constant("MAX_TEXTS")]),
+    (definition("max_width"), [macro("MAX_WIDTH"), constant("MAX_WIDTH")]),
+    (definition("max_labs"), [macro("LABS"), constant("LABS")]),
+    (("crates/lab_quotas/specs/Labs.antt", r"^mark_size = (\d+)$"), [macro("MARK_WORDS"), constant("MARK_WORDS")]),
+    (definition("words_per_entry"), [macro("WORDS_PER_ENTRY"), constant("WORDS_PER_ENTRY")]),
     (macro("KINDS"), [constant("KINDS")]),
     (macro("TAG_SLOT"), [constant("TAG_SLOT")]),
     (macro("TAGS_LEN"), [constant("TAGS_LEN")]),

@@ -2,7 +2,7 @@
  * call is told, so that memcheck reports a byte that is read or written outside. Scratch, output and answer come from malloc unwritten, so
  * that it reports a decision by what a call has not written, and a byte that is promised and not written.
  *
- *     cc -g -Iinclude tests/memcheck.c target/staticlib/liblcov_c.a -o memcheck
+ *     cc -g -Iinclude tests/memcheck.c crates/lcov_c/out/liblcov_c.a -o memcheck
  *     valgrind --quiet --error-exitcode=9 --leak-check=full ./memcheck [--filled] [CALL..]
  *
  * CALL is the name of a function without lcov_; none means all. --filled fills the scratch before each call. The questions are the same in

@@ -1,5 +1,5 @@
 #!/usr/bin/env python3
-"""Compares each table of refusals with the definitions, `numberOf` in crates/model/specs/Answer.antt.
+"""Compares each table of refusals with the definitions, `number_of` in crates/model/specs/Answer.antt.
 
 A table must have every number, under the definition's name where it has names, and as many meanings as numbers. Wording may differ, but a
 meaning that shares more words with another number's definition than with its own is taken for that other's. Tables that say which values
@@ -54,7 +54,7 @@ def definitions():
     for line in text_of("crates/model/specs/Answer.antt").splitlines():
         if line.startswith("-- "):
             meanings = [meaning.strip() for meaning in line[3:].split(";")]
-        elif found := re.fullmatch(r"numberOf (\w+) = (\d+)", line):
+        elif found := re.fullmatch(r"number_of (\w+) = (\d+)", line):
             meaning = meanings.pop(0) if meanings else ""
             add(table, int(found[2]), Row(found[1], meaning, None))
     return table

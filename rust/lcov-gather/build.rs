@@ -1,13 +1,13 @@
-//! Links the port, an archive that `rt staticlib lcov_c` writes.
+//! Links the port, an archive that `rt lib` in crates/lcov_c writes.
 //!
-//! It is found where LCOV_PORT says (as seen from the repository's root), by default `target/staticlib/liblcov_c.a`.
+//! It is found where LCOV_PORT says (as seen from the repository's root), by default `crates/lcov_c/out/liblcov_c.a`.
 
 use std::env;
 use std::path::PathBuf;
 
 fn main() {
     let root = PathBuf::from(env::var_os("CARGO_MANIFEST_DIR").unwrap()).join("../..");
-    let named = env::var_os("LCOV_PORT").unwrap_or_else(|| "target/staticlib/liblcov_c.a".into());
+    let named = env::var_os("LCOV_PORT").unwrap_or_else(|| "crates/lcov_c/out/liblcov_c.a".into());
     let archive = root.join(named);
 
     println!("cargo:rerun-if-env-changed=LCOV_PORT");

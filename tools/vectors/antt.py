@@ -1,19 +1,19 @@
 """How questions and answers are written in antt, so that a person can read them."""
 
 RECORDS = {
-    "TN": "testName",
-    "SF": "sourceFile",
-    "FN": "functionName",
-    "FNDA": "functionData",
-    "FNF": "functionsFound",
-    "FNH": "functionsHit",
-    "BRDA": "branchData",
-    "BRF": "branchesFound",
-    "BRH": "branchesHit",
-    "DA": "lineData",
-    "LF": "linesFound",
-    "LH": "linesHit",
-    "end_of_record": "endOfRecord",
+    "TN": "test_name",
+    "SF": "source_file",
+    "FN": "function_name",
+    "FNDA": "function_data",
+    "FNF": "functions_found",
+    "FNH": "functions_hit",
+    "BRDA": "branch_data",
+    "BRF": "branches_found",
+    "BRH": "branches_hit",
+    "DA": "line_data",
+    "LF": "lines_found",
+    "LH": "lines_hit",
+    "end_of_record": "end_of_record",
 }
 
 # the places of byte strings among a record's values
@@ -93,4 +93,4 @@ def told(answer, value):
     if word == "ok":
         return "gives " + argument(value(rest))
     number, text, line, field = rest.split(" ")
-    return f"refuses {number} {line} {field}" if text == "0" else f"refusesIn {number} {text} {line} {field}"
+    return f"refuses {number} {line} {field}" if text == "0" else f"refuses_in {number} {text} {line} {field}"

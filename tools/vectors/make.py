@@ -6,7 +6,7 @@
 
 Both ways it fails if the port answers a question otherwise than the Rust. The written file holds the examples of cases.py and a law for
 each kind of them: the definitions of crate `model` give the same answers, by computation. Asked.antt, written by hand, says what is asked.
-It needs cargo, the Rust (see rust/oracle) and the static library (`rt staticlib lcov_c`).
+It needs cargo, the Rust (see rust/oracle) and the static library (`rt lib` in crates/lcov_c).
 """
 
 import argparse
@@ -54,7 +54,7 @@ class Kind:
 
 
 class Lines(Kind):
-    name, type, ask = "lines", "Line", "askLine"
+    name, type, ask = "lines", "Line", "ask_line"
 
     def requests(self, line):
         return [f"line {hexed(line)}", f"print {hexed(line)}"]
@@ -66,7 +66,7 @@ class Lines(Kind):
 
 
 class Paths(Kind):
-    name, type, ask = "paths", "Paths", "askPaths"
+    name, type, ask = "paths", "Paths", "ask_paths"
 
     def requests(self, pair):
         return [f"paths {hexed(pair[0])} {hexed(pair[1])}"]
@@ -77,7 +77,7 @@ class Paths(Kind):
 
 
 class Texts(Kind):
-    name, type, ask = "texts", "Text", "askText"
+    name, type, ask = "texts", "Text", "ask_text"
 
     def requests(self, text):
         return [f"text {hexed(text)}"]
@@ -87,7 +87,7 @@ class Texts(Kind):
 
 
 class Gathers(Kind):
-    name, type, ask = "gathers", "Gather", "askGather"
+    name, type, ask = "gathers", "Gather", "ask_gather"
 
     def requests(self, gather):
         mode, texts = gather
@@ -100,7 +100,7 @@ class Gathers(Kind):
 
 
 class Inserts(Kind):
-    name, type, ask = "inserts", "Inserts", "askInserts"
+    name, type, ask = "inserts", "Inserts", "ask_inserts"
 
     def requests(self, inserts):
         return [f"insert {inserts or '-'}"]
@@ -110,12 +110,12 @@ class Inserts(Kind):
         return ranges, antt.told(answers[0], lambda held: antt.pair_list(pairs_of(held)))
 
     def range(self, written):
-        made, between = ("halfOpen", "..") if ".." in written else ("range", "-")
+        made, between = ("half_open", "..") if ".." in written else ("range", "-")
         return " ".join([made, *written.split(between)])
 
 
 class Queries(Kind):
-    name, type, ask = "queries", "Query", "askQuery"
+    name, type, ask = "queries", "Query", "ask_query"
 
     def requests(self, query):
         pairs, start, end = query
@@ -128,7 +128,7 @@ class Queries(Kind):
 
 
 class Filters(Kind):
-    name, type, ask = "filters", "Filtered", "askFilter"
+    name, type, ask = "filters", "Filtered", "ask_filter"
 
     def requests(self, question):
         text, pairs = question
@@ -174,17 +174,15 @@ def summary(name, pairs):
 
 # what the examples may use, by module
 USED = {
-    "mathlib.Core.Path": ["refl"],
-    "mathlib.Core.Bool": ["true", "false"],
-    "mathlib.Core.List": ["List", "[]", "_∷_", "_++_"],
-    "mathlib.Core.Option": ["none", "some"],
-    "Rattle·model.specs.declared.Mode.the-variants": ["Checked", "Lossy"],
-    "Rattle·model.specs.Bytes": ["ascii"],
-    "Rattle·model.specs.Record": list(antt.RECORDS.values()),
-    "Rattle·model.specs.Ranges": ["halfOpen"],
-    "Rattle·model_vectors·specs.specs.Asked": [
-        "Agrees", *(name for kind in KINDS for name in (kind.type, kind.ask)), "gives", "refuses", "refusesIn", "range", "less", "equal",
-        "greater", "open-asked",
+    "Rattle.std.specs.Prelude": ["refl", "true", "false", "List", "[]", "◌∷◌", "◌++◌"],
+    "Rattle.std.proofs.Math.Option": ["none", "some"],
+    "Rattle.model.specs.declared.Mode.TheVariants": ["Checked", "Lossy"],
+    "Rattle.model.specs.Bytes": ["ascii"],
+    "Rattle.model.specs.Record": list(antt.RECORDS.values()),
+    "Rattle.model.specs.Ranges": ["half_open"],
+    "Rattle.model_vectors.specs.Asked": [
+        "Agrees", *(name for kind in KINDS for name in (kind.type, kind.ask)), "gives", "refuses", "refuses_in", "range", "less", "equal",
+        "greater", "open_asked",
     ],
 }
 
@@ -193,7 +191,7 @@ def uses(body):
     """The imports that the laws need."""
     words = set(body.replace("(", " ").replace(")", " ").replace(",", " ").split())
     for module, names in USED.items():
-        needed = [name for name in names if name.strip("_") in words]
+        needed = [name for name in names if name.strip("◌") in words]
         if needed:
             yield f"use {module}.{{{', '.join(needed)}}}"
 
@@ -216,7 +214,7 @@ def law(kind, pairs):
     vectors = [kind.vector(*pair) for pair in pairs[: len(cases.EXAMPLES[kind.name])]]
     return (
         f"\nabbrev pub {kind.name} : List {kind.type}\n{laid_out(kind.name, vectors)}"
-        f"\npub {kind.name}-agree : Agrees {kind.ask} {kind.name}\nunfolding open-asked\n{kind.name}-agree = refl\n"
+        f"\npub {kind.name}_agree : Agrees {kind.ask} {kind.name}\nunfolding open_asked\n{kind.name}_agree = refl\n"
     )
 
 

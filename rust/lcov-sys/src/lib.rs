@@ -1,4 +1,4 @@
-//! The port for Rust programs: the calls of the archive that `rt staticlib lcov_c` writes, as include/lcov.h declares them for C, and safe
+//! The port for Rust programs: the calls of the archive that `rt lib` in crates/lcov_c writes, as include/lcov.h declares them for C, and safe
 //! ones over them. A program that uses them links the archive (rust/lcov-gather/build.rs shows how).
 //!
 //! A call that can be refused returns 0, or the number of a [`Fault`], and puts eight words into `answer` where that holds them all; a

@@ -16,9 +16,10 @@ pub struct Program {
 }
 
 impl Program {
-    /// `rt check test_line_num` writes it.
+    /// `rt run` in crates/test_line_num writes it.
     pub fn start() -> io::Result<Self> {
-        let path = Path::new(env!("CARGO_MANIFEST_DIR")).join("../../target/bin/test_line_num");
+        let path = Path::new(env!("CARGO_MANIFEST_DIR"))
+            .join("../../crates/test_line_num/out/test_line_num");
         let mut command = Command::new(path);
         let mut child = command
             .stdin(Stdio::piped())
