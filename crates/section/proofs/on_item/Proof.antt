@@ -86,7 +86,7 @@ on_item_spec =
     (λ c κs. search rules)
     (λ c. let n = entered c.before.before.before.before.before in
     let z = rows n in
-    n.add_row.auto.words ∙ z.reserve_row-used.auto.0 ∙ (header z).reserve_row-header_used.auto.0)
+    n.add_row.auto.words ∙ z.reserve_row-used.auto.words ∙ (header z).reserve_row-header_used.auto.words)
     (λ c. let n = entered c.before.before.before.before.before in
     let e = n.before.before.capacity.ensures in
     let z = rows n in
@@ -94,8 +94,8 @@ on_item_spec =
     let s = start y in
     let α = adding_as c.before.before.before.before.before.in-Items.is e n.add_row.ensures in
     next_as c.with_open.ensures
-    (line-next s.requires.0 y.reserve_row-header_used.ensures y.reserve_row-header_used.auto.0 (places y).kept z.reserve_row-used.ensures z.reserve_row-used.auto.0 s.args.row s.args.accumulate
-    α (flushed_there α.still (omega arith)) (omega arith) n.add_row.auto.1.0))
+    (line-next s.requires.0 y.reserve_row-header_used.ensures y.reserve_row-header_used.auto.words (places y).kept z.reserve_row-used.ensures z.reserve_row-used.auto.words s.args.row s.args.accumulate
+    α (flushed_there α.still (omega arith)) (omega arith) n.add_row.auto.words))
     (λ c. let p = places (header (rows (entered c.before.before.before.before.before))) in omega arith)
     (λ c κs. let n = entered c.before.before.before.before.before in
     let e = n.before.before.capacity.ensures in
@@ -104,7 +104,7 @@ on_item_spec =
     let p = places y in (
       (adding_as c.before.before.before.before.before.in-Items.is refl n.add_row.ensures).still,
       omega (arith, e, z.reserve_row-used.ensures.most),
-      omega (arith, e, z.reserve_row-used.ensures.most, n.add_row.auto.1.0, z.reserve_row-used.auto.0, y.reserve_row-header_used.auto.0),
+      omega (arith, e, z.reserve_row-used.ensures.most, n.add_row.auto.words, z.reserve_row-used.auto.words, y.reserve_row-header_used.auto.words),
     ))
     (λ c. let p = places (header (rows (entered (given c.before.before)))) in omega arith)
     (λ c. let z = rows (entered (given c.before.before.before)) in
@@ -113,19 +113,19 @@ on_item_spec =
     let p = places (header z) in omega (arith, c.before.before.before.before.flush_midway-all.ensures.still.room, z.reserve_row-used.ensures.most))
     (λ c. let n = entered (given c.before.before.before.before.before) in
     let z = rows n in
-    c.before.before.before.before.before.flush_midway-all.auto.1.0 ∙ n.add_row.auto.1.0 ∙ z.reserve_row-used.auto.0 ∙ (header z).reserve_row-header_used.auto.0)
+    c.before.before.before.before.before.flush_midway-all.auto.words ∙ n.add_row.auto.words ∙ z.reserve_row-used.auto.words ∙ (header z).reserve_row-header_used.auto.words)
     (λ c. let m = given c.before.before.before.before.before in
     let n = entered m in
     let e = n.before.before.capacity.ensures in
     let z = rows n in
     let y = header z in
     let s = start y in
-    line-past s.requires.0 y.reserve_row-header_used.ensures y.reserve_row-header_used.auto.0 (places y).kept z.reserve_row-used.ensures z.reserve_row-used.auto.0 s.args.row s.args.accumulate
+    line-past s.requires.0 y.reserve_row-header_used.ensures y.reserve_row-header_used.auto.words (places y).kept z.reserve_row-used.ensures z.reserve_row-used.auto.words s.args.row s.args.accumulate
     (adding_as m.in-Items.is e n.add_row.ensures) (flushed_as e (flushed_emptied _ c.before.before.before.before.before.flush_midway-all.ensures)) (omega (arith, c.before.before.before.before.before.flush_midway-all.ensures.none)))
     (λ c κs. search rules)
     (λ c. let n = entered (given c.before.before.before.before.before.before) in
     let z = rows n in
-    c.before.before.before.before.before.before.flush_midway-all.auto.1.0 ∙ n.add_row.auto.1.0 ∙ z.reserve_row-used.auto.0 ∙ (header z).reserve_row-header_used.auto.0)
+    c.before.before.before.before.before.before.flush_midway-all.auto.words ∙ n.add_row.auto.words ∙ z.reserve_row-used.auto.words ∙ (header z).reserve_row-header_used.auto.words)
     (λ c. let m = given c.before.before.before.before.before.before in
     let n = entered m in
     let e = n.before.before.capacity.ensures in
@@ -133,14 +133,14 @@ on_item_spec =
     let y = header z in
     let s = start y in
     next_as c.with_open-in-Items.ensures
-    (line-next s.requires.0 y.reserve_row-header_used.ensures y.reserve_row-header_used.auto.0 (places y).kept z.reserve_row-used.ensures z.reserve_row-used.auto.0 s.args.row s.args.accumulate
+    (line-next s.requires.0 y.reserve_row-header_used.ensures y.reserve_row-header_used.auto.words (places y).kept z.reserve_row-used.ensures z.reserve_row-used.auto.words s.args.row s.args.accumulate
     (adding_as m.in-Items.is e n.add_row.ensures) (flushed_as e (flushed_emptied _ c.before.before.before.before.before.before.flush_midway-all.ensures)) (omega (arith, c.before.before.before.before.before.before.flush_midway-all.ensures.none))
-    (c.before.before.before.before.before.before.flush_midway-all.auto.1.0 ∙ n.add_row.auto.1.0)))
+    (c.before.before.before.before.before.before.flush_midway-all.auto.words ∙ n.add_row.auto.words)))
     (λ c. search rules)
     (λ c. search rules)
     (λ c. let e = c.before.before.before.before.before.capacity.ensures in
     let z = rows c.before.before.before in
     let y = header z in
     let s = start y in
-    line_refused s.requires.0 y.reserve_row-header_used.ensures y.reserve_row-header_used.auto.0 (places y).kept z.reserve_row-used.ensures z.reserve_row-used.auto.0 s.args.row s.args.accumulate
-    c.in-Refused.fault-1 (adding_as c.in-Refused.is e c.before.before.before.add_row.ensures)))
+    line_refused s.requires.0 y.reserve_row-header_used.ensures y.reserve_row-header_used.auto.words (places y).kept z.reserve_row-used.ensures z.reserve_row-used.auto.words s.args.row s.args.accumulate
+    c.in-Refused.fault (adding_as c.in-Refused.is e c.before.before.before.add_row.ensures)))
