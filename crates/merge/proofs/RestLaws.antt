@@ -56,6 +56,7 @@ rest_end f m k h = ap (tabulate (λ i. f (k + i))) (let z : m - k ≡ 0 = omega 
 -- what holds at each place holds of each
 pub each-tabulate : (P : Entry → Type 0) (f : ℕ → Entry) (n : ℕ) → ((j : ℕ) → j < n → P (f j)) → (a : Entry) → Member a (tabulate f n) → P a
 unfolding tabulate
+each-tabulate P f zero h a x'' = elim x'' [ ]
 each-tabulate P f (suc n) h a (here e) = rw e (h 0 (omega arith))
 each-tabulate P f (suc n) h a (there i) = each-tabulate P (λ j. f (suc j)) n (λ j l. h (suc j) (omega arith)) a i
 

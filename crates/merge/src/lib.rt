@@ -5,6 +5,8 @@
 // The walk leaves the joined entries, main, at their positions. New rows are appended behind them, the delta, and the
 // insert position of each is written to the spare words behind the index. At the end the delta is interleaved with main
 // in one pass.
+#![tactic(auto)]
+
 ghost use Rattle.std.specs.Prelude.{◌≡◌, ◌+◌, ◌≤◌, length, take};
 ghost use Rattle.table.specs.Store.{Store};
 ghost use Rattle.table_interleave.specs.Interleaved.{Ascending};

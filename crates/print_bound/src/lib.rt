@@ -1,5 +1,7 @@
 // An upper bound of the bytes that a report prints, computed from its rows alone. Where the output is that long, no
 // measuring pass is needed.
+#![tactic(auto)]
+
 ghost use Rattle.std.specs.Prelude.{◌≡◌, true, List, ℕ, ◌+◌, ◌≤◌, ◌<◌, min, length};
 ghost use Rattle.table.specs.Store.{Store};
 ghost use Rattle.model.specs.Limits.{u64_max};

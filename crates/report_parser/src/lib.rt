@@ -1,5 +1,7 @@
 // A text read into the lent scratch: `section::parse`, reached by `Report::from_reader` (SPEC 3.1). "A text is cut at each
 // byte 10; an empty last piece is no line." The words hold the state between two lines; see crates section and table.
+#![tactic(auto)]
+
 mod effect;
 
 ghost use Rattle.std.specs.Prelude.{◌≡◌, true, ◌≤◌, ◌<◌, length};

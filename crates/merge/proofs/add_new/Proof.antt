@@ -11,12 +11,10 @@ add_new_spec =
     tie.close
     (tie.spec
     (λ c. search rules)
-    (λ c. stayed refl c.if1.true refl)
+    (λ c. stayed refl c.if-limit-used.true refl)
     (λ c κs. search rules)
     (λ c. search rules)
     (λ c κs. search rules)
     (λ c. search rules)
     (λ c. search rules)
-    (λ c. let p = c.before.before in
-    let g = p.before.before.before.before in
-    grown_row _ _ g.before.before.if1.false g.push_row.ensures.1.0 p.put.ensures.1.0 p.put.ensures.0))
+    (λ c. grown_row _ _ c.before.before.before.before.before.before.before.before.if-limit-used.false c.before.before.before.before.before.before.push_row.ensures.1.0 c.before.before.put.ensures.1.0 c.before.before.put.ensures.0))

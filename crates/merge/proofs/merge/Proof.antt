@@ -17,95 +17,95 @@ use borrow.Author.Rules.{rules}
 use Rattle.merge.proofs.merge.Statement.{statement}
 use Rattle.merge.proofs.merge.Tie as tie
 
-abbrev invariant-loop : tie.invariant-loop
+abbrev invariant-loop : tie.invariant-loop-k
 invariant-loop text words₀ base index limit n used m mode walk₀ spare section₀ gap₀ k₀ words walk section gap k =
     Lent base words₀ words
     × Walked text (rows_part base index limit words) (drop base words₀) (spare_word (take base words) (index + limit)) index limit m mode
     (answer text words₀ base index limit n m mode) walk k
     × OneSection text section
 
-abbrev decreases-loop : tie.decreases-loop
+abbrev decreases-loop : tie.decreases-loop-k
 decreases-loop text words₀ base index limit n used m mode walk₀ spare section₀ gap₀ k₀ words walk section gap k = m - k
 
-abbrev start : tie.At-loop invariant-loop decreases-loop → tie.Start invariant-loop decreases-loop
+abbrev start : tie.At-loop-k invariant-loop decreases-loop → tie.Start invariant-loop decreases-loop
 start l = l.before.before.before.before
 
 -- the part before base is lent
-whole : (l : tie.At-loop invariant-loop decreases-loop) → (start l).args.base ≤ length l.loop.words
-whole l = omega (arith, (start l).requires.whole, l.loop.invariant.0.size)
+whole : (l : tie.At-loop-k invariant-loop decreases-loop) → (start l).args.base ≤ length l.loop-k.words
+whole l = omega (arith, (start l).requires.whole, l.loop-k.invariant.0.size)
 
 -- what `omega` needs later
-small : (l : tie.At-loop invariant-loop decreases-loop) → ((start l).args.limit < 2 ^ 64) × ((start l).args.m < 2 ^ 64)
+small : (l : tie.At-loop-k invariant-loop decreases-loop) → ((start l).args.limit < 2 ^ 64) × ((start l).args.m < 2 ^ 64)
 small l = (omega arith, omega arith)
 
 -- the row of the other table
-abbrev got : tie.After-step invariant-loop decreases-loop → tie.After-get invariant-loop decreases-loop
+abbrev got : tie.After-step invariant-loop decreases-loop → tie.After-get-read invariant-loop decreases-loop
 got a = a.before.before.before
 
-abbrev turn : tie.After-get invariant-loop decreases-loop → tie.At-loop invariant-loop decreases-loop
+abbrev turn : tie.After-get-read invariant-loop decreases-loop → tie.At-loop-k invariant-loop decreases-loop
 turn g = g.before.before.before.before
 
-is_row : (g : tie.After-get invariant-loop decreases-loop)
-    → g.get.result ≡ row (drop (start (turn g)).args.base (start (turn g)).args.words.now) (start (turn g)).args.index (turn g).loop.k
-is_row g = g.get.ensures ∙ ap (λ (ws : List ℕ). row ws (start (turn g)).args.index (turn g).loop.k) (other-part (turn g).loop.invariant.0)
+is_row : (g : tie.After-get-read invariant-loop decreases-loop)
+    → g.get-read.result ≡ row (drop (start (turn g)).args.base (start (turn g)).args.words.now) (start (turn g)).args.index (turn g).loop-k.k
+is_row g = g.get-read.ensures ∙ ap (λ (ws : List ℕ). row ws (start (turn g)).args.index (turn g).loop-k.k) (other-part (turn g).loop-k.invariant.0)
 
 -- as it is spelled when it is merged
-means : (q : tie.After-with-known-names invariant-loop decreases-loop)
+means : (q : tie.After-with_known_names-row invariant-loop decreases-loop)
     → SameEntry (start (turn q.before)).args.text.now
-    (row (drop (start (turn q.before)).args.base (start (turn q.before)).args.words.now) (start (turn q.before)).args.index (turn q.before).loop.k)
-    q.with-known-names.result
+    (row (drop (start (turn q.before)).args.base (start (turn q.before)).args.words.now) (start (turn q.before)).args.index (turn q.before).loop-k.k)
+    q.with_known_names-row.result
 means q =
     let g = q.before in
     let l = turn g in
     same-entry_as (is_row g)
-    (q.with-known-names.ensures _ l.loop.inv.2 (whole_as (is_row g) ((start l).pre.other.whole l.loop.k g.before.before.before.loop-test.true)))
+    (q.with_known_names-row.ensures _ l.loop-k.inv.2 (whole_as (is_row g) ((start l).requires.other.whole l.loop-k.k g.before.before.before.loop-k-test.true)))
 
 -- and the part comes back
 lent : (a : tie.After-step invariant-loop decreases-loop)
-    → Lent (start (turn (got a))).args.base (start (turn (got a))).args.words.now (a.step.new.1.0 ++ drop (start (turn (got a))).args.base (turn (got a)).loop.words)
-lent a = let l = turn (got a) in lent_back l.loop.inv.0 a.step.new.1.0 (start l).pre.whole a.step.auto.1.0
+    → Lent (start (turn (got a))).args.base (start (turn (got a))).args.words.now (a.step.new.words ++ drop (start (turn (got a))).args.base (turn (got a)).loop-k.words-1)
+lent a = let l = turn (got a) in lent_back l.loop-k.inv.0 a.step.new.words (start l).requires.whole a.step.auto.words
 
 same : (a : tie.After-step invariant-loop decreases-loop)
-    → take (start (turn (got a))).args.base (a.step.new.1.0 ++ drop (start (turn (got a))).args.base (turn (got a)).loop.words) ≡ a.step.new.1.0
-same a = let l = turn (got a) in lent-front l.loop.inv.0 a.step.new.1.0 (start l).pre.whole a.step.auto.1.0
+    → take (start (turn (got a))).args.base (a.step.new.words ++ drop (start (turn (got a))).args.base (turn (got a)).loop-k.words-1) ≡ a.step.new.words
+same a = let l = turn (got a) in lent-front l.loop-k.inv.0 a.step.new.words (start l).requires.whole a.step.auto.words
 
 -- ---- the row is taken
 
-abbrev stepped : tie.After-known-told2 invariant-loop decreases-loop → tie.After-step invariant-loop decreases-loop
+abbrev stepped : tie.In-Next invariant-loop decreases-loop → tie.After-step invariant-loop decreases-loop
 stepped x = x.before.before.before.before.before
 
-abbrev next : tie.After-known-told2 invariant-loop decreases-loop → Walk
-next x = x.before.next.given.0.0
+abbrev next : tie.In-Next invariant-loop decreases-loop → Walk
+next x = x.in-Next.next
 
 -- its place
-below : (x : tie.After-known-told2 invariant-loop decreases-loop) → (turn (got (stepped x))).loop.k < (start (turn (got (stepped x)))).args.m
-below x = (got (stepped x)).before.before.before.loop-test.taken
+below : (x : tie.In-Next invariant-loop decreases-loop) → (turn (got (stepped x))).loop-k.k < (start (turn (got (stepped x)))).args.m
+below x = (got (stepped x)).before.before.before.loop-k-test.taken
 
 -- the words as they are then
 abbrev after : tie.After-step invariant-loop decreases-loop → List ℕ
-after a = a.step.new.1.0 ++ drop (start (turn (got a))).args.base (turn (got a)).loop.words
+after a = a.step.new.words ++ drop (start (turn (got a))).args.base (turn (got a)).loop-k.words-1
 
 -- what the loop says of words and a walk
-abbrev Goes : tie.At-loop invariant-loop decreases-loop → List ℕ → Walk → ℕ → Type 0
+abbrev Goes : tie.At-loop-k invariant-loop decreases-loop → List ℕ → Walk → ℕ → Type 0
 Goes l words walk k =
     let s = (start l).args in
     Walked s.text.now (rows_part s.base s.index s.limit words) (drop s.base s.words.now)
     (spare_word (take s.base words) (s.index + s.limit)) s.index s.limit s.m s.mode
     (answer s.text.now s.words.now s.base s.index s.limit s.n s.m s.mode) walk k
 
-goes : (x : tie.After-known-told2 invariant-loop decreases-loop) → Goes (turn (got (stepped x))) (after (stepped x)) (next x) ((turn (got (stepped x))).loop.k + 1)
+goes : (x : tie.In-Next invariant-loop decreases-loop) → Goes (turn (got (stepped x))) (after (stepped x)) (next x) ((turn (got (stepped x))).loop-k.k + 1)
 goes x =
     let a = stepped x in
     let q = a.before.before in
     let l = turn (got a) in
     let spare = (start l).args.index + (start l).args.limit in
     rw (same a)
-    (walked_next l.loop.inv.1 (start l).pre.other (below x) q.with-known-names.result (means q)
+    (walked_next l.loop-k.inv.1 (start l).requires.other (below x) q.with_known_names-row.result (means q)
     (take spare a.step.last.1.0) (spare_word a.step.last.1.0 spare) a.step.result (next x)
-    x.before.next.given.1 a.step.ensures.0 a.step.ensures.1)
+    x.in-Next.is a.step.ensures.0 a.step.ensures.1)
 
 -- the end of the loop
-abbrev left : tie.After-merge-delta invariant-loop decreases-loop → tie.At-loop invariant-loop decreases-loop
+abbrev left : tie.After-merge_delta invariant-loop decreases-loop → tie.At-loop-k invariant-loop decreases-loop
 left s = s.before.before.before
 
 pub merge_spec : {M : Type 1} → statement M
@@ -114,63 +114,57 @@ merge_spec =
     (tie.spec
     invariant-loop
     decreases-loop
-    (λ c. let τ = c.before.before.requires in omega (arith, τ.words, τ.whole))
+    (λ c. let τ = c.before.before.requires in omega (arith, τ.words-1, τ.whole))
     (λ c κs. search rules)
-    (λ c. let s = c.before.before.before in
-    (record { other = refl; size = refl }, walked_start s.args.mode s.requires, c.no_section.ensures _))
+    (λ c. (record { other = refl; size = refl }, walked_start c.before.before.before.args.mode c.before.before.before.requires, c.no_section-section.ensures _))
     (λ c. let w = whole c.before in search rules)
     (λ c. whole c.before)
-    (λ c. let w = whole c.before.before in search rules)
-    (λ c. let w = whole c.before.before in search rules)
-    (λ c κs. let l = c.before.before.before in
-    (rw (other-part l.loop.invariant.0) (start l).requires.other.store, omega (arith, (start l).requires.other.room)))
+    (λ c. let w = whole c.before in search rules)
+    (λ c. let w = whole c.before in search rules)
+    (λ c κs. (rw (other-part c.before.before.loop-k.invariant.0) (start c.before.before).requires.other.store, omega (arith, (start c.before.before).requires.other.room)))
     (λ c κs. search rules)
     (λ c. whole (turn c.before))
     (λ c. simp length-take (omega (arith, whole (turn c.before.before))))
     (λ c κs. let q = c.before in
     let l = turn q.before in
-    (walked_ready l.loop.inv.1 (start l).pre.other (omega arith) q.with-known-names.result (means q), simp length-take (omega (arith, (start l).pre.words, whole l))))
+    (walked_ready l.loop-k.inv.1 (start l).requires.other (omega arith) q.with_known_names-row.result (means q), simp length-take (omega (arith, (start l).requires.words-1, whole l))))
     (λ c. search rules)
     (λ c. (lent c.before.before.before.before.before).size)
     (λ c. let a = c.before.before.before.before.before in
     let q = a.before.before in
     let l = turn (got a) in
     merged-refused
-    (walked_refused l.loop.inv.1 (start l).pre.other (omega arith) q.with-known-names.result (means q) _ a.step.result _ c.before.fault.given.1
+    (walked_refused l.loop-k.inv.1 (start l).requires.other (omega arith) q.with_known_names-row.result (means q) _ a.step.result _ c.before.in-Refused.is
     a.step.ensures.0))
     (λ c. search rules)
-    (λ c. let τ = (start (turn (got (stepped c)))).pre in omega (arith, (lent (stepped c)).size, τ.words, τ.whole))
-    (λ c. let τ = (start (turn (got (stepped c.before)))).pre in simp length-take (omega (arith, (lent (stepped c.before)).size, τ.words, τ.whole)))
-    (λ c. let x = c.before.before in omega (arith, (small (turn (got (stepped x)))).0, (goes x).joined.most))
-    (λ c κs. let x = c.before.before in
-    let g = got (stepped x) in
+    (λ c. let τ = (start (turn (got (stepped c)))).requires in omega (arith, (lent (stepped c)).size, τ.words-1, τ.whole))
+    (λ c. let τ = (start (turn (got (stepped c)))).requires in simp length-take (omega (arith, (lent (stepped c)).size, τ.words-1, τ.whole)))
+    (λ c. omega (arith, (small (turn (got (stepped c.before)))).0, (goes c.before).joined.most))
+    (λ c κs. let g = got (stepped c.before) in
     let l = turn g in
     let s = (start l).args in
-    let ω = (goes x).joined in (
-      ascending-front (after (stepped x)) s.base (s.index + s.limit) (omega (arith, (start l).pre.words)) ω.ascending,
+    let ω = (goes c.before).joined in (
+      ascending-front (after (stepped c.before)) s.base (s.index + s.limit) (omega (arith, (start l).requires.words-1)) ω.ascending,
       ω.from,
-      whole_as (is_row g) ((start l).pre.other.whole l.loop.k (below x)),
-      l.loop.inv.2,
+      whole_as (is_row g) ((start l).requires.other.whole l.loop-k.k (below c.before)),
+      l.loop-k.inv.2,
     ))
     (λ c κs. search rules)
-    (λ c. let x = c.before.before.before.before in omega (arith, below x, (small (turn (got (stepped x)))).1))
-    (λ c. let x = c.before.before.before.before in omega (arith, below x))
-    (λ c. let x = c.before.before.before.before in (lent (stepped x), goes x, c.before.section-of.ensures))
+    (λ c. omega (arith, below c.before.before.before, (small (turn (got (stepped c.before.before.before)))).1))
+    (λ c. omega (arith, below c.before.before.before))
+    (λ c. (lent (stepped c.before.before.before), goes c.before.before.before, c.before.section_of-section.ensures))
     (λ c. whole c.before)
     (λ c. simp length-take (omega (arith, whole c.before.before)))
-    (λ c κs. let l = c.before.before in
-    let τ = (start l).requires in
-    let ω = l.loop.invariant.1 in
-    let h = c.before.loop-test.false in (
-      (settle_store l.loop.words τ ω h (whole l), settle_rising l.loop.words τ ω h (whole l)),
-      (omega (arith, ω.joined.most), simp length-take (omega (arith, ω.joined.most, τ.words, whole l))),
+    (λ c κs. let τ = (start c.before.before).requires in
+    let ω = c.before.before.loop-k.invariant.1 in
+    let h = c.before.loop-k-test.false in (
+      (settle_store c.before.before.loop-k.words-1 τ ω h (whole c.before.before), settle_rising c.before.before.loop-k.words-1 τ ω h (whole c.before.before)),
+      (omega (arith, ω.joined.most), simp length-take (omega (arith, ω.joined.most, τ.words-1, whole c.before.before))),
     ))
-    (λ c. let l = left c.before.before.before in omega (arith, l.loop.inv.1.joined.most, (start l).pre.words, (start l).pre.whole))
+    (λ c. let l = left c.before.before.before in omega (arith, l.loop-k.inv.1.joined.most, (start l).requires.words-1, (start l).requires.whole))
     (λ c κs. tt)
-    (λ c. let s = c.before.before.before.before in
-    let l = left s in
-    (lent_back l.loop.inv.0 s.merge-delta.new.0 (start l).pre.whole s.merge-delta.auto.0).size)
-    (λ c. let s = c.before.before.before.before in
-    let l = left s in
-    merged_done l.loop.words (start l).pre l.loop.inv.1 s.before.before.loop-test.false (whole l) s.merge-delta.new.0
-    s.merge-delta.ensures _ (lent-front l.loop.inv.0 s.merge-delta.new.0 (start l).pre.whole s.merge-delta.auto.0) c.finish-merge.result c.finish-merge.ensures))
+    (λ c. let l = left c.before.before.before.before in
+    (lent_back l.loop-k.inv.0 c.before.before.before.before.merge_delta.new.words (start l).requires.whole c.before.before.before.before.merge_delta.auto.words).size)
+    (λ c. let l = left c.before.before.before.before in
+    merged_done l.loop-k.words (start l).requires l.loop-k.inv.1 c.before.before.before.before.before.before.loop-k-test.false (whole l) c.before.before.before.before.merge_delta.new.words
+    c.before.before.before.before.merge_delta.ensures _ (lent-front l.loop-k.inv.0 c.before.before.before.before.merge_delta.new.words (start l).requires.whole c.before.before.before.before.merge_delta.auto.words) c.finish_merge.result c.finish_merge.ensures))

@@ -14,10 +14,9 @@ merge_delta_spec =
     (λ c. omega arith)
     (λ c. omega arith)
     (λ c. omega arith)
-    (λ c κs. let s = c.before.before.before.before.before in ((s.requires.0.0, omega arith), (s.requires.1.0, s.requires.1.1, s.requires.0.1)))
+    (λ c κs. ((c.before.before.before.before.before.requires.0.0, omega arith), (c.before.before.before.before.before.requires.1.0, c.before.before.before.before.before.requires.1.1, c.before.before.before.before.before.requires.0.1)))
     (λ c. search rules)
     (λ c. let w = c.before.before.interleave in record { store = w.ensures.0; rows = w.ensures.1 })
-    (λ c. let s = c.before.before.before.before in
-    let z : s.args.spare + 0 ≡ s.args.spare = omega arith in
-    record { store = s.requires.0.0; rows = interleaved_none s.requires.0.1 (λ l. rw z c.if2.false) })
-    (λ c. let s = c.before.before in record { store = s.requires.0.0; rows = interleaved_none s.requires.0.1 (λ l. absurd (omega arith)) }))
+    (λ c. let z : c.before.before.before.before.args.spare + 0 ≡ c.before.before.before.before.args.spare = omega arith in
+    record { store = c.before.before.before.before.requires.0.0; rows = interleaved_none c.before.before.before.before.requires.0.1 (λ l. rw z c.if-first-n.false) })
+    (λ c. record { store = c.before.before.requires.0.0; rows = interleaved_none c.before.before.requires.0.1 (λ l. absurd (omega arith)) }))

@@ -7,10 +7,10 @@ use Rattle.print_bound.proofs.RowLaws.{Leaving, leaving_start, leaving_next, lea
 use Rattle.print_bound.proofs.all_fit.Statement.{statement}
 use Rattle.print_bound.proofs.all_fit.Tie as tie
 
-abbrev invariant-loop : tie.invariant-loop
+abbrev invariant-loop : tie.invariant-loop-j
 invariant-loop tags words index used room widths left₀ j₀ left j = (j ≤ used) × Leaving (tags_of tags) words room j left
 
-abbrev decreases-loop : tie.decreases-loop
+abbrev decreases-loop : tie.decreases-loop-j
 decreases-loop tags words index used room widths left₀ j₀ left j = used - j
 
 pub all_fit_spec : {M : Type 1} → statement M
@@ -21,7 +21,7 @@ all_fit_spec =
     decreases-loop
     (λ c κs. search rules)
     (λ c. search (leaving_start, rules))
-    (λ c κs. let s = c.before.before.before.before.before in omega (arith, c.loop-test.true, s.requires.1.0.rows_end, s.requires.1.0.index_end))
+    (λ c κs. omega (arith, c.loop-j-test.true, c.before.before.before.before.before.requires.1.0.rows_end, c.before.before.before.before.before.requires.1.0.index_end))
     (λ c κs. search rules)
     (λ c. search rules)
     (λ c. search rules)

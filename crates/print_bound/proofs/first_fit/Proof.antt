@@ -7,10 +7,10 @@ use Rattle.print_bound.proofs.RowLaws.{LeavingFirst, first-start, first_next, fi
 use Rattle.print_bound.proofs.first_fit.Statement.{statement}
 use Rattle.print_bound.proofs.first_fit.Tie as tie
 
-abbrev invariant-loop : tie.invariant-loop
+abbrev invariant-loop : tie.invariant-loop-i
 invariant-loop tags words index used n room widths left₀ i₀ left i = (i ≤ n) × LeavingFirst (tags_of tags) words index room i left
 
-abbrev decreases-loop : tie.decreases-loop
+abbrev decreases-loop : tie.decreases-loop-i
 decreases-loop tags words index used n room widths left₀ i₀ left i = n - i
 
 pub first_fit_spec : {M : Type 1} → statement M
@@ -21,7 +21,7 @@ first_fit_spec =
     decreases-loop
     (λ c κs. search rules)
     (λ c. search (first-start, rules))
-    (λ c κs. let s = c.before.before.before.before.before in (s.requires.1.0, omega (arith, c.loop-test.true, s.requires.1.1)))
+    (λ c κs. (c.before.before.before.before.before.requires.1.0, omega (arith, c.loop-i-test.true, c.before.before.before.before.before.requires.1.1)))
     (λ c κs. search rules)
     (λ c. search rules)
     (λ c. search rules)

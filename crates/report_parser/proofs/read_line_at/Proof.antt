@@ -8,23 +8,23 @@ use Rattle.report_parser.proofs.LineLaws.{line-end, line-end-fits, record_at, do
 use Rattle.report_parser.proofs.read_line_at.Statement.{statement}
 use Rattle.report_parser.proofs.read_line_at.Tie as tie
 
-abbrev line : tie.After-known-told2 → tie.After-read-record
-line c = c.before.before.before.before.before.before.before.before.before.before
+abbrev line : tie.In-Next → tie.After-read_record-got
+line c = c.before.before.before.before.before.before
 
-abbrev cut : tie.After-known-told2 → tie.After-first-line-len
+abbrev cut : tie.In-Next → tie.After-first_line_len-len
 cut c = (line c).before.before
 
-abbrev start : tie.After-first-line-len → tie.Start
+abbrev start : tie.After-first_line_len-len → tie.Start
 start f = f.before.before.before.before.before
 
 -- the line ends within the text, as far as `omega` needs it
-record Places (f : tie.After-first-line-len) : Type 0 where
-  inside : (start f).args.at + f.first-line-len.result ≤ length (start f).args.text.now
+record Places (f : tie.After-first_line_len-len) : Type 0 where
+  inside : (start f).args.at + f.first_line_len-len.result ≤ length (start f).args.text.now
   fits : length (start f).args.text.now < 2 ^ 63
 
-places : (f : tie.After-first-line-len) → Places f
+places : (f : tie.After-first_line_len-len) → Places f
 places f = record {
-  inside = line-end (start f).args.text.now (start f).args.at f.first-line-len.result (start f).requires.1.1 f.first-line-len.ensures.1;
+  inside = line-end (start f).args.text.now (start f).args.at f.first_line_len-len.result (start f).requires.1.1 f.first_line_len-len.ensures.1;
   fits = omega arith;
 }
 
@@ -54,10 +54,7 @@ read_line_at_spec =
     (λ c. let p = places (cut c) in omega arith)
     (λ c. let p = places (cut c) in omega arith)
     (λ c. search rules)
-    (λ c. let d = c.before in
-    let t = d.before.before.before.before in
-    let g = t.before.before.before in
-    let r = line c in
+    (λ c. let r = line c in
     let f = cut c in
-    done_next _ _ _ _ r.read-record.result r.read-record.ensures _ _ _ _ _ (start f).pre.1.1 f.first-line-len.ensures.0 f.first-line-len.ensures.1 g.got.given.0.0 g.got.given.1
-    t.step.new.1.0 t.step.result t.step.ensures d.done.given.0.0 d.done.given.1))
+    done_next _ _ _ _ r.read_record-got.result r.read_record-got.ensures _ _ _ _ _ (start f).requires.1.1 f.first_line_len-len.ensures.0 f.first_line_len-len.ensures.1 c.before.before.before.before.before.in-Read.made c.before.before.before.before.before.in-Read.is
+    c.before.before.before.step-done.new.words c.before.before.before.step-done.result c.before.before.before.step-done.ensures c.in-Next.after c.in-Next.is))

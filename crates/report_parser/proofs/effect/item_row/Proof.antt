@@ -9,25 +9,22 @@ item_row_spec =
     tie.close
     (tie.spec
     (λ c. search rules)
-    (λ c κs. let t = c.before in let s = t.before.before in (s.requires.0, (within_as t.«record».given.1 s.requires.1).text))
+    (λ c κs. (c.before.requires.0, (within_as c.in-FunctionName.is c.before.requires.1).text))
     (λ c κs. search rules)
-    (λ c. let t = c.before.before.before in
-    let e = t.«record».given.1 in
-    row_as e (start_of c.before.move-part.ensures (within_as e t.before.before.requires.1) c.start-row.ensures))
+    (λ c. let e = c.before.before.in-FunctionName.is in
+    row_as e (start_of c.before.move_part.ensures (within_as e c.before.before.before.requires.1) c.start_row.ensures))
     (λ c. search rules)
-    (λ c κs. let t = c.before in let s = t.before.before in (s.requires.0, (within_as t.record2.given.1 s.requires.1).text))
+    (λ c κs. (c.before.requires.0, (within_as c.in-FunctionData.is c.before.requires.1).text))
     (λ c κs. search rules)
-    (λ c. let t = c.before.before.before in
-    let e = t.record2.given.1 in
-    row_as e (calls_of_lem c.before.move-part2.ensures (within_as e t.before.before.requires.1) c.calls-row.ensures))
+    (λ c. let e = c.before.before.in-FunctionData.is in
+    row_as e (calls_of_lem c.before.move_part-in-FunctionData.ensures (within_as e c.before.before.before.requires.1) c.calls_row.ensures))
     (λ c. search rules)
     (λ c κs. search rules)
-    (λ c. row_as c.before.before.record3.given.1 (branch_of c.Branch-row.ensures))
+    (λ c. row_as c.before.in-BranchData.is (branch_of c.branch_row.ensures))
     (λ c. search rules)
-    (λ c κs. let t = c.before in let s = t.before.before in (s.requires.0, (within_as t.record4.given.1 s.requires.1).checksum))
+    (λ c κs. (c.before.requires.0, (within_as c.in-LineData.is c.before.requires.1).checksum))
     (λ c κs. search rules)
-    (λ c. let t = c.before.before.before in
-    let e = t.record4.given.1 in
-    row_as e (line_of c.before.move-checksum.ensures (within_as e t.before.before.requires.1) c.Line-row.ensures))
+    (λ c. let e = c.before.before.in-LineData.is in
+    row_as e (line_of c.before.move_checksum.ensures (within_as e c.before.before.before.requires.1) c.line_row.ensures))
     (λ c κs. search rules)
-    (λ c. other_of _ c.before.match.keys5 c.before.before.requires.2))
+    (λ c. other_of _ c.before.in_default.in_default-own.keys5 c.before.before.requires.2))

@@ -9,7 +9,7 @@ move_checksum_spec =
     tie.close
     (tie.spec
     (λ c. search rules)
-    (λ c κs. let t = c.before in let s = t.before.before in (s.requires.0, given-within _ t.checksum.given.1 s.requires.1))
+    (λ c κs. (c.before.requires.0, given-within _ c.in-Given.is c.before.requires.1))
     (λ c. search rules)
-    (λ c. let t = c.before.before in given-moved t.before.before.args.at _ t.checksum.given.1 c.move-part.ensures)
+    (λ c. given-moved c.before.before.args.at _ c.before.in-Given.is c.move_part.ensures)
     (λ c. search rules))

@@ -16,4 +16,4 @@ text_part_spec =
     (λ c. search (text_as, rules))
     (λ c. search (text_as, rules))
     (λ c. search (text_as, rules))
-    (λ c. no_text c.before.args.«record» c.match.keys5))
+    (λ c. no_text c.before.args.«record» c.in_default.in_default-own.keys5))
