@@ -10,7 +10,7 @@
  */
 #include "questions.h"
 
-enum { PATTERN = 0xa5, TEXTS = 600, BUNDLES = 600, RECORDS = 600, NUMBERS = 600, LISTS = 300, PATHS = 300 };
+enum { PATTERN = 0xa5, TEXTS = 600, BUNDLES = 600, RECORDS = 600, NUMBERS = 600, LISTS = 300, PATHS = 300, BOUNDS = 150 };
 enum { MARKS = LCOV_LABS * LCOV_MARK_WORDS };
 
 static bool scratch_filled;
@@ -166,6 +166,11 @@ static uint32_t gather_quotas(struct lent *lent)
     return lcov_gather_quotas(TEXT, LABS, QUOTAS, SCRATCH, OUT, MARKED, ANSWER);
 }
 
+static uint32_t hit_bounds(struct lent *lent)
+{
+    return lcov_hit_bounds(TEXT, OTHER_TEXT, SCRATCH, ANSWER);
+}
+
 static uint32_t filter(struct lent *lent)
 {
     return lcov_filter(TEXT, CONST_LIST, SCRATCH, OUT, ANSWER);
@@ -242,6 +247,11 @@ static uint32_t gather_quotas_tagged(struct lent *lent)
     return lcov_gather_quotas_tagged(TABLE, TEXT, LABS, QUOTAS, SCRATCH, OUT, MARKED, ANSWER);
 }
 
+static uint32_t hit_bounds_tagged(struct lent *lent)
+{
+    return lcov_hit_bounds_tagged(TABLE, TEXT, OTHER_TEXT, SCRATCH, ANSWER);
+}
+
 static uint32_t filter_tagged(struct lent *lent)
 {
     return lcov_filter_tagged(TABLE, TEXT, CONST_LIST, SCRATCH, OUT, ANSWER);
@@ -264,6 +274,7 @@ enum {
     GATHER_REVISIONS,
     WINDOWS,
     GATHER_QUOTAS,
+    HIT_BOUNDS,
     FILTER,
     FILTER_DISTINCT_STARTS,
     INSERT_RANGE,
@@ -279,6 +290,7 @@ enum {
     GATHER_REVISIONS_TAGGED,
     WINDOWS_TAGGED,
     GATHER_QUOTAS_TAGGED,
+    HIT_BOUNDS_TAGGED,
     FILTER_TAGGED,
     FILTER_DISTINCT_STARTS_TAGGED,
 };
@@ -290,6 +302,7 @@ enum {
 #define OF_CHECKED (OF_TEXT | UP_TO(14) | BIT(16))
 /* A text that a reading refuses is left out with its lab. */
 #define OF_QUOTAS (BIT(0) | BIT(10) | BIT(11) | BIT(12) | BIT(13) | BIT(14) | BIT(16) | BIT(29))
+#define OF_BOUNDS (OF_TEXT | BIT(27) | BIT(28))
 #define OF_LOSSY (OF_TEXT | BIT(13) | BIT(14) | BIT(16))
 #define OF_FILTER (OF_TEXT | BIT(14) | BIT(18))
 #define OF_TAGS (BIT(21) | BIT(22))
@@ -306,6 +319,7 @@ static const struct call CALLS[] = {
     [GATHER_REVISIONS] = { "gather_revisions", gather_revisions, true, true, true, false, OF_CHECKED | BIT(20) },
     [WINDOWS] = { "windows", windows, true, true, true, false, OF_CHECKED | BIT(24) },
     [GATHER_QUOTAS] = { "gather_quotas", gather_quotas, true, true, true, false, OF_QUOTAS },
+    [HIT_BOUNDS] = { "hit_bounds", hit_bounds, true, false, true, false, OF_BOUNDS },
     [FILTER] = { "filter", filter, true, true, true, false, OF_FILTER },
     [FILTER_DISTINCT_STARTS] = { "filter_distinct_starts", filter_distinct_starts, true, true, true, false, OF_FILTER },
     [INSERT_RANGE] = { "insert_range", insert_range, false, false, true, true, BIT(0) | BIT(15) | BIT(18) },
@@ -322,6 +336,7 @@ static const struct call CALLS[] = {
                                   OF_CHECKED | BIT(20) | OF_TAGS },
     [WINDOWS_TAGGED] = { "windows_tagged", windows_tagged, true, true, true, false, OF_CHECKED | BIT(24) | OF_TAGS },
     [GATHER_QUOTAS_TAGGED] = { "gather_quotas_tagged", gather_quotas_tagged, true, true, true, false, OF_QUOTAS | OF_TAGS },
+    [HIT_BOUNDS_TAGGED] = { "hit_bounds_tagged", hit_bounds_tagged, true, false, true, false, OF_BOUNDS | OF_TAGS },
     [FILTER_TAGGED] = { "filter_tagged", filter_tagged, true, true, true, false, OF_FILTER | OF_TAGS },
     [FILTER_DISTINCT_STARTS_TAGGED] = { "filter_distinct_starts_tagged", filter_distinct_starts_tagged, true, true, true, false,
                                         OF_FILTER | OF_TAGS },
@@ -504,13 +519,18 @@ static size_t entries_needed(const struct call *call, const struct input *in, si
     return enough;
 }
 
+static size_t line_ends(const struct text *text)
+{
+    size_t ends = 0;
+    for (size_t k = 0; k < text->len; k++)
+        ends += text->bytes[k] == '\n';
+    return ends;
+}
+
 /* Words for more entries than the input can have: a line makes two at most, and a text may end inside a line. */
 static size_t enough_words(const struct input *in)
 {
-    size_t lines = 1 + LCOV_MAX_TEXTS;
-    for (size_t k = 0; k < in->bytes.len; k++)
-        lines += in->bytes.bytes[k] == '\n';
-    return 2 * lines * LCOV_WORDS_PER_ENTRY;
+    return 2 * (1 + LCOV_MAX_TEXTS + line_ends(&in->bytes) + line_ends(&in->other)) * LCOV_WORDS_PER_ENTRY;
 }
 
 static void ask_scratches(const struct call *call, const struct input *in, size_t out)
@@ -628,6 +648,14 @@ static void ask_labs(struct text bundle, struct text tags, struct text labs, str
     struct input in = { .bytes = bundle, .tags = tags, .labs = labs, .quotas = quotas, .marks = PICK(LENS), .has_largest = one_in(40) };
     ask_report(GATHER_QUOTAS, &in);
     ask_report(GATHER_QUOTAS_TAGGED, &in);
+    free_input(&in);
+}
+
+static void ask_bounds(struct text least, struct text greatest, struct text tags)
+{
+    struct input in = { .bytes = least, .other = greatest, .tags = tags, .has_largest = one_in(40) };
+    ask_report(HIT_BOUNDS, &in);
+    ask_report(HIT_BOUNDS_TAGGED, &in);
     free_input(&in);
 }
 
@@ -795,6 +823,57 @@ static void ask_left_out(size_t place)
     free_input(&in);
 }
 
+static struct text text_of(const char *bytes)
+{
+    struct text text = { NULL, 0 };
+    put(&text, "%s", bytes);
+    return text;
+}
+
+/* A line and a function that ran at the greatest only, a line that ran anyway, and a branch that was not taken. */
+#define LEAST "SF:m\nFN:1,f\nFNDA:0,f\nBRDA:1,0,0,-\nDA:1,0\nDA:2,3\nend_of_record\n"
+#define GREATEST "SF:m\nFN:2,f\nFNDA:2,f\nBRDA:1,0,0,0\nDA:1,1\nDA:2,3\nend_of_record\n"
+
+/* The hit numbers of a run, and the two refusals of texts that do not bound one. */
+static void ask_bounded(size_t place)
+{
+    static const uint64_t BOUNDED_SO[LCOV_ANSWER_WORDS] = { 1, 2, 0, 1, 0, 0, 0, 0 };
+    static const struct {
+        const char *least, *greatest;
+        uint32_t number;
+    } QUESTIONS[] = {
+        { LEAST, GREATEST, 0 },
+        { GREATEST, LEAST, LCOV_LEAST_ABOVE_GREATEST },
+        { LEAST, "SF:n\nDA:1,0\nend_of_record\n", LCOV_DIFFERENT_KEYS },
+    };
+    for (size_t k = 0; k < COUNT(QUESTIONS); k++) {
+        struct input in = { .bytes = text_of(QUESTIONS[k].least), .other = text_of(QUESTIONS[k].greatest), .tags = default_tags() };
+        if (chosen[place]) {
+            struct told told = ask(&CALLS[place], &in, enough_words(&in), 0);
+            expect(told.number == QUESTIONS[k].number, CALLS[place].name, "another refusal comes");
+            if (told.number == 0)
+                expect(memcmp(told.words, BOUNDED_SO, sizeof BOUNDED_SO) == 0, CALLS[place].name, "other bounds are told");
+        }
+        free_input(&in);
+    }
+}
+
+/* Mostly one text as the least and the greatest. Each refusal of a text comes in both. */
+static void ask_all_bounds(void)
+{
+    for (size_t k = 0; k < COUNT(FAULTS); k++) {
+        ask_bounds(text_of(FAULTS[k]), text_of(LEAST), default_tags());
+        ask_bounds(text_of(LEAST), text_of(FAULTS[k]), default_tags());
+    }
+    for (size_t k = 0; k < BOUNDS; k++) {
+        names_used = 1 + below(COUNT(TESTS));
+        struct text least = some_text(6), greatest = { copy_of(least.bytes, least.len), least.len };
+        if (one_in(4))
+            damage(&greatest);
+        ask_bounds(least, greatest, some_tags());
+    }
+}
+
 static void ask_texts(void)
 {
     for (size_t k = 0; k < TEXTS; k++) {
@@ -947,12 +1026,15 @@ int main(int argc, char **argv)
     ask_moved(WINDOWS_TAGGED);
     ask_left_out(GATHER_QUOTAS);
     ask_left_out(GATHER_QUOTAS_TAGGED);
+    ask_bounded(HIT_BOUNDS);
+    ask_bounded(HIT_BOUNDS_TAGGED);
     ask_lines();
     ask_numbers();
     ask_lists();
     ask_paths();
     ask_texts();
     ask_bundles();
+    ask_all_bounds();
     check_met();
     printf("%lu calls\n", calls);
     return 0;
