@@ -81,20 +81,16 @@ add_row_spec =
     (λ c. let a = here c.before.before.before.before.before in
     let φ = fits (found a) in omega (arith, (known a).0))
     (λ c. search rules)
-    (λ c. let m = c.before.before.before.before.before.before.before in
-    let a = here m in
+    (λ c. let a = here c.before.before.before.before.before in
     let s = start (found a) in
-    let both = c.before.before.before.before.before.both-1.given in
     let p = c.before.before.put in
-    added-known s.args.mode s.requires.0 (i a) (known a) both.0.0
-    (combined_as m.before.get-old.ensures both.1 m.combine_rows.ensures) p.ensures.0 p.ensures.1.0 p.auto.0)
+    added-known s.args.mode s.requires.0 (i a) (known a) c.before.before.before.before.in-One.both
+    (combined_as c.before.before.before.before.before.before.get-old.ensures c.before.before.before.before.in-One.is c.before.before.before.before.before.combine_rows.ensures) p.ensures.0 p.ensures.1.0 p.auto.words)
     (λ c. search rules)
     (λ c. search rules)
-    (λ c. let m = c.before.before.before in
-    let a = here m in
+    (λ c. let a = here c.before in
     let s = start (found a) in
-    let fault = c.before.fault-1.given in
-    added-refused s.args.mode s.requires.0 (i a) (known a) fault.0.0 (combined_as m.before.get-old.ensures fault.1 m.combine_rows.ensures))
+    added-refused s.args.mode s.requires.0 (i a) (known a) c.in-Refused.fault (combined_as c.before.before.get-old.ensures c.in-Refused.is c.before.combine_rows.ensures))
     (λ c. search rules)
     (λ c κs. let s = start (found₂ c.before) in room s.args.mode s.requires.0)
     (λ c. search rules)

@@ -43,7 +43,7 @@ abbrev got : tie.After-step invariant-loop decreases-loop → tie.After-get-read
 got a = a.before.before.before
 
 abbrev turn : tie.After-get-read invariant-loop decreases-loop → tie.At-loop-k invariant-loop decreases-loop
-turn g = g.before.before.before.before
+turn g = g.before.before.before
 
 is_row : (g : tie.After-get-read invariant-loop decreases-loop)
     → g.get-read.result ≡ row (drop (start (turn g)).args.base (start (turn g)).args.words.now) (start (turn g)).args.index (turn g).loop-k.k
@@ -55,35 +55,34 @@ means : (q : tie.After-with_known_names-row invariant-loop decreases-loop)
     (row (drop (start (turn q.before)).args.base (start (turn q.before)).args.words.now) (start (turn q.before)).args.index (turn q.before).loop-k.k)
     q.with_known_names-row.result
 means q =
-    let g = q.before in
-    let l = turn g in
-    same-entry_as (is_row g)
-    (q.with_known_names-row.ensures _ l.loop-k.inv.2 (whole_as (is_row g) ((start l).requires.other.whole l.loop-k.k g.before.before.before.loop-k-test.true)))
+    let l = turn q.before in
+    same-entry_as (is_row q.before)
+    (q.with_known_names-row.ensures _ l.loop-k.invariant.2 (whole_as (is_row q.before) ((start l).requires.other.whole l.loop-k.k q.before.before.before.loop-k-test.true)))
 
 -- and the part comes back
 lent : (a : tie.After-step invariant-loop decreases-loop)
-    → Lent (start (turn (got a))).args.base (start (turn (got a))).args.words.now (a.step.new.words ++ drop (start (turn (got a))).args.base (turn (got a)).loop-k.words-1)
-lent a = let l = turn (got a) in lent_back l.loop-k.inv.0 a.step.new.words (start l).requires.whole a.step.auto.words
+    → Lent (start (turn (got a))).args.base (start (turn (got a))).args.words.now (a.step.new.words ++ drop (start (turn (got a))).args.base (turn (got a)).loop-k.words)
+lent a = let l = turn (got a) in lent_back l.loop-k.invariant.0 a.step.new.words (start l).requires.whole a.step.auto.words
 
 same : (a : tie.After-step invariant-loop decreases-loop)
-    → take (start (turn (got a))).args.base (a.step.new.words ++ drop (start (turn (got a))).args.base (turn (got a)).loop-k.words-1) ≡ a.step.new.words
-same a = let l = turn (got a) in lent-front l.loop-k.inv.0 a.step.new.words (start l).requires.whole a.step.auto.words
+    → take (start (turn (got a))).args.base (a.step.new.words ++ drop (start (turn (got a))).args.base (turn (got a)).loop-k.words) ≡ a.step.new.words
+same a = let l = turn (got a) in lent-front l.loop-k.invariant.0 a.step.new.words (start l).requires.whole a.step.auto.words
 
 -- ---- the row is taken
 
 abbrev stepped : tie.In-Next invariant-loop decreases-loop → tie.After-step invariant-loop decreases-loop
-stepped x = x.before.before.before.before.before
+stepped x = x.before.before.before
 
 abbrev next : tie.In-Next invariant-loop decreases-loop → Walk
 next x = x.in-Next.next
 
 -- its place
 below : (x : tie.In-Next invariant-loop decreases-loop) → (turn (got (stepped x))).loop-k.k < (start (turn (got (stepped x)))).args.m
-below x = (got (stepped x)).before.before.before.loop-k-test.taken
+below x = (got (stepped x)).before.before.loop-k-test.true
 
 -- the words as they are then
 abbrev after : tie.After-step invariant-loop decreases-loop → List ℕ
-after a = a.step.new.words ++ drop (start (turn (got a))).args.base (turn (got a)).loop-k.words-1
+after a = a.step.new.words ++ drop (start (turn (got a))).args.base (turn (got a)).loop-k.words
 
 -- what the loop says of words and a walk
 abbrev Goes : tie.At-loop-k invariant-loop decreases-loop → List ℕ → Walk → ℕ → Type 0
@@ -96,12 +95,11 @@ Goes l words walk k =
 goes : (x : tie.In-Next invariant-loop decreases-loop) → Goes (turn (got (stepped x))) (after (stepped x)) (next x) ((turn (got (stepped x))).loop-k.k + 1)
 goes x =
     let a = stepped x in
-    let q = a.before.before in
     let l = turn (got a) in
     let spare = (start l).args.index + (start l).args.limit in
     rw (same a)
-    (walked_next l.loop-k.inv.1 (start l).requires.other (below x) q.with_known_names-row.result (means q)
-    (take spare a.step.last.1.0) (spare_word a.step.last.1.0 spare) a.step.result (next x)
+    (walked_next l.loop-k.invariant.1 (start l).requires.other (below x) a.before.before.with_known_names-row.result (means a.before.before)
+    (take spare a.step.new.words) (spare_word a.step.new.words spare) a.step.result (next x)
     x.in-Next.is a.step.ensures.0 a.step.ensures.1)
 
 -- the end of the loop
@@ -114,7 +112,7 @@ merge_spec =
     (tie.spec
     invariant-loop
     decreases-loop
-    (λ c. let τ = c.before.before.requires in omega (arith, τ.words-1, τ.whole))
+    (λ c. let τ = c.before.before.requires in omega (arith, τ.words, τ.whole))
     (λ c κs. search rules)
     (λ c. (record { other = refl; size = refl }, walked_start c.before.before.before.args.mode c.before.before.before.requires, c.no_section-section.ensures _))
     (λ c. let w = whole c.before in search rules)
@@ -125,29 +123,26 @@ merge_spec =
     (λ c κs. search rules)
     (λ c. whole (turn c.before))
     (λ c. simp length-take (omega (arith, whole (turn c.before.before))))
-    (λ c κs. let q = c.before in
-    let l = turn q.before in
-    (walked_ready l.loop-k.inv.1 (start l).requires.other (omega arith) q.with_known_names-row.result (means q), simp length-take (omega (arith, (start l).requires.words-1, whole l))))
+    (λ c κs. let l = turn c.before.before in
+    (walked_ready l.loop-k.invariant.1 (start l).requires.other (omega arith) c.before.with_known_names-row.result (means c.before), simp length-take (omega (arith, (start l).requires.words, whole l))))
     (λ c. search rules)
-    (λ c. (lent c.before.before.before.before.before).size)
-    (λ c. let a = c.before.before.before.before.before in
-    let q = a.before.before in
-    let l = turn (got a) in
+    (λ c. (lent c.before.before.before).size)
+    (λ c. let l = turn (got c.before.before.before) in
     merged-refused
-    (walked_refused l.loop-k.inv.1 (start l).requires.other (omega arith) q.with_known_names-row.result (means q) _ a.step.result _ c.before.in-Refused.is
-    a.step.ensures.0))
+    (walked_refused l.loop-k.invariant.1 (start l).requires.other (omega arith) c.before.before.before.before.before.with_known_names-row.result (means c.before.before.before.before.before) _ c.before.before.before.step.result _ c.in-Refused.is
+    c.before.before.before.step.ensures.0))
     (λ c. search rules)
-    (λ c. let τ = (start (turn (got (stepped c)))).requires in omega (arith, (lent (stepped c)).size, τ.words-1, τ.whole))
-    (λ c. let τ = (start (turn (got (stepped c)))).requires in simp length-take (omega (arith, (lent (stepped c)).size, τ.words-1, τ.whole)))
+    (λ c. let τ = (start (turn (got (stepped c)))).requires in omega (arith, (lent (stepped c)).size, τ.words, τ.whole))
+    (λ c. let τ = (start (turn (got (stepped c)))).requires in simp length-take (omega (arith, (lent (stepped c)).size, τ.words, τ.whole)))
     (λ c. omega (arith, (small (turn (got (stepped c.before)))).0, (goes c.before).joined.most))
     (λ c κs. let g = got (stepped c.before) in
     let l = turn g in
     let s = (start l).args in
     let ω = (goes c.before).joined in (
-      ascending-front (after (stepped c.before)) s.base (s.index + s.limit) (omega (arith, (start l).requires.words-1)) ω.ascending,
+      ascending-front (after (stepped c.before)) s.base (s.index + s.limit) (omega (arith, (start l).requires.words)) ω.ascending,
       ω.from,
       whole_as (is_row g) ((start l).requires.other.whole l.loop-k.k (below c.before)),
-      l.loop-k.inv.2,
+      l.loop-k.invariant.2,
     ))
     (λ c κs. search rules)
     (λ c. omega (arith, below c.before.before.before, (small (turn (got (stepped c.before.before.before)))).1))
@@ -158,13 +153,13 @@ merge_spec =
     (λ c κs. let τ = (start c.before.before).requires in
     let ω = c.before.before.loop-k.invariant.1 in
     let h = c.before.loop-k-test.false in (
-      (settle_store c.before.before.loop-k.words-1 τ ω h (whole c.before.before), settle_rising c.before.before.loop-k.words-1 τ ω h (whole c.before.before)),
-      (omega (arith, ω.joined.most), simp length-take (omega (arith, ω.joined.most, τ.words-1, whole c.before.before))),
+      (settle_store c.before.before.loop-k.words τ ω h (whole c.before.before), settle_rising c.before.before.loop-k.words τ ω h (whole c.before.before)),
+      (omega (arith, ω.joined.most), simp length-take (omega (arith, ω.joined.most, τ.words, whole c.before.before))),
     ))
-    (λ c. let l = left c.before.before.before in omega (arith, l.loop-k.inv.1.joined.most, (start l).requires.words-1, (start l).requires.whole))
+    (λ c. let l = left c.before.before.before in omega (arith, l.loop-k.invariant.1.joined.most, (start l).requires.words, (start l).requires.whole))
     (λ c κs. tt)
     (λ c. let l = left c.before.before.before.before in
-    (lent_back l.loop-k.inv.0 c.before.before.before.before.merge_delta.new.words (start l).requires.whole c.before.before.before.before.merge_delta.auto.words).size)
+    (lent_back l.loop-k.invariant.0 c.before.before.before.before.merge_delta.new.words (start l).requires.whole c.before.before.before.before.merge_delta.auto.words).size)
     (λ c. let l = left c.before.before.before.before in
-    merged_done l.loop-k.words (start l).requires l.loop-k.inv.1 c.before.before.before.before.before.before.loop-k-test.false (whole l) c.before.before.before.before.merge_delta.new.words
-    c.before.before.before.before.merge_delta.ensures _ (lent-front l.loop-k.inv.0 c.before.before.before.before.merge_delta.new.words (start l).requires.whole c.before.before.before.before.merge_delta.auto.words) c.finish_merge.result c.finish_merge.ensures))
+    merged_done l.loop-k.words (start l).requires l.loop-k.invariant.1 c.before.before.before.before.before.before.loop-k-test.false (whole l) c.before.before.before.before.merge_delta.new.words
+    c.before.before.before.before.merge_delta.ensures _ (lent-front l.loop-k.invariant.0 c.before.before.before.before.merge_delta.new.words (start l).requires.whole c.before.before.before.before.merge_delta.auto.words) c.finish_merge.result c.finish_merge.ensures))

@@ -62,8 +62,8 @@ step_spec =
     (λ c κs. c.before.before.before.requires.0)
     (λ c. search rules)
     (λ c. lent_size (words c.before.before.before) (part c.before.before.before) (spare c.before.before.before) (inside c.before.before.before) c.before.before.before.add_row.auto.words)
-    (λ c. let a = c.before.before.before.before.before in
-    (says a (part a) (Refused c.before.in-Refused.fault-1) refl c.before.in-Refused.is, tt))
+    (λ c. let a = c.before.before.before in
+    (says a (part a) (Refused c.in-Refused.fault) refl c.in-Refused.is, tt))
     (λ c. search rules)
     (λ c. omega arith)
     (λ c. omega arith)
