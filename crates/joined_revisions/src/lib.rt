@@ -1,4 +1,6 @@
 // Of a bundle with revisions, the texts with the highest revision of each run joined in one table. The others are not read.
+#![tactic(auto)]
+
 ghost use Rattle.std.specs.Prelude.{◌≡◌, true, ◌<◌, length};
 ghost use Rattle.model.specs.Limits.{max_texts};
 ghost use Rattle.model.specs.TagTable.{tags_of, are_tags};

@@ -1,5 +1,7 @@
 // Texts of a bundle read one after the other and joined in one table (SPEC 7.2): all of them, or those that are marked. What becomes of the
 // table is the caller's: it is printed, counted or thrown away.
+#![tactic(auto)]
+
 ghost use Rattle.std.specs.Prelude.{◌≡◌, [], true, ◌≤◌, ◌<◌, length};
 ghost use Rattle.model.specs.Limits.{max_texts, max_entries};
 ghost use Rattle.model.specs.Answer.{in_text};

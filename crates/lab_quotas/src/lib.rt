@@ -1,5 +1,7 @@
 // A quota of entries for each lab (SPEC 7.7): each lab's texts are gathered by themselves, and the lab is marked. Then the texts of the labs that
 // are let in are gathered together.
+#![tactic(auto)]
+
 ghost use Rattle.std.specs.Prelude.{◌≡◌, [], true, ℕ, ◌*◌, ◌≤◌, ◌<◌, length};
 ghost use Rattle.model.specs.declared.Mode.TheVariants.{Checked};
 ghost use Rattle.model.specs.Limits.{max_texts, max_labs};

@@ -18,7 +18,7 @@ gather_behind_spec =
     (λ c. search rules)
     (λ c. search rules)
     (λ c κs. search rules)
-    (λ c κs. let s = c.before.before.before.before.before.before.before.before.before.before.before.before.before.before.before.before.before.before.before.before in text-few _ _ _ s.requires.1.0 s.requires.1.1)
+    (λ c κs. text-few _ _ _ c.before.before.before.before.before.before.before.before.before.before.before.before.before.before.before.before.requires.1.0 c.before.before.before.before.before.before.before.before.before.before.before.before.before.before.before.before.requires.1.1)
     (λ c. search rules)
     (λ c. search (text-refused, rules))
     (λ c. search rules)

@@ -10,7 +10,6 @@ gather_bundle_spec =
     (tie.spec
     (λ c κs. search rules)
     (λ c κs. (search (bundle_sized, rules), search (bundle-few, rules)))
-    (λ c. search rules)
     (λ c κs. (search rules, search (bundle-inside, rules)))
     (λ c. search rules)
     (λ c. search (bundle-gathered, rules))

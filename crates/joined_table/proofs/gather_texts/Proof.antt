@@ -10,10 +10,10 @@ use Rattle.joined_table.proofs.GatherLaws.{Left, space-same, left-start, left-co
 use Rattle.joined_table.proofs.gather_texts.Statement.{statement}
 use Rattle.joined_table.proofs.gather_texts.Tie as tie
 
-abbrev invariant-loop : tie.invariant-loop
+abbrev invariant-loop : tie.invariant-loop-i
 invariant-loop tags bundle body marks scratch₀ limit mode count n₀ i₀ scratch n i = Left (tags_of tags) bundle body marks scratch mode limit count n i × (length scratch ≡ length scratch₀)
 
-abbrev decreases-loop : tie.decreases-loop
+abbrev decreases-loop : tie.decreases-loop-i
 decreases-loop tags bundle body marks scratch₀ limit mode count n₀ i₀ scratch n i = count - i
 
 pub gather_texts_spec : {M : Type 1} → statement M
@@ -32,7 +32,7 @@ gather_texts_spec =
     (λ c. search rules)
     (λ c. search rules)
     (λ c κs. search rules)
-    (λ c. let ν = c.next-marked2.ensures in omega (arith, ν.least, ν.most))
+    (λ c. let ν = c.next_marked-i-in-loop-i.ensures in omega (arith, ν.least, ν.most))
     (λ c. (search (left-next, rules), search rules))
     (λ c. search rules)
     (λ c. search (left_done, rules)))

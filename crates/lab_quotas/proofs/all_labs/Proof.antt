@@ -11,10 +11,10 @@ use Rattle.lab_quotas.proofs.LabLaws.{every_lab, no_such_lab}
 use Rattle.lab_quotas.proofs.all_labs.Statement.{statement}
 use Rattle.lab_quotas.proofs.all_labs.Tie as tie
 
-abbrev invariant-loop : tie.invariant-loop
+abbrev invariant-loop : tie.invariant-loop-i
 invariant-loop labs i₀ i = (i ≤ length labs) × ((k : _) → k < i → is_lab (get_or labs k 0) ≡ true)
 
-abbrev decreases-loop : tie.decreases-loop
+abbrev decreases-loop : tie.decreases-loop-i
 decreases-loop labs i₀ i = length labs - i
 
 pub all_labs_spec : {M : Type 1} → statement M
@@ -28,6 +28,6 @@ all_labs_spec =
     (λ c κs. search rules)
     (λ c. omega arith)
     (λ c. omega arith)
-    (λ c. let l = c.before.before.before.before in (omega arith, below_more (λ k. is_lab (get_or l.before.before.args.labs.now k 0) ≡ true) _ l.loop.invariant.1 (sym c.before.is-lab.ensures ∙ c.if1.true)))
+    (λ c. (omega arith, below_more (λ k. is_lab (get_or c.before.before.before.before.before.before.args.labs.now k 0) ≡ true) _ c.before.before.before.before.loop-i.invariant.1 (sym c.before.is_lab.ensures ∙ c.if-is_lab.true)))
     (λ c. search (no_such_lab, rules))
     (λ c. search (every_lab, rules)))

@@ -7,10 +7,10 @@ use Rattle.lab_quotas.proofs.gather_lab.Statement.{statement}
 use Rattle.lab_quotas.proofs.gather_lab.Tie as tie
 
 -- where the texts of the lab were marked
-abbrev marked : tie.After-gather-marked → tie.After-mark-lab
+abbrev marked : tie.After-gather_marked → tie.After-mark_lab
 marked g = g.before.before.before.before.before
 
-abbrev start : tie.After-mark-lab → tie.Start
+abbrev start : tie.After-mark_lab → tie.Start
 start m = m.before.before.before.before.before.before
 
 pub gather_lab_spec : {M : Type 1} → statement M
@@ -23,24 +23,18 @@ gather_lab_spec =
     (λ c. search rules)
     (λ c κs. (search rules, search (texts-inside, rules)))
     (λ c. search rules)
-    (λ c κs. let r = c.before in
-    let g = r.before.before.before.before in
-    let m = marked g in (
-      refused-inside _ _ (start m).args.labs.now (start m).pre.1.1 (start m).args.lab _ m.mark-lab.last.1.1.0 _ g.before.before.before.body_at.ensures m.mark-lab.ensures _ _
-          g.gather-marked.ensures _ r.refusal.given.1,
-      few-texts _ (start m).pre.1.0 _ (start m).pre.1.1,
+    (λ c κs. let m = marked c.before.before.before in (
+      refused-inside _ _ (start m).args.labs.now (start m).requires.1.1 (start m).args.lab _ m.mark_lab.new.chosen _ c.before.before.before.before.before.before.body_at-body.ensures m.mark_lab.ensures _ _
+          c.before.before.before.gather_marked.ensures _ c.in-Refused.is,
+      few-texts _ (start m).requires.1.0 _ (start m).requires.1.1,
     ))
     (λ c. search rules)
     (λ c κs. search rules)
     (λ c. search rules)
-    (λ c. let r = c.before.before in
-    let g = r.before.before.before.before in
-    let m = marked g in
-    mark_refused _ _ (start m).args.labs.now (start m).pre.1.1 (start m).args.lab _ m.mark-lab.last.1.1.0 _ g.before.before.before.body_at.ensures m.mark-lab.ensures _ _ g.gather-marked.ensures _
-    r.refusal.given.1 _ _ c.in-lab.ensures)
+    (λ c. let m = marked c.before.before.before.before in
+    mark_refused _ _ (start m).args.labs.now (start m).requires.1.1 (start m).args.lab _ m.mark_lab.new.chosen _ c.before.before.before.before.before.before.before.body_at-body.ensures m.mark_lab.ensures _ _ c.before.before.before.before.gather_marked.ensures _
+    c.before.in-Refused.is _ _ c.in_lab.ensures)
     (λ c. search rules)
-    (λ c. let e = c.before.before in
-    let g = e.before.before.before.before in
-    let m = marked g in
-    mark_counted _ _ (start m).args.labs.now (start m).pre.1.1 (start m).args.lab _ m.mark-lab.last.1.1.0 _ g.before.before.before.body_at.ensures m.mark-lab.ensures _ _ g.gather-marked.ensures _
-    e.entries.given.1 _ _ c.mark-entries.ensures))
+    (λ c. let m = marked c.before.before.before.before in
+    mark_counted _ _ (start m).args.labs.now (start m).requires.1.1 (start m).args.lab _ m.mark_lab.new.chosen _ c.before.before.before.before.before.before.before.body_at-body.ensures m.mark_lab.ensures _ _ c.before.before.before.before.gather_marked.ensures _
+    c.before.in-Entries.is _ _ c.mark_entries.ensures))

@@ -14,14 +14,14 @@ use Rattle.lab_quotas.proofs.MarkLaws.{marks-start, mark_at_lem, mark_room, mark
 use Rattle.lab_quotas.proofs.mark_labs.Statement.{statement}
 use Rattle.lab_quotas.proofs.mark_labs.Tie as tie
 
-abbrev invariant-loop : tie.invariant-loop
+abbrev invariant-loop : tie.invariant-loop-i
 invariant-loop tags bundle labs quotas scratch₀ marks₀ i₀ scratch marks i =
     (marks ≡ over (marks_to (tags_of tags) (entry_limit (length scratch₀)) bundle labs quotas i) marks₀)
     × (i ≤ max_labs)
     × (length scratch ≡ length scratch₀)
     × (length marks ≡ length marks₀)
 
-abbrev decreases-loop : tie.decreases-loop
+abbrev decreases-loop : tie.decreases-loop-i
 decreases-loop tags bundle labs quotas scratch₀ marks₀ i₀ scratch marks i = max_labs - i
 
 pub mark_labs_spec : {M : Type 1} → statement M

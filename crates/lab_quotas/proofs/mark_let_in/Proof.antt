@@ -11,10 +11,10 @@ use Rattle.lab_quotas.proofs.LabLaws.{is-a_lab}
 use Rattle.lab_quotas.proofs.mark_let_in.Statement.{statement}
 use Rattle.lab_quotas.proofs.mark_let_in.Tie as tie
 
-abbrev invariant-loop : tie.invariant-loop
+abbrev invariant-loop : tie.invariant-loop-i
 invariant-loop labs marks chosen₀ i₀ chosen i = (i ≤ length labs) × (length chosen ≡ length chosen₀) × MarkedAs (is_in_by marks labs) i chosen
 
-abbrev decreases-loop : tie.decreases-loop
+abbrev decreases-loop : tie.decreases-loop-i
 decreases-loop labs marks chosen₀ i₀ chosen i = length labs - i
 
 pub mark_let_in_spec : {M : Type 1} → statement M
@@ -30,8 +30,6 @@ mark_let_in_spec =
     (λ c. omega arith)
     (λ c. omega arith)
     (λ c. omega arith)
-    (λ c. let l = c.before.before.before in
-    let s = l.before.before.before.before in
-    (omega arith, search rules, one-marked (is_in_by s.args.marks.now s.args.labs.now) l.loop.chosen _ l.loop.invariant.2 (omega arith) _ c.is-let-in.ensures))
+    (λ c. (omega arith, search rules, one-marked (is_in_by c.before.before.before.before.before.before.before.args.marks.now c.before.before.before.before.before.before.before.args.labs.now) c.before.before.before.loop-i.chosen _ c.before.before.before.loop-i.invariant.2 (omega arith) _ c.is_let_in.ensures))
     (λ c. search rules)
-    (λ c. (λ k l. c.before.loop.invariant.2 k (omega arith))))
+    (λ c. (λ k l. c.before.loop-i.invariant.2 k (omega arith))))
