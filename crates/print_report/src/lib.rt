@@ -1,5 +1,7 @@
 // Prints the report of a table: `into_records` (SPEC 6.1). "Sections in key order: TN, SF, functions,
 // branches, lines, end_of_record." Where the output may be too short, a measuring pass with the same code comes first.
+#![tactic(auto)]
+
 ghost use Rattle.std.specs.Prelude.{◌≡◌, true, ◌++◌, ◌+◌, ◌≤◌, ◌<◌, length};
 ghost use Rattle.table.specs.Store.{Store, row};
 ghost use Rattle.model.specs.Answer.{refuse_length};

@@ -1,5 +1,5 @@
 -- The rows of sections counted, and the page of a table from a position on. Assumes nothing.
-use Rattle.std.specs.Prelude.{ℕ, ◌+◌, ◌-◌, ◌≤◌, ◌<◌, ◌≡◌, Bool, List, [], ◌∷◌, ◌++◌, length}
+use Rattle.std.specs.Prelude.{ℕ, ◌-◌, ◌≤◌, ◌<◌, ◌≡◌, Bool, List, [], ◌∷◌, ◌++◌}
 use Rattle.table.specs.declared.Row.{Row}
 use Rattle.table.specs.Store.{row}
 use Rattle.model.specs.Bytes.{Bytes, newline, slash}

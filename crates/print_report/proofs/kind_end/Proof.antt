@@ -5,10 +5,10 @@ use Rattle.print_report.proofs.KindLaws.{Running, running_start, running_next, r
 use Rattle.print_report.proofs.kind_end.Statement.{statement}
 use Rattle.print_report.proofs.kind_end.Tie as tie
 
-abbrev invariant-loop : tie.invariant-loop
+abbrev invariant-loop : tie.invariant-loop-at
 invariant-loop words index used n from kind at₀ at = Running words index n from kind at
 
-abbrev decreases-loop : tie.decreases-loop
+abbrev decreases-loop : tie.decreases-loop-at
 decreases-loop words index used n from kind at₀ at = n - at
 
 pub kind_end_spec : {M : Type 1} → statement M

@@ -16,10 +16,10 @@ branches s = branch_lines (tags_of s.args.tags.now) s.args.text.now s.args.words
 abbrev lines : tie.Start → Bytes
 lines s = line_lines (tags_of s.args.tags.now) s.args.text.now s.args.words.now s.args.index s.args.runs
 
-abbrev start : tie.After-emit-group → tie.Start
+abbrev start : tie.After-emit_group-end → tie.Start
 start b = b.before.before.before.before.before.before
 
-abbrev few : (b : tie.After-emit-group) → length (start b).args.out.now * 1 < 2 ^ 63
+abbrev few : (b : tie.After-emit_group-end) → length (start b).args.out.now * 1 < 2 ^ 63
 few b = omega arith
 
 pub print_groups_spec : {M : Type 1} → statement M
@@ -28,31 +28,29 @@ print_groups_spec =
     (tie.spec
     (λ c. c.before.before.before.before.requires.1.0.order.0)
     (λ c. omega (arith, c.before.before.before.before.requires.1.0.branches.numbered.words))
-    (λ c κs. let s = c.before.before.before.before.before in (
-      s.requires.0,
+    (λ c κs. (
+      c.before.before.before.before.before.requires.0,
       (
-        s.requires.1.0.branches,
+        c.before.before.before.before.before.requires.1.0.branches,
         (
-          (omega arith, omega arith, omega (arith, s.requires.1.0.order, s.requires.1.0.few)),
-          room-first s.args.write s.args.out.now s.args.at (branches s) (lines s) s.requires.1.1,
+          (omega arith, omega arith, omega (arith, c.before.before.before.before.before.requires.1.0.order, c.before.before.before.before.before.requires.1.0.few)),
+          room-first c.before.before.before.before.before.args.write c.before.before.before.before.before.args.out.now c.before.before.before.before.before.args.at (branches c.before.before.before.before.before) (lines c.before.before.before.before.before) c.before.before.before.before.before.requires.1.1,
         ),
       ),
     ))
     (λ c. (start c.before.before.before).requires.1.0.order.1)
     (λ c. omega (arith, (start c.before.before.before).requires.1.0.lines.numbered.words))
-    (λ c κs. let b = c.before.before.before.before in
-    let s = start b in (
-      s.pre.0,
+    (λ c κs. let s = start c.before.before.before.before in (
+      s.requires.0,
       (
-        s.pre.1.0.lines,
+        s.requires.1.0.lines,
         (
-          (omega arith, omega arith, omega (arith, s.pre.1.0.few)),
-          room-then s.args.write s.args.out.now s.args.at (branches s) (lines s) s.pre.1.1 (few b) b.emit-group.ensures,
+          (omega arith, omega arith, omega (arith, s.requires.1.0.few)),
+          room-then s.args.write s.args.out.now s.args.at (branches s) (lines s) s.requires.1.1 (few c.before.before.before.before) c.before.before.before.before.emit_group-end.ensures,
         ),
       ),
     ))
     (λ c. search rules)
-    (λ c. let b = c.before.before.before.before.before.before.before in
-    let s = start b in
-    emitted_both s.args.write s.args.out.now s.args.at (branches s) (lines s) s.pre.1.1 (few b) b.emit-group.ensures
-    c.before.before.emit-group2.ensures))
+    (λ c. let s = start c.before.before.before.before.before.before.before in
+    emitted_both s.args.write s.args.out.now s.args.at (branches s) (lines s) s.requires.1.1 (few c.before.before.before.before.before.before.before) c.before.before.before.before.before.before.before.emit_group-end.ensures
+    c.before.before.emit_group.ensures))

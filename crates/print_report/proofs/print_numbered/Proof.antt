@@ -28,11 +28,9 @@ pub print_numbered_spec : {M : Type 1} → statement M
 print_numbered_spec =
     tie.close
     (tie.spec
-    (λ c κs. let s = c.before.before.before.before.before in (s.requires.0, (s.requires.1.0.0, room-first s.args.write s.args.out.now s.args.at (starts s) (others s) s.requires.1.1)))
-    (λ c κs. let s = c.before.before.before.before.before.before.before.before.before in
-    let few : length s.args.out.now * 1 < 2 ^ 63 = omega arith in
-    (s.requires.0, (s.requires.1.0.0, (omega arith, room-then s.args.write s.args.out.now s.args.at (starts s) (others s) s.requires.1.1 few c.before.before.before.emit-rows.ensures))))
+    (λ c κs. (c.before.before.before.before.before.requires.0, (c.before.before.before.before.before.requires.1.0.0, room-first c.before.before.before.before.before.args.write c.before.before.before.before.before.args.out.now c.before.before.before.before.before.args.at (starts c.before.before.before.before.before) (others c.before.before.before.before.before) c.before.before.before.before.before.requires.1.1)))
+    (λ c κs. let few : length c.before.before.before.before.before.before.before.before.before.args.out.now * 1 < 2 ^ 63 = omega arith in
+    (c.before.before.before.before.before.before.before.before.before.requires.0, (c.before.before.before.before.before.before.before.before.before.requires.1.0.0, (omega arith, room-then c.before.before.before.before.before.before.before.before.before.args.write c.before.before.before.before.before.before.before.before.before.args.out.now c.before.before.before.before.before.before.before.before.before.args.at (starts c.before.before.before.before.before.before.before.before.before) (others c.before.before.before.before.before.before.before.before.before) c.before.before.before.before.before.before.before.before.before.requires.1.1 few c.before.before.before.emit_rows-end.ensures))))
     (λ c. search rules)
-    (λ c. let s = c.before.before.before.before.before.before.before.before.before.before.before.before in
-    let few : length s.args.out.now * 1 < 2 ^ 63 = omega arith in
-    emitted_both s.args.write s.args.out.now s.args.at (starts s) (others s) s.requires.1.1 few c.before.before.before.before.before.before.emit-rows.ensures c.before.before.emit-group.ensures))
+    (λ c. let few : length c.before.before.before.before.before.before.before.before.before.before.before.before.args.out.now * 1 < 2 ^ 63 = omega arith in
+    emitted_both c.before.before.before.before.before.before.before.before.before.before.before.before.args.write c.before.before.before.before.before.before.before.before.before.before.before.before.args.out.now c.before.before.before.before.before.before.before.before.before.before.before.before.args.at (starts c.before.before.before.before.before.before.before.before.before.before.before.before) (others c.before.before.before.before.before.before.before.before.before.before.before.before) c.before.before.before.before.before.before.before.before.before.before.before.before.requires.1.1 few c.before.before.before.before.before.before.emit_rows-end.ensures c.before.before.emit_group.ensures))

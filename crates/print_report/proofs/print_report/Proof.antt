@@ -16,20 +16,20 @@ abbrev spacious : (s : tie.Start)
     → PrintableTable s.args.text.now s.args.words.now s.args.index s.args.used s.args.n s.args.spare
 spacious s = record { table = s.requires.1.0.0; few = s.requires.1.0.1; behind = s.requires.1.1.0; words = s.requires.1.1.1 }
 
-abbrev start : tie.After-required-len → tie.Start
+abbrev start : tie.After-required_len-needed → tie.Start
 start m = m.before.before.before.before.before.before.before
 
 -- what the length promises
-abbrev measured : (m : tie.After-required-len)
+abbrev measured : (m : tie.After-required_len-needed)
     → Measured (printed_from (tags_of (start m).args.tags.now) (start m).args.text.now (start m).args.index (start m).args.n)
     (print_report (tags_of (start m).args.tags.now) (entries_at (start m).args.text.now (start m).args.words.now (start m).args.index (start m).args.n))
-    (start m).args.words.now m.required-len.new.1.1.0 (start m).args.out.now
-    m.required-len.new.1.1.1.1.1.1.1.0 (start m).args.n (start m).args.spare m.required-len.result
+    (start m).args.words.now m.required_len-needed.new.words (start m).args.out.now
+    m.required_len-needed.new.out (start m).args.n (start m).args.spare m.required_len-needed.result
 measured m = record {
   prints = report_prints _ (spacious (start m));
   is = ap (print_report (tags_of (start m).args.tags.now)) (entries-all (start m).args.text.now (start m).args.words.now (start m).args.index (start m).args.n);
-  spared = m.required-len.ensures.1;
-  enough = m.required-len.ensures.0;
+  spared = m.required_len-needed.ensures.1;
+  enough = m.required_len-needed.ensures.0;
   few = omega arith;
 }
 
@@ -37,7 +37,7 @@ pub print_report_spec : {M : Type 1} → statement M
 print_report_spec =
     tie.close
     (tie.spec
-    (λ c κs. let s = c.before.before.before.before.before.before in (s.requires.0, spacious s))
+    (λ c κs. (c.before.before.before.before.before.before.requires.0, spacious c.before.before.before.before.before.before))
     (λ c κs. search rules)
     (λ c. search rules)
     (λ c. search rules)
@@ -45,9 +45,8 @@ print_report_spec =
     (short_answer (enough_bytes μ) μ.few (omega arith) c.too_short.ensures, short-out (enough_bytes μ) μ.few (omega arith)))
     (λ c κs. let μ = measured c.before.before.before.before.before.before.before in
     let s = start c.before.before.before.before.before.before.before in
-    (s.pre.0, (printable-kept (spacious s) μ.spared, room_again μ (second-room (enough_bytes μ) μ.few (omega arith)))))
+    (s.requires.0, (printable-kept (spacious s) μ.spared, room_again μ (second-room (enough_bytes μ) μ.few (omega arith)))))
     (λ c. search rules)
     (λ c. search rules)
-    (λ c. let w = c.before.before.before.before in
-    let μ = measured w.before.before.before.before.before.before.before.before in
-    (written_answer (enough_bytes μ) μ.few (omega arith) (emitted_again μ w.print-sections.ensures.0), written_out (enough_bytes μ) μ.few (omega arith) (emitted_again μ w.print-sections.ensures.0))))
+    (λ c. let μ = measured c.before.before.before.before.before.before.before.before.before.before.before.before in
+    (written_answer (enough_bytes μ) μ.few (omega arith) (emitted_again μ c.before.before.before.before.print_sections-len.ensures.0), written_out (enough_bytes μ) μ.few (omega arith) (emitted_again μ c.before.before.before.before.print_sections-len.ensures.0))))

@@ -8,10 +8,10 @@ use Rattle.print_report.proofs.LoopLaws.{report_prints, Looping, loop_start, loo
 use Rattle.print_report.proofs.print_sections.Statement.{statement}
 use Rattle.print_report.proofs.print_sections.Tie as tie
 
-abbrev invariant-loop : tie.invariant-loop
+abbrev invariant-loop : tie.invariant-loop-lo
 invariant-loop tags text words₀ index used n spare out₀ write lo₀ at₀ words out lo at = Looping (printed_from (tags_of tags) text index n) write words₀ words out₀ out index n spare lo at
 
-abbrev decreases-loop : tie.decreases-loop
+abbrev decreases-loop : tie.decreases-loop-lo
 decreases-loop tags text words₀ index used n spare out₀ write lo₀ at₀ words out lo at = n - lo
 
 pub print_sections_spec : {M : Type 1} → statement M
@@ -20,20 +20,13 @@ print_sections_spec =
     (tie.spec
     invariant-loop
     decreases-loop
-    (λ c. let s = c.before.before.before.before in loop_start s.requires.1.0 s.requires.1.1 (omega arith))
-    (λ c κs. let l = c.before.before.before in
-    let s = l.before.before.before.before.before in
-    let π = s.requires.1.0 in
+    (λ c. loop_start c.before.before.before.before.requires.1.0 c.before.before.before.before.requires.1.1 (omega arith))
+    (λ c κs. let π = c.before.before.before.before.before.before.before.before.requires.1.0 in
     let δ = report_prints _ π in
-    let Λ = l.loop.invariant in
-    (s.requires.0, ((printable-kept π Λ.spared, omega arith, loop_header π δ Λ (omega arith)), loop_room π δ Λ)))
-    (λ c. let p = c.before.before.before.before.print-section.ensures in omega (arith, p.more, p.most))
-    (λ c. let p = c.before.before.before.before in
-    let l = p.before.before.before.before in
-    let s = l.before.before.before.before.before in
-    loop_next s.requires.1.0 (report_prints _ s.requires.1.0) l.loop.invariant p.print-section.ensures p.print-section.auto.1.1.1.1.1.1.1.1.0)
-    (λ c. c.before.loop.invariant.spared.words)
-    (λ c. c.before.loop.invariant.size)
-    (λ c. let l = c.before in
-    let s = l.before.before.before.before.before in
-    (loop_done s.requires.1.0 (report_prints _ s.requires.1.0) l.loop.invariant (omega arith), l.loop.invariant.spared)))
+    let Λ = c.before.before.before.loop-lo.invariant in
+    (c.before.before.before.before.before.before.before.before.requires.0, ((printable-kept π Λ.spared, omega arith, loop_header π δ Λ (omega arith)), loop_room π δ Λ)))
+    (λ c. let p = c.before.before.before.before.print_section-printed.ensures in omega (arith, p.more, p.most))
+    (λ c. loop_next c.before.before.before.before.before.before.before.before.before.before.before.before.before.requires.1.0 (report_prints _ c.before.before.before.before.before.before.before.before.before.before.before.before.before.requires.1.0) c.before.before.before.before.before.before.before.before.loop-lo.invariant c.before.before.before.before.print_section-printed.ensures c.before.before.before.before.print_section-printed.auto.out)
+    (λ c. c.before.loop-lo.invariant.spared.words)
+    (λ c. c.before.loop-lo.invariant.size)
+    (λ c. (loop_done c.before.before.before.before.before.before.requires.1.0 (report_prints _ c.before.before.before.before.before.before.requires.1.0) c.before.loop-lo.invariant (omega arith), c.before.loop-lo.invariant.spared)))
