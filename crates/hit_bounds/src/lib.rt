@@ -1,5 +1,7 @@
 // Bounds of sampled counts (SPEC 7.8): two texts are read into two tables of one scratch, their entries are compared place by place, and the hits
 // of each are counted.
+#![tactic(auto)]
+
 ghost use Rattle.std.specs.Prelude.{◌≡◌, true, List, ℕ, ◌+◌, ◌≤◌, ◌<◌, length, take, drop};
 ghost use Rattle.std.proofs.Math.Dec.{compare_is_eq};
 ghost use Rattle.model.specs.Limits.{max_entries};

@@ -9,10 +9,10 @@ use borrow.Author.Rules.{rules}
 use Rattle.hit_bounds.proofs.keys_agree.Statement.{statement}
 use Rattle.hit_bounds.proofs.keys_agree.Tie as tie
 
-abbrev invariant-loop : tie.invariant-loop
+abbrev invariant-loop : tie.invariant-loop-i
 invariant-loop least low greatest high index n used other i₀ i = (i ≤ n) × ((k : ℕ) → k < i → same_at (entry_at least low index) (entry_at greatest high index) k ≡ true)
 
-abbrev decreases-loop : tie.decreases-loop
+abbrev decreases-loop : tie.decreases-loop-i
 decreases-loop least low greatest high index n used other i₀ i = n - i
 
 pub keys_agree_spec : {M : Type 1} → statement M
@@ -27,13 +27,10 @@ keys_agree_spec =
     (k.store, omega (arith, k.room)))
     (λ c κs. let k = c.before.before.before.before.before.before.before.before.before.requires.1.sections in
     (k.store, omega (arith, k.room)))
-    (λ c κs. let i = c.before.before.before.loop.i in
-    let s = c.before.before.before.before.before.before.before.before.before.before in
-    (rw c.before.get.ensures (s.requires.0.sections.whole i (omega arith)), rw c.get2.ensures (s.requires.1.sections.whole i (omega arith))))
+    (λ c κs. let i = c.before.before.before.loop-i.i in
+    (rw c.before.get-x.ensures (c.before.before.before.before.before.before.before.before.before.before.requires.0.sections.whole i (omega arith)), rw c.get-y.ensures (c.before.before.before.before.before.before.before.before.before.before.requires.1.sections.whole i (omega arith))))
     (λ c. omega arith)
     (λ c. omega arith)
-    (λ c. let k = c.before in
-    (omega arith, all-next _ _ c.before.before.before.before.before.loop.invariant.1 (key_at_lem _ _ _ _ _ _ _ k.before.before.get.ensures k.before.get2.ensures k.same_key.ensures true (cc))))
-    (λ c. let k = c.before in
-    keys_differ _ _ _ _ c.before.before.before.before.before.loop.i (omega arith) (omega arith) (key_at_lem _ _ _ _ _ _ _ k.before.before.get.ensures k.before.get2.ensures k.same_key.ensures false (cc)))
-    (λ c. keys-same _ _ _ _ _ (omega arith) (omega arith) c.before.loop.invariant.1))
+    (λ c. (omega arith, all-next _ _ c.before.before.before.before.before.loop-i.invariant.1 (key_at_lem _ _ _ _ _ _ _ c.before.before.before.get-x.ensures c.before.before.get-y.ensures c.before.same_key.ensures true (cc))))
+    (λ c. keys_differ _ _ _ _ c.before.before.before.before.before.loop-i.i (omega arith) (omega arith) (key_at_lem _ _ _ _ _ _ _ c.before.before.before.get-x.ensures c.before.before.get-y.ensures c.before.same_key.ensures false (cc)))
+    (λ c. keys-same _ _ _ _ _ (omega arith) (omega arith) c.before.loop-i.invariant.1))

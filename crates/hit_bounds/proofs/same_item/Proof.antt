@@ -10,8 +10,7 @@ same_item_spec =
     tie.close
     (tie.spec
     (λ c. search (other-kind, rules))
-    (λ c κs. let s = c.before.before.before.before.before.before in
-    (s.requires.0.name (omega arith), s.requires.1.name (omega arith)))
+    (λ c κs. (c.before.before.before.before.before.before.requires.0.name (omega arith), c.before.before.before.before.before.before.requires.1.name (omega arith)))
     (λ c. search (functions, rules))
     (λ c κs. search rules)
     (λ c. search (branches, rules))

@@ -20,4 +20,4 @@ same_parts_spec =
     (λ c. search rules)
     (λ c κs. search rules)
     (λ c κs. search rules)
-    (λ c. c.is-equal.ensures ∙ ap compare_is_eq (simp add-sub_cancel_left at c.before.compare-bytes.ensures)))
+    (λ c. c.is_equal.ensures ∙ ap compare_is_eq (simp add-sub_cancel_left at c.before.compare_bytes-order.ensures)))

@@ -20,4 +20,4 @@ same_paths_spec =
     (λ c. search rules)
     (λ c κs. search rules)
     (λ c κs. search rules)
-    (λ c. c.is-equal.ensures ∙ ap compare_is_eq (simp add-sub_cancel_left at c.before.compare-paths.ensures)))
+    (λ c. c.is_equal.ensures ∙ ap compare_is_eq (simp add-sub_cancel_left at c.before.compare_paths-order.ensures)))
