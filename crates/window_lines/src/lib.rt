@@ -1,5 +1,7 @@
 // Coverage over the latest texts (SPEC 7.6): for each text the texts of its window are gathered, and the lines of their joined report that are
 // hit and found are counted and printed as a line. The report is not printed.
+#![tactic(auto)]
+
 ghost use Rattle.std.specs.Prelude.{◌≡◌, true, ◌+◌, ◌*◌, ◌≤◌, ◌<◌, length};
 ghost use Rattle.model.specs.Limits.{max_texts, max_width};
 ghost use Rattle.model.specs.TagTable.{tags_of, are_tags};

@@ -12,29 +12,29 @@ use Rattle.window_lines.proofs.count_window.Statement.{statement}
 use Rattle.window_lines.proofs.count_window.Tie as tie
 
 -- where the count finds what was gathered, and what was marked
-abbrev entries : tie.After-index-at → tie.After-entries
-entries x = x.before.before.before
+abbrev entries : tie.After-index_at-index → tie.In-Entries
+entries x = x.before.before
 
-abbrev gathered : tie.After-entries → tie.After-gather-marked
-gathered e = e.before.before.before.before
+abbrev gathered : tie.In-Entries → tie.After-gather_marked
+gathered e = e.before.before.before
 
-abbrev marked : tie.After-gather-marked → tie.After-mark-window
+abbrev marked : tie.After-gather_marked → tie.After-mark_window
 marked g = g.before.before.before.before.before
 
-abbrev start : tie.After-index-at → tie.Start
+abbrev start : tie.After-index_at-index → tie.Start
 start x = (marked (gathered (entries x))).before.before.before.before.before.before
 
-held : (x : tie.After-index-at)
-    → WindowHeld (start x).args.bundle.now (gathered (entries x)).gather-marked.new.1.1.1.1.0 x.index_at.result (entries x).entries.given.0.0
+held : (x : tie.After-index_at-index)
+    → WindowHeld (start x).args.bundle.now (gathered (entries x)).gather_marked.new.scratch x.index_at-index.result (entries x).in-Entries.entries
     (window_line (tags_of (start x).args.tags.now) (entry_limit (length (start x).args.scratch.now)) (window_texts (start x).args.width (start x).args.bundle.now (start x).args.i))
 held x =
     let e = entries x in
     let g = gathered e in
     let m = marked g in
     let s = start x in
-    held_window (tags_of s.args.tags.now) s.args.bundle.now (length s.args.scratch.now) s.args.width s.args.i m.mark-window.last.0 _
-    g.before.before.before.body_at.ensures _ m.before.before.text-count.ensures m.mark-window.ensures _ _ g.gather-marked.ensures _ e.entries.given.1 (search rules) _
-    x.before.entry_limit_lem.ensures _ x.index_at.ensures
+    held_window (tags_of s.args.tags.now) s.args.bundle.now (length s.args.scratch.now) s.args.width s.args.i m.mark_window.new.marks _
+    g.before.before.before.body_at-body.ensures _ m.before.before.text_count-n.ensures m.mark_window.ensures _ _ g.gather_marked.ensures _ e.in-Entries.is (search rules) _
+    x.before.entry_limit-limit.ensures _ x.index_at-index.ensures
 
 pub count_window_spec : {M : Type 1} → statement M
 count_window_spec =
@@ -50,8 +50,8 @@ count_window_spec =
     (λ c. search rules)
     (λ c κs. search rules)
     (λ c κs. search (limit_few, rules))
-    (λ c κs. let h = held c.before in (((start c.before).args.bundle.now, h.table), h.few))
+    (λ c κs. let h = held c in (((start c).args.bundle.now, h.table), h.few))
     (λ c. search rules)
     (λ c. search (refused_window, rules))
     (λ c. search rules)
-    (λ c. (held c.before.before.before).line c.before.count-totals.result c.before.count-totals.ensures))
+    (λ c. (held c.before.before).line c.before.count_totals-totals.result c.before.count_totals-totals.ensures))

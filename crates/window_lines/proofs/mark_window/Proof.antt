@@ -10,10 +10,10 @@ use Rattle.bundle.proofs.MarkLaws.{one-marked}
 use Rattle.window_lines.proofs.mark_window.Statement.{statement}
 use Rattle.window_lines.proofs.mark_window.Tie as tie
 
-abbrev invariant-loop : tie.invariant-loop
+abbrev invariant-loop : tie.invariant-loop-j
 invariant-loop marks₀ n width i j₀ marks j = (j ≤ n) × (length marks ≡ length marks₀) × MarkedAs (is_in_window width i) j marks
 
-abbrev decreases-loop : tie.decreases-loop
+abbrev decreases-loop : tie.decreases-loop-j
 decreases-loop marks₀ n width i j₀ marks j = n - j
 
 pub mark_window_spec : {M : Type 1} → statement M
@@ -28,7 +28,6 @@ mark_window_spec =
     (λ c. omega arith)
     (λ c. omega arith)
     (λ c. omega arith)
-    (λ c. let l = c.before.before in
-    (omega arith, search rules, one-marked (is_in_window _ _) l.loop.marks _ l.loop.invariant.2 (omega arith) c.is-in-window.result c.is-in-window.ensures))
+    (λ c. (omega arith, search rules, one-marked (is_in_window _ _) c.before.before.loop-j.marks _ c.before.before.loop-j.invariant.2 (omega arith) c.is_in_window.result c.is_in_window.ensures))
     (λ c. search rules)
-    (λ c k l. c.before.loop.invariant.2 k (omega arith)))
+    (λ c k l. c.before.loop-j.invariant.2 k (omega arith)))

@@ -11,11 +11,11 @@ use Rattle.window_lines.proofs.LineLaws.{Putting, putting_start, line_at, line-r
 use Rattle.window_lines.proofs.put_lines.Statement.{statement}
 use Rattle.window_lines.proofs.put_lines.Tie as tie
 
-abbrev invariant-loop : tie.invariant-loop
+abbrev invariant-loop : tie.invariant-loop-i
 invariant-loop tags bundle width scratch₀ out₀ n i₀ at₀ scratch out i at =
     Putting (tags_of tags) bundle width (length scratch₀) out₀ out i at × (i ≤ n) × (length scratch ≡ length scratch₀) × (length out ≡ length out₀)
 
-abbrev decreases-loop : tie.decreases-loop
+abbrev decreases-loop : tie.decreases-loop-i
 decreases-loop tags bundle width scratch₀ out₀ n i₀ at₀ scratch out i at = n - i
 
 pub put_lines_spec : {M : Type 1} → statement M

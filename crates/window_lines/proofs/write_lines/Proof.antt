@@ -4,7 +4,7 @@ use Rattle.window_lines.proofs.LineLaws.{lines-refused, lines_within, lines-leng
 use Rattle.window_lines.proofs.write_lines.Statement.{statement}
 use Rattle.window_lines.proofs.write_lines.Tie as tie
 
-abbrev start : tie.After-put-lines → tie.Start
+abbrev start : tie.After-put_lines → tie.Start
 start p = p.before.before.before.before.before.before.before
 
 pub write_lines_spec : {M : Type 1} → statement M
@@ -19,9 +19,7 @@ write_lines_spec =
     (λ c. search (lines-length, rules))
     (λ c κs. search rules)
     (λ c. search rules)
-    (λ c. let p = c.before.before.before.before.before.before in lines-refused _ _ _ p.put-lines.ensures (start p).args.out.now _ c.before.refusal.given.1)
+    (λ c. lines-refused _ _ _ c.before.before.before.before.put_lines.ensures (start c.before.before.before.before).args.out.now _ c.in-Refused.is)
     (λ c. search rules)
     (λ c. search rules)
-    (λ c. let l = c.before.before.before.before.before.before in
-    let p = l.before.before.before.before.before in
-    lines_called _ _ _ p.put-lines.ensures (start p).args.out.now _ l.len.given.1 _ _ c.before.before.write_bytes.ensures))
+    (λ c. lines_called _ _ _ c.before.before.before.before.before.before.before.before.before.put_lines.ensures (start c.before.before.before.before.before.before.before.before.before).args.out.now _ c.before.before.before.before.before.in-Written.is _ _ c.before.before.write_bytes.ensures))
