@@ -13,7 +13,7 @@ use mir.Syntax.{w64}
 use Rattle.model.specs.Bytes.{Bytes, slash}
 use Rattle.model.specs.Number.{decimal}
 use Rattle.model.specs.Output.{written, output_after}
-use Rattle.format.specs.Put.{put_len, over, pair}
+use Rattle.format.specs.Put.{put_len, over}
 use Rattle.format.proofs.DecimalLaws.{decimal-most}
 use Rattle.format.proofs.OverLaws.{second_at, second-room, second_fits, second_len, second-out, over_size, put_over, put_len_lem, to_end}
 use Rattle.print_rows.specs.Emit.{RoomFor, Emitted}

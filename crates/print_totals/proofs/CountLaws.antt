@@ -8,7 +8,6 @@ use lib.ListN.{length}
 use Rattle.table.specs.Places.{tabulate}
 use Rattle.table.proofs.TabulateLaws.{length-tabulate}
 use Rattle.model.specs.Lists.{filter}
-use Rattle.model.specs.Limits.{max_entries}
 use Rattle.model.specs.Report.{Item}
 use Rattle.model.specs.Printing.{hits, is_function, is_branch, is_line}
 use Rattle.table_item.specs.SortedItems.{item_from, items_at}

@@ -13,14 +13,14 @@ use Rattle.model.specs.Lists.{concat_map}
 use Rattle.model.specs.Report.{Report}
 use Rattle.model.specs.Printing.{Section, sections}
 use Rattle.table_item.specs.Items.{part, kind_of}
-use Rattle.table_section.specs.Sections.{test_of, path_of, entries_at}
+use Rattle.table_section.specs.Sections.{test_of, path_of}
 use Rattle.section.specs.Table.{Table}
 use Rattle.print_rows.specs.Emit.{RoomFor, Emitted, Numbered}
 use Rattle.print_rows.proofs.EmitLaws.{room-first, room-then, room_as, emitted_both, emitted_as}
 use Rattle.print_report.specs.declared.KindRanges.{KindRanges}
 use Rattle.print_report.specs.Printing.{entries_from, AreKindRanges}
 use Rattle.print_report.proofs.KindLaws.{first-header, next-header}
-use Rattle.print_report.proofs.SplitLaws.{items, items-functions, items-branches, items-lines, section_at, sections_at}
+use Rattle.print_report.proofs.SplitLaws.{items-functions, items-branches, items-lines, section_at, sections_at}
 use Rattle.print_report.proofs.TableLaws.{index-printable}
 use Rattle.print_report.proofs.LoopLaws.{entries-all, entries_none}
 use Rattle.print_report.proofs.GoingLaws.{Going, going_start, going_room, going_next, going_done}

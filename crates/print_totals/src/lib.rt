@@ -1,5 +1,7 @@
 // Prints the page of totals of a table: a line for each section in key order, and a last line of sums. A pass that measures comes first, with
 // the same code.
+#![tactic(auto)]
+
 ghost use Rattle.std.specs.Prelude.{◌≡◌, List, ◌∷◌, ℕ, ◌+◌, ◌-◌, ◌≤◌, ◌<◌, length};
 ghost use Rattle.table.specs.Store.{row};
 ghost use Rattle.model.specs.Calls.{write_answer};

@@ -11,5 +11,5 @@ add_totals_spec =
     (λ c κs. search rules)
     (λ c κs. search rules)
     (λ c κs. search rules)
-    (λ c. totals-path (ratio_path c.before.before.add-ratios.ensures.0 c.before.before.add-ratios.ensures.1)
-    (ratio_path c.before.add-ratios2.ensures.0 c.before.add-ratios2.ensures.1) (ratio_path c.add-ratios3.ensures.0 c.add-ratios3.ensures.1)))
+    (λ c. totals-path (ratio_path c.before.before.before.before.before.before.add_ratios.ensures.0 c.before.before.before.before.before.before.add_ratios.ensures.1)
+    (ratio_path c.before.before.before.add_ratios-2.ensures.0 c.before.before.before.add_ratios-2.ensures.1) (ratio_path c.add_ratios-3.ensures.0 c.add_ratios-3.ensures.1)))

@@ -12,4 +12,4 @@ count_range_spec =
     (λ c. search rules)
     (λ c κs. search rules)
     (λ c. search rules)
-    (λ c text. range-counted text _ _ _ _ _ (c.count-hits.ensures text)))
+    (λ c text. range-counted text _ _ _ _ _ (c.count_hits-hit.ensures text)))

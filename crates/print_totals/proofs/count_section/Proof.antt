@@ -11,4 +11,4 @@ count_section_spec =
     (λ c κs. search (numbered-part, rules))
     (λ c κs. search (numbered-part, rules))
     (λ c κs. search (numbered-part, rules))
-    (λ c text. record { functions = c.before.before.count-range.ensures text; branches = c.before.count-range2.ensures text; lines = c.count-range3.ensures text }))
+    (λ c text. record { functions = c.before.before.count_range.ensures text; branches = c.before.count_range-2.ensures text; lines = c.count_range-3.ensures text }))

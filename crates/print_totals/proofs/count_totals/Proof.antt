@@ -7,13 +7,13 @@ use Rattle.print_totals.proofs.SumLaws.{Summing, summing_start, sum-small, summi
 use Rattle.print_totals.proofs.count_totals.Statement.{statement}
 use Rattle.print_totals.proofs.count_totals.Tie as tie
 
-abbrev invariant-loop : tie.invariant-loop
+abbrev invariant-loop : tie.invariant-loop-lo
 invariant-loop words index n sums₀ lo₀ sums lo = Summing words index n lo sums
 
-abbrev decreases-loop : tie.decreases-loop
+abbrev decreases-loop : tie.decreases-loop-lo
 decreases-loop words index n sums₀ lo₀ sums lo = n - lo
 
-abbrev start : tie.At-loop invariant-loop decreases-loop → tie.Start invariant-loop decreases-loop
+abbrev start : tie.At-loop-lo invariant-loop decreases-loop → tie.Start invariant-loop decreases-loop
 start l = l.before.before
 
 pub count_totals_spec : {M : Type 1} → statement M
@@ -22,15 +22,12 @@ count_totals_spec =
     (tie.spec
     invariant-loop
     decreases-loop
-    (λ c. let s = c.before in summing_start s.requires.1 s.requires.0.1)
+    (λ c. summing_start c.before.requires.1 c.before.requires.0.1)
     (λ c. search rules)
-    (λ c κs. let s = start c.before in (s.pre.0.1.store, omega arith, omega arith))
+    (λ c κs. let s = start c.before in (s.requires.0.1.store, omega arith, omega arith))
     (λ c. search rules)
-    (λ c κs. let s = start c.before.before in (table-numbered s.pre.0.1, s.pre.1, c.find-kind-ranges.ensures))
-    (λ c κs. let l = c.before.before.before in
-    sum-small (start l).requires.1 l.loop.invariant (omega arith) c.before.find-kind-ranges.ensures c.count-section.ensures)
-    (λ c. let α = c.before.before.find-kind-ranges.ensures in omega (arith, α.functions.least, α.branches.least, α.lines.least, α.lines.most))
-    (λ c. let f = c.before.before in
-    let l = f.before.before in
-    summing_next (start l).requires.1 l.loop.invariant (omega arith) f.find-kind-ranges.ensures c.before.count-section.ensures (start l).requires.0.1 c.add-totals.ensures)
-    (λ c text τ. let l = c.before in summing_done (start l).requires.1 l.loop.invariant (omega arith) text τ))
+    (λ c κs. let s = start c.before.before in (table-numbered s.requires.0.1, s.requires.1, c.find_kind_ranges-runs.ensures))
+    (λ c κs. sum-small (start c.before.before.before).requires.1 c.before.before.before.loop-lo.invariant (omega arith) c.before.find_kind_ranges-runs.ensures c.count_section-totals.ensures)
+    (λ c. let α = c.before.before.find_kind_ranges-runs.ensures in omega (arith, α.functions.least, α.branches.least, α.lines.least, α.lines.most))
+    (λ c. summing_next (start c.before.before.before.before).requires.1 c.before.before.before.before.loop-lo.invariant (omega arith) c.before.before.find_kind_ranges-runs.ensures c.before.count_section-totals.ensures (start c.before.before.before.before).requires.0.1 c.add_totals-sums.ensures)
+    (λ c text τ. let l = c.before in summing_done (start l).requires.1 l.loop-lo.invariant (omega arith) text τ))

@@ -13,11 +13,9 @@ emit_columns_spec =
     (λ c. search rules)
     (λ c. search rules)
     (λ c. search (columns-within, rules))
-    (λ c κs. let p = c.before.before.before.before in
-    let s = p.before.before.before in
-    slice-room s.args.totals s.args.write _ _ _ p.put-columns.ensures.0 p.put-columns.ensures.1 _ _ s.requires.1)
+    (λ c κs. slice-room c.before.before.before.before.before.before.args.totals c.before.before.before.before.before.before.args.write _ _ _ c.before.before.before.put_columns-n.ensures.0 c.before.before.before.put_columns-n.ensures.1 _ _ c.before.before.before.before.before.before.requires.1)
     (λ c. search rules)
     (λ c. let ε = c.before.before in
-    let p = ε.before.before.before.before.before in
+    let p = ε.before.before.before.before in
     let s = p.before.before.before in
-    slice-emitted s.args.totals s.args.write _ _ _ p.put-columns.ensures.0 p.put-columns.ensures.1 ε.emit-bytes.ensures))
+    slice-emitted s.args.totals s.args.write _ _ _ p.put_columns-n.ensures.0 p.put_columns-n.ensures.1 ε.emit_bytes.ensures))

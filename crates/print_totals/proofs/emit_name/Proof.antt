@@ -9,18 +9,11 @@ pub emit_name_spec : {M : Type 1} → statement M
 emit_name_spec =
     tie.close
     (tie.spec
-    (λ c. search rules)
-    (λ c κs. let s = c.before.before.before.before in
-    blank-room s.args.text.now s.args.start s.args.len s.args.write _ s.args.at s.requires.1)
+    (λ c κs. blank-room c.before.before.before.before.before.args.text.now c.before.before.before.before.before.args.start c.before.before.before.before.before.args.len c.before.before.before.before.before.args.write _ c.before.before.before.before.before.args.at c.before.before.before.before.before.requires.1)
     (λ c. search rules)
     (λ c. search rules)
     (λ c. search rules)
     (λ c. search rules)
-    (λ c κs. let e = c.before.before.before.before in
-    let s = e.before.before.before.before.before in
-    name-room s.args.text.now s.args.start s.args.len s.args.write _ s.args.at s.requires.1 (omega arith) e.emit-bytes.ensures)
+    (λ c κs. name-room c.before.before.before.before.before.before.before.before.before.before.args.text.now c.before.before.before.before.before.before.before.before.before.before.args.start c.before.before.before.before.before.before.before.before.before.before.args.len c.before.before.before.before.before.before.before.before.before.before.args.write _ c.before.before.before.before.before.before.before.before.before.before.args.at c.before.before.before.before.before.before.before.before.before.before.requires.1 (omega arith) c.before.before.before.before.emit_bytes-next.ensures)
     (λ c. search rules)
-    (λ c. let e₂ = c.before.before in
-    let e = e₂.before.before.before.before.before in
-    let s = e.before.before.before.before.before in
-    name-emitted s.args.text.now s.args.start s.args.len s.args.write _ s.args.at s.requires.1 (omega arith) e.emit-bytes.ensures e₂.emit-bytes2.ensures))
+    (λ c. name-emitted c.before.before.before.before.before.before.before.before.before.before.before.before.before.args.text.now c.before.before.before.before.before.before.before.before.before.before.before.before.before.args.start c.before.before.before.before.before.before.before.before.before.before.before.before.before.args.len c.before.before.before.before.before.before.before.before.before.before.before.before.before.args.write _ c.before.before.before.before.before.before.before.before.before.before.before.before.before.args.at c.before.before.before.before.before.before.before.before.before.before.before.before.before.requires.1 (omega arith) c.before.before.before.before.before.before.before.emit_bytes-next.ensures c.before.before.emit_bytes.ensures))

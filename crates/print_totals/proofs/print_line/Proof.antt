@@ -5,24 +5,24 @@ use Rattle.print_totals.proofs.LineLaws.{Here, table-numbered, counted-small, co
 use Rattle.print_totals.proofs.print_line.Statement.{statement}
 use Rattle.print_totals.proofs.print_line.Tie as tie
 
-abbrev start : tie.After-count-section → tie.Start
+abbrev start : tie.After-count_section-totals → tie.Start
 start c = c.before.before.before.before.before.before
 
 -- the section is counted, and has room
-abbrev here : (c : tie.After-count-section)
+abbrev here : (c : tie.After-count_section-totals)
     → Here (start c).args.write (start c).args.text.now (start c).args.words.now (start c).args.out.now (start c).args.index (start c).args.n (start c).args.lo
-    (start c).args.at c.before.before.get.result c.before.find-kind-ranges.result c.count-section.result
+    (start c).args.at c.before.before.get-header.result c.before.find_kind_ranges-runs.result c.count_section-totals.result
 here c =
     let s = start c in
     record {
-      table = s.pre.0.0;
-      few = s.pre.0.1;
-      more = s.pre.0.2;
-      kind = s.pre.0.3;
-      is = c.before.before.get.ensures;
-      runs = c.before.find-kind-ranges.ensures;
-      counted = c.count-section.ensures s.args.text.now;
-      room = s.pre.1;
+      table = s.requires.0.0;
+      few = s.requires.0.1;
+      more = s.requires.0.2;
+      kind = s.requires.0.3;
+      is = c.before.before.get-header.ensures;
+      runs = c.before.find_kind_ranges-runs.ensures;
+      counted = c.count_section-totals.ensures s.args.text.now;
+      room = s.requires.1;
       small = omega arith;
       place = omega arith;
     }
@@ -31,16 +31,13 @@ pub print_line_spec : {M : Type 1} → statement M
 print_line_spec =
     tie.close
     (tie.spec
-    (λ c κs. let s = c.before.before.before in (s.requires.0.0.store, omega arith))
+    (λ c κs. (c.before.before.before.requires.0.0.store, omega arith))
     (λ c. search rules)
-    (λ c κs. let s = c.before.before.before.before in (s.requires.0.0.store, omega arith, omega arith))
+    (λ c κs. (c.before.before.before.before.requires.0.0.store, omega arith, omega arith))
     (λ c. search rules)
-    (λ c κs. let s = c.before.before.before.before.before in (table-numbered s.requires.0.0, s.requires.0.1, c.find-kind-ranges.ensures))
+    (λ c κs. (table-numbered c.before.before.before.before.before.requires.0.0, c.before.before.before.before.before.requires.0.1, c.find_kind_ranges-runs.ensures))
     (λ c κs. let η = here c.before in (counted-small η, columns-room η))
-    (λ c κs. let e = c.before.before.before in
-    let η = here e.before.before in
-    (header-named η, names-room η e.emit-columns.ensures))
+    (λ c κs. let η = here c.before.before.before.before.before in
+    (header-named η, names-room η c.before.before.before.emit_columns-named.ensures))
     (λ c. search rules)
-    (λ c. let e₂ = c.before.before in
-    let e = e₂.before.before.before.before in
-    line_done (here e.before.before) e.emit-columns.ensures e₂.emit-names.ensures))
+    (λ c. line_done (here c.before.before.before.before.before.before.before.before) c.before.before.before.before.before.before.emit_columns-named.ensures c.before.before.emit_names-end.ensures))

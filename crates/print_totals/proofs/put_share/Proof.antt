@@ -8,7 +8,6 @@ pub put_share_spec : {M : Type 1} → statement M
 put_share_spec =
     tie.close
     (tie.spec
-    (λ c. search rules)
     (λ c κs. search rules)
     (λ c. search rules)
     (λ c. search (dash_len, dash_out, rules))
