@@ -1,5 +1,7 @@
 // A filtered report printed: `LineNum::apply` (SPEC 8.5). Rows and index stay: of each section, the row numbers of what stays
 // are put into the spare words, and the section is printed from there.
+#![tactic(auto)]
+
 ghost use Rattle.std.specs.Prelude.{◌≡◌, true, List, map, ℕ, ◌+◌, ◌-◌, ◌≤◌, ◌<◌, length, take};
 ghost use Rattle.table.specs.Rows.{word, row_at};
 ghost use Rattle.table.specs.Store.{row};

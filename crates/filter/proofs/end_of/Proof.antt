@@ -11,9 +11,7 @@ end_of_spec =
     (λ c κs. search rules)
     (λ c. search rules)
     (λ c. search rules)
-    (λ c. let e = c.before.before.before in
-    let s = e.before.args in
-    end_own s.row s.reckoned e.end_line.result e.end_line.ensures _ c.before.line.given.1)
-    (λ c. let e = c.before.before in
-    let s = e.before.args in
-    end_reckoned s.row s.reckoned e.end_line.result e.end_line.ensures c.enum_told.given.1))
+    (λ c. let s = c.before.before.args in
+    end_own s.row s.reckoned c.before.end_line.result c.before.end_line.ensures _ c.in-Given.is)
+    (λ c. let s = c.before.before.args in
+    end_reckoned s.row s.reckoned c.before.end_line.result c.before.end_line.ensures c.in-Absent.is))

@@ -7,10 +7,10 @@ use Rattle.filter.proofs.RowsLaws.{order-behind, functions-held, functions-spare
 use Rattle.filter.proofs.keep_functions.Statement.{statement}
 use Rattle.filter.proofs.keep_functions.Tie as tie
 
-abbrev start : tie.After-sort-functions → tie.Start
+abbrev start : tie.After-sort_functions → tie.Start
 start f = f.before.before.before.before
 
-abbrev sorted : tie.After-keep → tie.After-sort-functions
+abbrev sorted : tie.After-keep-started → tie.After-sort_functions
 sorted k = k.before.before.before.before
 
 pub keep_functions_spec : {M : Type 1} → statement M
@@ -18,27 +18,23 @@ keep_functions_spec =
     tie.close
     (tie.spec
     (λ c κs. let φ = c.before.before.before.requires.0 in (φ.functions, φ.behind, φ.words))
-    (λ c κs. let f = c.before.before.before in
-    let s = start f in ((s.args.text.now, order-behind s.pre.0 f.sort-functions.ensures f.sort-functions.auto.1.0), s.pre.1))
-    (λ c κs. let k = c.before.before.before in
-    let f = sorted k in
+    (λ c κs. let s = start c.before.before.before in ((s.args.text.now, order-behind s.requires.0 c.before.before.before.sort_functions.ensures c.before.before.before.sort_functions.auto.words), s.requires.1))
+    (λ c κs. let f = sorted c.before.before.before in
     let s = start f in (
       (
         s.args.text.now,
-        k.keep.ensures.rows s.args.text.now
-            (order-behind s.pre.0 f.sort-functions.ensures f.sort-functions.kept.1.0),
+        c.before.before.before.keep-started.ensures.rows s.args.text.now
+            (order-behind s.requires.0 f.sort_functions.ensures f.sort_functions.auto.words),
       ),
-      s.pre.1,
+      s.requires.1,
     ))
     (λ c. search rules)
-    (λ c. let u = c.before.before in
-    let k = u.before.before.before.before in
-    let f = sorted k in
+    (λ c. let f = sorted c.before.before.before.before.before.before in
     let s = start f in
     let ranges = take s.args.count (ranges_in s.args.pairs.now) in (
-      omega (arith, k.keep.ensures.most, u.keep2.ensures.most),
+      omega (arith, c.before.before.before.before.before.before.keep-started.ensures.most, c.before.before.keep.ensures.most),
       (
-        functions-held s.pre.0 f.sort-functions.ensures f.sort-functions.kept.1.0 s.args.bound ranges k.keep.ensures u.keep2.ensures,
-        functions-spared s.pre.0 f.sort-functions.ensures f.sort-functions.kept.1.0 s.args.bound ranges k.keep.ensures u.keep2.ensures,
+        functions-held s.requires.0 f.sort_functions.ensures f.sort_functions.auto.words s.args.bound ranges c.before.before.before.before.before.before.keep-started.ensures c.before.before.keep.ensures,
+        functions-spared s.requires.0 f.sort_functions.ensures f.sort_functions.auto.words s.args.bound ranges c.before.before.before.before.before.before.keep-started.ensures c.before.before.keep.ensures,
       ),
     )))

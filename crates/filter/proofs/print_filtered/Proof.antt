@@ -27,21 +27,21 @@ spacious s = record { table = s.requires.1.0.0; few = s.requires.1.0.1; behind =
 abbrev ranges : tie.Start → List Range
 ranges s = take s.args.count (ranges_in s.args.pairs.now)
 
-abbrev start : tie.After-required-len → tie.Start
+abbrev start : tie.After-required_len-needed → tie.Start
 start m = m.before.before.before.before.before.before.before
 
 -- what the length promises
-abbrev measured : (m : tie.After-required-len) → let a = (start m).args in
+abbrev measured : (m : tie.After-required_len-needed) → let a = (start m).args in
     Measured (filtered_from (tags_of a.tags.now) a.bound (ranges (start m)) a.text.now a.index a.n)
     (print_sections (tags_of a.tags.now) (map (filter_section a.bound (ranges (start m))) (sections (entries_at a.text.now a.words.now a.index a.n))))
-    a.words.now m.required-len.new.1.1.0 a.out.now m.required-len.new.1.1.1.1.1.1.1.1.1.1.0 a.n a.spare
-    m.required-len.result
+    a.words.now m.required_len-needed.new.words a.out.now m.required_len-needed.new.out a.n a.spare
+    m.required_len-needed.result
 measured m = let a = (start m).args in record {
   prints = filtered_prints _ a.bound (ranges (start m)) (spacious (start m));
   is = ap (λ (r : Report). print_sections (tags_of a.tags.now) (map (filter_section a.bound (ranges (start m))) (sections r)))
       (entries-all a.text.now a.words.now a.index a.n);
-  spared = m.required-len.ensures.1;
-  enough = m.required-len.ensures.0;
+  spared = m.required_len-needed.ensures.1;
+  enough = m.required_len-needed.ensures.0;
   few = omega arith;
 }
 
@@ -49,17 +49,15 @@ pub print_filtered_spec : {M : Type 1} → statement M
 print_filtered_spec =
     tie.close
     (tie.spec
-    (λ c κs. let s = c.before.before.before.before.before.before in (s.requires.0, (spacious s, s.requires.1.0.2)))
+    (λ c κs. (c.before.before.before.before.before.before.requires.0, (spacious c.before.before.before.before.before.before, c.before.before.before.before.before.before.requires.1.0.2)))
     (λ c κs. search rules)
     (λ c. search rules)
     (λ c. search rules)
     (λ c. let μ = measured c.before.before.before.before.before.before in
     (short_answer (enough_bytes μ) μ.few (omega arith) c.too_short.ensures, short-out (enough_bytes μ) μ.few (omega arith)))
-    (λ c κs. let m = c.before.before.before.before.before.before.before in
-    let μ = measured m in
-    ((start m).requires.0, (printable-kept (spacious (start m)) μ.spared, ((start m).requires.1.0.2, room_again μ (second-room (enough_bytes μ) μ.few (omega arith))))))
+    (λ c κs. let μ = measured c.before.before.before.before.before.before.before in
+    ((start c.before.before.before.before.before.before.before).requires.0, (printable-kept (spacious (start c.before.before.before.before.before.before.before)) μ.spared, ((start c.before.before.before.before.before.before.before).requires.1.0.2, room_again μ (second-room (enough_bytes μ) μ.few (omega arith))))))
     (λ c. search rules)
     (λ c. search rules)
-    (λ c. let w = c.before.before.before.before in
-    let μ = measured w.before.before.before.before.before.before.before.before in
-    (written_answer (enough_bytes μ) μ.few (omega arith) (emitted_again μ w.filter-sections.ensures.0), written_out (enough_bytes μ) μ.few (omega arith) (emitted_again μ w.filter-sections.ensures.0))))
+    (λ c. let μ = measured c.before.before.before.before.before.before.before.before.before.before.before.before in
+    (written_answer (enough_bytes μ) μ.few (omega arith) (emitted_again μ c.before.before.before.before.filter_sections-len.ensures.0), written_out (enough_bytes μ) μ.few (omega arith) (emitted_again μ c.before.before.before.before.filter_sections-len.ensures.0))))

@@ -16,8 +16,8 @@ use Rattle.filter.proofs.ThinLaws.{filtered-most}
 use Rattle.filter.proofs.required_len.Statement.{statement}
 use Rattle.filter.proofs.required_len.Tie as tie
 
-abbrev start : tie.After-surely-fits → tie.Start
-start b = b.before.before.before.before.before.before
+abbrev start : tie.After-surely_fits → tie.Start
+start b = b.before.before.before.before.before
 
 abbrev ranges : tie.Start → List Range
 ranges s = take s.args.count (ranges_in s.args.pairs.now)
@@ -25,24 +25,21 @@ ranges s = take s.args.count (ranges_in s.args.pairs.now)
 abbrev printed : tie.Start → Bytes
 printed s = filtered_from (tags_of s.args.tags.now) s.args.bound (ranges s) s.args.text.now s.args.index s.args.n s.args.words.now 0
 
-few : (b : tie.After-surely-fits) → length (start b).args.out.now * 1 < 2 ^ 63
+few : (b : tie.After-surely_fits) → length (start b).args.out.now * 1 < 2 ^ 63
 few b = omega arith
 
 pub required_len_spec : {M : Type 1} → statement M
 required_len_spec =
     tie.close
     (tie.spec
-    (λ c κs. let s = c.before.before.before.before.before in (s.requires.0, (s.requires.1.0.table.store, s.requires.1.0.table.room, omega arith)))
+    (λ c κs. (c.before.before.before.before.requires.0, (c.before.before.before.before.requires.1.0.table.store, c.before.before.before.before.requires.1.0.table.room, omega arith)))
     (λ c. search rules)
-    (λ c. let b = c.before in
-    let s = start b in (
+    (λ c. let s = start c.before in (
       fits_required _ s.args.text.now s.args.words.now s.args.out.now (printed s)
-          s.args.index s.args.n b.surely-fits.result c.if1.true b.surely-fits.ensures (filtered-most _ s.args.bound (ranges s) s.pre.1.0),
+          s.args.index s.args.n c.before.surely_fits.result c.if-surely_fits.true c.before.surely_fits.ensures (filtered-most _ s.args.bound (ranges s) s.requires.1.0),
       spared-none,
     ))
-    (λ c κs. let s = start c.before.before.before in (s.pre.0, (s.pre.1.0, (s.pre.1.1, tt))))
+    (λ c κs. let s = start c.before.before.before in (s.requires.0, (s.requires.1.0, (s.requires.1.1, tt))))
     (λ c. search rules)
     (λ c. search rules)
-    (λ c. let p = c.before.before.before.before in
-    let b = p.before.before.before.before in
-    (required_measured {bytes = printed (start b)} p.filter-sections.ensures.0 (few b), p.filter-sections.ensures.1)))
+    (λ c. (required_measured {bytes = printed (start c.before.before.before.before.before.before.before.before)} c.before.before.before.before.filter_sections.ensures.0 (few c.before.before.before.before.before.before.before.before), c.before.before.before.before.filter_sections.ensures.1)))

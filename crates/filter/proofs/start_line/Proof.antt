@@ -9,9 +9,7 @@ start_line_spec =
     tie.close
     (tie.spec
     (λ c κs. search rules)
-    (λ c. λ text. start_none text _ _ (c.before.start-key.ensures text) c.if1.true)
+    (λ c. λ text. start_none text _ _ (c.before.start_key-key.ensures text) c.if-key-eq0.true)
     (λ c. search rules)
-    (λ c. let k = c.before in
-    let s = k.before in
-    start_fits s.requires.0 s.args.row _ (k.start-key.ensures s.requires.0) c.if1.false s.requires.1)
-    (λ c. λ text. start_is text _ _ (c.before.start-key.ensures text) c.if1.false))
+    (λ c. start_fits c.before.before.requires.0 c.before.before.args.row _ (c.before.start_key-key.ensures c.before.before.requires.0) c.if-key-eq0.false c.before.before.requires.1)
+    (λ c. λ text. start_is text _ _ (c.before.start_key-key.ensures text) c.if-key-eq0.false))
