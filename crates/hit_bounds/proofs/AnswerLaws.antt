@@ -1,34 +1,29 @@
 -- Two texts read one behind the other, and the answer of their tables. Assumes nothing.
-use Prim.Native.Nat.{ℕ, ◌+◌, ◌*◌, ◌-◌, ◌≤◌, ◌<◌}
-use native.Mathlib.Omega.{arith}
-use mathlib.Core.Path.{◌≡◌, refl, sym, ap, ◌∙◌}
+use Prim.Native.Nat.{ℕ}
+use mathlib.Core.Path.{◌≡◌, ◌∙◌}
 use mathlib.Core.Bool.{true, false}
 use mathlib.Core.List.{List}
-use lib.ListN.{length, take, drop, length-drop}
-use lib.Seq.{take_all}
+use lib.ListN.{take}
 use Rattle.model.specs.declared.Kind.{Kind}
 use Rattle.model.specs.declared.Fault.TheVariants.{DifferentKeys, LeastAboveGreatest}
 use Rattle.model.specs.declared.Refusal.{Refusal}
 use Rattle.model.specs.Bytes.{Bytes}
-use Rattle.model.specs.Limits.{max_entries}
-use Rattle.model.specs.Answer.{Answer, accepted, refused, unplaced, in_text, ◌>>=◌}
+use Rattle.model.specs.Answer.{accepted, refused, unplaced}
 use Rattle.model.specs.Report.{Report}
 use Rattle.model.specs.Reading.{read_text}
 use Rattle.model.specs.Gather.{entry_limit}
 use Rattle.model_bounds.specs.declared.BoundsAnswer.{BoundsAnswer}
 use Rattle.model_bounds.specs.declared.BoundsAnswer.TheVariants as B
 use Rattle.model_bounds.specs.declared.Hits.{Hits}
-use Rattle.model_bounds.specs.Bounds.{Bounds, same_keys, counts_rise, hits_of, bounds, hit_bounds, bounds_answer}
-use Rattle.table_section.specs.Sections.{entries_at, Sections}
-use Rattle.section.specs.Reading.{capacity}
+use Rattle.model_bounds.specs.Bounds.{same_keys, counts_rise, hits_of, bounds, hit_bounds, bounds_answer}
+use Rattle.table_section.specs.Sections.{entries_at}
 use Rattle.report_parser.specs.declared.TextAnswer.{TextAnswer}
 use Rattle.report_parser.specs.declared.TextAnswer.TheVariants as T
 use Rattle.report_parser.specs.Reader.{TextRead}
 use Rattle.scratch_layout.specs.Layout.{index_at, base_at, ScratchRoom}
 use Rattle.joined_table.specs.Gathering.{in_text_of}
 use Rattle.joined_table.proofs.OneLaws.{lent, lent-behind, lent-before, base_inside}
-use Rattle.hit_bounds.specs.declared.Rows.{Rows}
-use Rattle.hit_bounds.specs.Pairs.{Kept, ReadRest, bounds_behind}
+use Rattle.hit_bounds.specs.Pairs.{ReadRest, bounds_behind}
 
 -- ---- two reports
 
@@ -45,24 +40,6 @@ module _ (low high : Report) where
     pub both_counted : counts_rise low high ≡ true → (l g : Hits) → l ≡ hits_of low → g ≡ hits_of high → B.Bounds l g ≡ bounds_answer (bounds low high)
     unfolding bounds
     both_counted c l g e f = rw (e, f, same, c)
-
--- ---- two tables of one scratch
-
-module _ (least greatest : Bytes) (ws : List ℕ) (limit base index : ℕ) (at_base : base ≡ base_at limit) (at-index : index ≡ index_at limit) where
-  -- the words behind, as they are lent
-  behind-is : take (length ws - base) (drop base ws) ≡ drop (base_at limit) ws
-  behind-is = take_all (length ws - base) (drop base ws) (rw (length-drop base ws) (omega arith)) ∙ ap (λ (n : ℕ). drop n ws) at_base
-
-  pub front_kept : (l : Rows) → Kept least (take (base_at limit) ws) (index_at limit) l → Kept least (take base ws) index l
-  front_kept l k = rw (at_base, at-index) k
-
-  pub behind-kept : (h : Rows) → Kept greatest (drop (base_at limit) ws) (index_at limit) h → Kept greatest (take (length ws - base) (drop base ws)) index h
-  behind-kept h k = rw (behind-is, at-index) k
-
-  pub halves_compared : (l h : Rows) (r : BoundsAnswer)
-      → r ≡ bounds_answer (bounds (entries_at least (take base ws) index l.kept) (entries_at greatest (take (length ws - base) (drop base ws)) index h.kept))
-      → r ≡ bounds_answer (bounds (entries_at least (take (base_at limit) ws) (index_at limit) l.kept) (entries_at greatest (drop (base_at limit) ws) (index_at limit) h.kept))
-  halves_compared l h r e = rw (at_base, at-index) at (rw behind-is at e)
 
 -- ---- one text
 
@@ -82,37 +59,6 @@ module _ (tag : Kind → Bytes) (text ws : List ℕ) (limit : ℕ) (r : TextAnsw
   module _ (kept used : ℕ) (e : r ≡ T.Read kept used) where
     pub read_is : accepted (entries_at text ws (index_at limit) kept) ≡ read_text tag limit text
     read_is = rw e at t.is
-
-    read_held : Sections text ws (index_at limit) used kept × (used ≤ capacity limit) × (kept ≤ limit)
-    read_held = rw e at t.held
-
-    pub read_kept : limit ≤ max_entries → Kept text ws (index_at limit) (record { used = used; kept = kept })
-    read_kept most = record { sections = read_held.0; few = omega (arith, read_held.2) }
-
--- ---- the greatest text, behind the least
-
-module _ (tag : Kind → Bytes) (least greatest : Bytes) (ws ws' : List ℕ) (limit : ℕ) (l : Rows) (got : TextAnswer) (b : ReadRest tag greatest ws ws' limit got) where
-  abbrev low : Report
-  low = entries_at least (take (base_at limit) ws) (index_at limit) l.kept
-
-  pub greatest-refused : (q r : Refusal) → got ≡ T.Refused q → r ≡ in_text_of 1 q → B.Refused r ≡ bounds_answer (bounds_behind tag low greatest limit)
-  greatest-refused q r e h =
-      let read = refused-is tag greatest (drop (base_at limit) ws') limit got b.read q e in
-      rw (h, ← read)
-
-  pub least_stays : Kept least (take (base_at limit) ws) (index_at limit) l → Kept least (take (base_at limit) ws') (index_at limit) l
-  least_stays k = rw b.stays k
-
-  module _ (kept used : ℕ) (e : got ≡ T.Read kept used) where
-    pub greatest-kept : ScratchRoom ws limit → Kept greatest (drop (base_at limit) ws') (index_at limit) (record { used = used; kept = kept })
-    greatest-kept space = read_kept tag greatest (drop (base_at limit) ws') limit got b.read kept used e space.most
-
-    pub greatest_compared : (r : BoundsAnswer)
-        → r ≡ bounds_answer (bounds (entries_at least (take (base_at limit) ws') (index_at limit) l.kept) (entries_at greatest (drop (base_at limit) ws') (index_at limit) kept))
-        → r ≡ bounds_answer (bounds_behind tag low greatest limit)
-    greatest_compared r h =
-        let read = read_is tag greatest (drop (base_at limit) ws') limit got b.read kept used e in
-        rw b.stays at h ∙ rw (← read)
 
 -- ---- the call
 

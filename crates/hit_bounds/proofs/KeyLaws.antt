@@ -1,24 +1,23 @@
 -- The keys and counts of two rows of two texts. Assumes nothing.
-use Prim.Native.Nat.{ℕ, zero, suc, ◌+◌, ◌*◌, ◌/◌, ◌%◌, ◌≤◌, ◌<◌, compare, Ordering}
+use Prim.Native.Nat.{ℕ, zero, suc, ◌+◌, ◌%◌, compare, Ordering}
 use native.Mathlib.Omega.{arith}
 use mathlib.Core.Path.{◌≡◌, refl, sym, ap, ◌∙◌}
 use mathlib.Core.Logic.{◌≢◌}
 use mathlib.Core.Bool.{Bool, true, false, ◌&&◌}
-use mathlib.Core.List.{List}
 use lib.Dec.{eqb, ltb, compare_is_eq}
 use borrow.Author.Tests.{eq-eqb, ne_eqb, ltb-true, ltb-false, lt-ltb}
 use Rattle.ordmap.specs.Compare.{lex}
 use Rattle.model.specs.Order.{if◌then◌else◌}
 use Rattle.model.specs.Bytes.{Bytes, compare_bytes}
 use Rattle.model.specs.Path.{components, compare_paths}
-use Rattle.model.specs.Report.{Item, item_key, compare_items, compare_sections, compare_keys, section_key, entry_key, count_of}
+use Rattle.model.specs.Report.{Item, item_key, compare_items, compare_sections, compare_keys, entry_key, count_of}
 use Rattle.model.specs.Printing.{is_function, is_branch, is_line}
 use Rattle.model_bounds.specs.declared.Hits.{Hits}
 use Rattle.table.specs.declared.Row.{Row}
-use Rattle.table_item.specs.Items.{part, kind_of, function_kind, branch_kind, line_kind, by_kind, item_of, ItemInBounds}
+use Rattle.table_item.specs.Items.{part, kind_of, function_kind, branch_kind, line_kind, item_of, ItemInBounds}
 use Rattle.table_item.proofs.CompareLaws as Items
 use Rattle.table_section.specs.Sections.{entry_of, key_of, test_of, path_of}
-use Rattle.hit_bounds.specs.Pairs.{same_branch, hit_of, with_hit}
+use Rattle.hit_bounds.specs.Pairs.{same_branch, with_hit}
 
 equal-lex : (o p : Ordering) → compare_is_eq (lex o p) ≡ (compare_is_eq o && compare_is_eq p)
 equal-lex Ordering.lt p = refl

@@ -4,9 +4,9 @@ use native.Mathlib.Omega.{arith}
 use mathlib.Core.Path.{◌≡◌, refl, sym, ap, ◌∙◌}
 use mathlib.Core.Logic.{◌≢◌}
 use mathlib.Core.Bool.{Bool, true, false, ◌&&◌}
-use mathlib.Core.List.{List, [], ◌∷◌, ◌++◌, map, map-append}
+use mathlib.Core.List.{List, [], ◌∷◌, map-append}
 use lib.Dec.{leb, ltb, eqb, compare_is_eq}
-use lib.ListN.{length, length-map}
+use lib.ListN.{length-map}
 use borrow.Author.Tests.{le-leb, lt-leb, eqb-true, eqb-false}
 use Rattle.ordmap.proofs.Results.{impossible}
 use Rattle.model.specs.Order.{if◌then◌else◌}
@@ -130,6 +130,11 @@ module _ (f g : ℕ → Entry) where
 
   pub rise_same : (n i : ℕ) → n ≤ i → ((k : ℕ) → k < i → rises_at f g k ≡ true) → true ≡ counts_rise (tabulate f n) (tabulate g n)
   rise_same n i l h = sym (rise_all f g n (λ k o. h k (omega arith)))
+
+-- the first m of both, where lists of n and m have the same keys
+pub rise_kept : (f g : ℕ → Entry) (n m : ℕ) → same_keys (tabulate f n) (tabulate g m) ≡ true → (t u : Bool) → t ≡ counts_rise (tabulate f m) (tabulate g m) → t ≡ u
+    → counts_rise (tabulate f n) (tabulate g m) ≡ u
+rise_kept f g n m keys t u e h = ap (λ (k : ℕ). counts_rise (tabulate f k) (tabulate g m)) (same_length f g n m keys) ∙ sym e ∙ h
 
 -- ---- hits
 

@@ -5,7 +5,6 @@ use Prim.Native.Nat.{ℕ, ◌-◌, ◌≤◌, ◌<◌}
 use native.Mathlib.Omega.{arith}
 use Rattle.table_section.specs.Sections.{entry_at}
 use Rattle.hit_bounds.proofs.ListLaws.{all-next, same_at, key_at_lem, keys-long, keys_differ, keys-same}
-use borrow.Author.Rules.{rules}
 use Rattle.hit_bounds.proofs.keys_agree.Statement.{statement}
 use Rattle.hit_bounds.proofs.keys_agree.Tie as tie
 
