@@ -9,9 +9,6 @@ use Rattle.print_report.proofs.print_functions.Tie as tie
 abbrev sorted : tie.After-sort_functions → tie.Start
 sorted f = f.before.before.before.before.before.before.before
 
-abbrev unsorted : tie.Else-write → tie.Start
-unsorted e = e.before.before.before.before.before
-
 pub print_functions_spec : {M : Type 1} → statement M
 print_functions_spec =
     tie.close
@@ -30,17 +27,17 @@ print_functions_spec =
       sorted_done _ _ _ _ _ _ c.before.before.before.before.before.before.sort_functions.ensures c.before.before.print_numbered.ensures,
       order-spared s.requires.1.0 c.before.before.before.before.before.before.sort_functions.ensures c.before.before.before.before.before.before.sort_functions.auto.words,
     ))
-    (λ c. omega (arith, (unsorted c).requires.1.0.rows.numbered.words))
-    (λ c κs. let s = unsorted c.before in (
+    (λ c. omega (arith, c.before.before.before.before.before.requires.1.0.rows.numbered.words))
+    (λ c κs. let s = c.before.before.before.before.before.before in (
       s.requires.0,
       (
         (s.requires.1.0.rows, s.requires.1.0.few),
-        index-room _ s.args.text.now s.args.words.now s.args.index s.args.from s.args.n s.args.write s.args.out.now s.args.at c.before.if-write.false,
+        index-room _ s.args.text.now s.args.words.now s.args.index s.args.from s.args.n s.args.write s.args.out.now s.args.at (search rules),
       ),
     ))
     (λ c. search rules)
     (λ c. search rules)
-    (λ c. let s = unsorted c.before.before.before.before in (
-      index_done _ s.args.text.now s.args.words.now s.args.index s.args.from s.args.n c.before.before.before.before.if-write.false c.before.before.print_numbered-2.ensures,
+    (λ c. let s = c.before.before.before.before.before.before.before.before.before in (
+      index_done _ s.args.text.now s.args.words.now s.args.index s.args.from s.args.n (search rules) c.before.before.print_numbered-2.ensures,
       spared-none,
     )))
