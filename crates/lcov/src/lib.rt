@@ -3,6 +3,8 @@
 // the gather of labs under quotas, and bounds of sampled counts; beside them the calls for one line, for range lists, and for paths and bytes. This
 // is the public surface.
 // The scratch is lent; "After a call the scratch is free to hold anything, and no call reads what it held."
+#![tactic(auto)]
+
 mod bounds;
 mod latest;
 mod lines;

@@ -16,22 +16,22 @@ use Rattle.lcov.proofs.CallLaws.{called, reading_refused, reading_ready, reading
 use Rattle.lcov.proofs.filter.Statement.{statement}
 use Rattle.lcov.proofs.filter.Tie as tie
 
-abbrev start : tie.After-is-well-formed → tie.Start
+abbrev start : tie.After-is_well_formed → tie.Start
 start w = w.before.before.before.before.before
 
 -- the reading, before its answer is taken apart
-abbrev read : tie.After-slice-known3 → tie.After-read-lines
+abbrev read : tie.After-slice_known-then-is_well_formed-1 → tie.After-read_lines
 read c = c.before.before
 
-abbrev limited : tie.After-read-lines → tie.After-entry-limit
+abbrev limited : tie.After-read_lines → tie.After-entry_limit-limit
 limited c = c.before.before.before
 
 -- where the printing finds what was read
-abbrev kept : tie.After-spare-at → tie.After-kept
-kept c = c.before.before
+abbrev kept : tie.After-spare_at-spare → tie.In-Read
+kept c = c.before
 
-well : (l : tie.After-entry-limit) → let s = (start l.before.before).args in well_formed_ranges (ranges_in s.pairs.now) s.used ≡ true
-well l = sym l.before.before.is-well-formed.ensures ∙ l.before.if1.true
+well : (l : tie.After-entry_limit-limit) → let s = (start l.before.before).args in well_formed_ranges (ranges_in s.pairs.now) s.used ≡ true
+well l = sym l.before.before.is_well_formed.ensures ∙ l.before.if-is_well_formed.true
 
 -- what is printed of a report
 abbrev printed : tie.Start → Report → Bytes
@@ -47,35 +47,32 @@ filter_spec =
     (λ c κs. (search rules, (search (limit_room, rules), search rules)))
     (λ c. search rules)
     (λ c. search rules)
-    (λ c. let r = read c.before.before.before in
+    (λ c. let r = read c.before in
     let l = limited r in
     let s = start l.before.before in
     let a = s.args in
-    called (reading_refused _ _ _ _ l.entry_limit_lem.ensures _ _ _ r.read-lines.ensures (printed s) a.out.now _
+    called (reading_refused _ _ _ _ l.entry_limit-limit.ensures _ _ _ r.read_lines.ensures (printed s) a.out.now _
     (filter_means _ a.bound a.text.now (ranges_in a.pairs.now) a.used (length a.scratch.now) a.out.now (well l)) _
-    c.before.refusal.given.1))
+    c.in-Refused.is))
     (λ c. search rules)
     (λ c κs. search (limit_few, rules))
-    (λ c κs. let s = c.before.before in
-    let k = kept s in
-    let r = read k.before.before in
+    (λ c κs. let k = kept c.before.before in
+    let r = read k.before in
     let l = limited r in
-    let ready = reading_ready _ _ _ _ l.entry_limit_lem.ensures _ _ _ r.read-lines.ensures _ _ k.kept.given.1 (search rules)
-    r.before.before.index_at.ensures _ s.spare_at.ensures in
+    let ready = reading_ready _ _ _ _ l.entry_limit-limit.ensures _ _ _ r.read_lines.ensures _ _ k.in-Read.is (search rules)
+    r.before.before.index_at-index.ensures _ c.before.before.spare_at-spare.ensures in
     (search rules, ((ready.0.0, ready.0.1, well l), ready.1)))
     (λ c. search rules)
     (λ c. search rules)
-    (λ c. let p = c.before.before.before.before in
-    let k = kept p.before.before.before in
-    let r = read k.before.before in
+    (λ c. let k = kept c.before.before.before.before.before.before.before in
+    let r = read k.before in
     let l = limited r in
     let s = start l.before.before in
     let a = s.args in
-    called (reading_printed _ _ _ _ l.entry_limit_lem.ensures _ _ _ r.read-lines.ensures (printed s) a.out.now _
+    called (reading_printed _ _ _ _ l.entry_limit-limit.ensures _ _ _ r.read_lines.ensures (printed s) a.out.now _
     (filter_means _ a.bound a.text.now (ranges_in a.pairs.now) a.used (length a.scratch.now) a.out.now (well l)) _ _
-    k.kept.given.1 _ _ p.print-filtered.ensures))
+    k.in-Read.is _ _ c.before.before.before.before.print_filtered.ensures))
     (λ c κs. search rules)
-    (λ c. let e = c.before in
-    let a = (start e.before).args in
+    (λ c. let a = (start c.before.before).args in
     called (filter_bad _ a.bound a.text.now (ranges_in a.pairs.now) a.used (length a.scratch.now) a.out.now _
-    (sym e.before.is-well-formed.ensures ∙ e.if1.false) c.unplaced.ensures)))
+    (sym c.before.before.is_well_formed.ensures ∙ c.before.if-is_well_formed.false) c.unplaced.ensures)))

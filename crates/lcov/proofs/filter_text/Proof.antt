@@ -8,7 +8,6 @@ unfolding tags_of are_tags
 filter_text_spec =
     tie.close
     (tie.spec
-    (λ c. search rules)
     (λ c κs. search rules)
     (λ c. search rules)
     (λ c. search rules)

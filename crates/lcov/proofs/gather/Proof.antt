@@ -7,10 +7,10 @@ use Rattle.lcov.proofs.gather.Statement.{statement}
 use Rattle.lcov.proofs.gather.Tie as tie
 
 -- what was gathered, before it is printed
-abbrev gathered : tie.After-print-joined → tie.After-gather-bundle
+abbrev gathered : tie.After-print_joined → tie.After-gather_bundle-got
 gathered p = p.before.before.before.before.before
 
-abbrev start : tie.After-gather-bundle → tie.Start
+abbrev start : tie.After-gather_bundle-got → tie.Start
 start g = g.before.before.before.before.before.before
 
 pub gather_spec : {M : Type 1} → statement M
@@ -18,10 +18,9 @@ gather_spec =
     tie.close
     (tie.spec
     (λ c κs. search rules)
-    (λ c κs. (search rules, gathered-held _ _ _ _ _ c.before.before.before.before.gather-bundle.ensures (search rules)))
+    (λ c κs. (search rules, gathered-held _ _ _ _ _ c.before.before.before.before.gather_bundle-got.ensures (search rules)))
     (λ c. search rules)
     (λ c. search rules)
-    (λ c. let p = c.before.before.before.before in
-    let g = gathered p in
+    (λ c. let g = gathered c.before.before.before.before in
     let s = start g in
-    gathered_called _ _ _ _ _ g.gather-bundle.ensures (search rules) (print_report (tags_of s.args.tags.now)) s.args.out.now _ _ _ (gather_means (tags_of s.args.tags.now) s.args.mode _ _ s.args.out.now) p.print-joined.ensures))
+    gathered_called _ _ _ _ _ g.gather_bundle-got.ensures (search rules) (print_report (tags_of s.args.tags.now)) s.args.out.now _ _ _ (gather_means (tags_of s.args.tags.now) s.args.mode _ _ s.args.out.now) c.before.before.before.before.print_joined.ensures))

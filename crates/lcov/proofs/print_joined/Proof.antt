@@ -8,11 +8,11 @@ use Rattle.lcov.proofs.print_joined.Statement.{statement}
 use Rattle.lcov.proofs.print_joined.Tie as tie
 
 -- where the printing finds what was gathered
-abbrev entries : tie.After-spare-at → tie.After-got2
-entries a = a.before.before.before.before
+abbrev entries : tie.After-spare_at-spare → tie.In-Entries
+entries a = a.before.before.before
 
-abbrev start : tie.After-got2 → tie.Start
-start e = e.before.before.before.before.before.before
+abbrev start : tie.In-Entries → tie.Start
+start e = e.before.before.before.before.before
 
 pub print_joined_spec : {M : Type 1} → statement M
 print_joined_spec =
@@ -23,20 +23,16 @@ print_joined_spec =
     (λ c κs. search rules)
     (λ c κs. search (limit_few, rules))
     (λ c κs. search (limit_few, rules))
-    (λ c κs. let a = c.before.before in
-    let e = entries a in
+    (λ c κs. let e = entries c.before.before in
     let s = start e in (
       search rules,
-      joined_ready (print_report (tags_of s.args.tags.now)) s.args.bundle.now _ s.args.got s.pre.1 s.args.out.now _ e.got2.given.1 _
-          a.before.before.entry_limit_lem.ensures _ a.before.index_at.ensures _ a.spare_at.ensures,
+      joined_ready (print_report (tags_of s.args.tags.now)) s.args.bundle.now _ s.args.got s.requires.1 s.args.out.now _ e.in-Entries.is _
+          c.before.before.before.before.entry_limit-limit.ensures _ c.before.before.before.index_at-index.ensures _ c.before.before.spare_at-spare.ensures,
     ))
-    (λ c. let s = c.before.before.before.before.before.before.before in
-    called (joined-refused (print_report (tags_of s.args.tags.now)) s.args.bundle.now _ s.args.got s.requires.1 s.args.out.now _ c.before.got.given.1))
+    (λ c. called (joined-refused (print_report (tags_of c.before.before.before.before.before.args.tags.now)) c.before.before.before.before.before.args.bundle.now _ c.before.before.before.before.before.args.got c.before.before.before.before.before.requires.1 c.before.before.before.before.before.args.out.now _ c.in-Refused.is))
     (λ c. search rules)
     (λ c. search rules)
-    (λ c. let p = c.before.before.before.before in
-    let a = p.before.before.before in
-    let e = entries a in
+    (λ c. let e = entries c.before.before.before.before.before.before.before in
     let s = start e in
-    called (joined-printed (print_report (tags_of s.args.tags.now)) s.args.bundle.now _ s.args.got s.pre.1 s.args.out.now _ e.got2.given.1 _
-    a.before.before.entry_limit_lem.ensures _ a.before.index_at.ensures _ _ p.print-report.ensures)))
+    called (joined-printed (print_report (tags_of s.args.tags.now)) s.args.bundle.now _ s.args.got s.requires.1 s.args.out.now _ e.in-Entries.is _
+    c.before.before.before.before.before.before.before.before.before.entry_limit-limit.ensures _ c.before.before.before.before.before.before.before.before.index_at-index.ensures _ _ c.before.before.before.before.print_report.ensures)))

@@ -8,6 +8,5 @@ unfolding tags_of are_tags
 read_line_spec =
     tie.close
     (tie.spec
-    (λ c. search rules)
     (λ c κs. search rules)
     (λ c. search rules))

@@ -7,11 +7,11 @@ use Rattle.lcov.proofs.page.print_page.Statement.{statement}
 use Rattle.lcov.proofs.page.print_page.Tie as tie
 
 -- where the printing finds what was gathered
-abbrev entries : tie.After-index-at → tie.After-got2
-entries a = a.before.before.before
+abbrev entries : tie.After-index_at-index → tie.In-Entries
+entries a = a.before.before
 
-abbrev start : tie.After-got2 → tie.Start
-start e = e.before.before.before.before.before
+abbrev start : tie.In-Entries → tie.Start
+start e = e.before.before.before.before
 
 pub print_page_spec : {M : Type 1} → statement M
 print_page_spec =
@@ -21,16 +21,12 @@ print_page_spec =
     (λ c. search rules)
     (λ c κs. search rules)
     (λ c κs. search (limit_few, rules))
-    (λ c κs. let a = c.before in
-    let e = entries a in
+    (λ c κs. let e = entries c.before in
     let s = start e in
-    joined-table page s.args.bundle.now _ s.args.got s.pre s.args.out.now _ e.got2.given.1 _ a.before.entry_limit_lem.ensures _ a.index_at.ensures)
-    (λ c. let s = c.before.before.before.before.before.before in
-    called (joined-refused page s.args.bundle.now _ s.args.got s.requires s.args.out.now _ c.before.got.given.1))
+    joined-table page s.args.bundle.now _ s.args.got s.requires s.args.out.now _ e.in-Entries.is _ c.before.before.entry_limit-limit.ensures _ c.before.index_at-index.ensures)
+    (λ c. called (joined-refused page c.before.before.before.before.args.bundle.now _ c.before.before.before.before.args.got c.before.before.before.before.requires c.before.before.before.before.args.out.now _ c.in-Refused.is))
     (λ c. search rules)
-    (λ c. let p = c.before.before in
-    let a = p.before.before in
-    let e = entries a in
+    (λ c. let e = entries c.before.before.before.before in
     let s = start e in
-    called (joined-printed page s.args.bundle.now _ s.args.got s.pre s.args.out.now _ e.got2.given.1 _ a.before.entry_limit_lem.ensures _ a.index_at.ensures _ _
-    p.print-page.ensures)))
+    called (joined-printed page s.args.bundle.now _ s.args.got s.requires s.args.out.now _ e.in-Entries.is _ c.before.before.before.before.before.entry_limit-limit.ensures _ c.before.before.before.before.index_at-index.ensures _ _
+    c.before.before.print_page.ensures)))

@@ -9,7 +9,6 @@ unfolding tags_of are_tags
 totals_spec =
     tie.close
     (tie.spec
-    (λ c. search rules)
     (λ c κs. search rules)
     (λ c. search rules)
     (λ c. search rules)

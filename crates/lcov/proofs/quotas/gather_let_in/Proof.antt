@@ -10,11 +10,8 @@ gather_let_in_spec =
     tie.close
     (tie.spec
     (λ c κs. search rules)
-    (λ c κs. (search rules, gathered-held _ _ _ _ _ c.before.before.before.before.before.before.gather-labs.ensures.joint (search rules)))
+    (λ c κs. (search rules, gathered-held _ _ _ _ _ c.before.before.before.before.before.before.gather_labs-got.ensures.joint (search rules)))
     (λ c. search rules)
     (λ c. search rules)
     (λ c. search rules)
-    (λ c. let p = c.before.before.before.before in
-    let g = p.before.before.before.before.before.before.before in
-    let s = g.before.before.before.before.before.before.before.before.before.before in
-    quotas_printed _ _ _ _ _ _ _ _ _ g.gather-labs.ensures (search rules) s.args.out.now _ _ p.print-joined.ensures))
+    (λ c. quotas_printed _ _ _ _ _ _ _ _ _ c.before.before.before.before.before.before.before.before.before.before.before.gather_labs-got.ensures (search rules) c.before.before.before.before.before.before.before.before.before.before.before.before.before.before.before.before.before.before.before.before.before.args.out.now _ _ c.before.before.before.before.print_joined.ensures))
