@@ -1,4 +1,6 @@
 // The C calling form: numbers and slices, a slice as a pointer and a length. include/lcov.h declares these calls for C.
+#![tactic(auto)]
+
 ghost use Rattle.std.specs.Prelude.{◌≡◌, length, true};
 ghost use Rattle.model.specs.declared.Bound.TheVariants.{NextStart, GreaterStart};
 ghost use Rattle.model.specs.declared.Mode.TheVariants.{Checked, Lossy};

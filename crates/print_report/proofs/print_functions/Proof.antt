@@ -32,20 +32,12 @@ print_functions_spec =
       s.requires.0,
       (
         (s.requires.1.0.rows, s.requires.1.0.few),
-<<<<<<< HEAD
-        index-room _ s.args.text.now s.args.words.now s.args.index s.args.from s.args.n s.args.write s.args.out.now s.args.at (cc),
-=======
         index-room _ s.args.text.now s.args.words.now s.args.index s.args.from s.args.n s.args.write s.args.out.now s.args.at (search rules),
->>>>>>> 4cef08c65117266d23481707a2b4679ab6246b5b
       ),
     ))
     (λ c. search rules)
     (λ c. search rules)
     (λ c. let s = c.before.before.before.before.before.before.before.before.before in (
-<<<<<<< HEAD
-      index_done _ s.args.text.now s.args.words.now s.args.index s.args.from s.args.n (cc) c.before.before.print_numbered-2.ensures,
-=======
       index_done _ s.args.text.now s.args.words.now s.args.index s.args.from s.args.n (search rules) c.before.before.print_numbered-2.ensures,
->>>>>>> 4cef08c65117266d23481707a2b4679ab6246b5b
       spared-none,
     )))
