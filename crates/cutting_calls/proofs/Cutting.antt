@@ -58,6 +58,8 @@ module _ (tag : Kind → Bytes) (bound : Bound) where
 
   cut_texts : (ranges : List Range) (limit : ℕ) (ts ps : List Bytes) → Pairwise (CutCall tag bound ranges limit) ts ps
       → Pairwise (CutText tag bound ranges limit) ts ps
+  cut_texts ranges limit [] (p ∷ ps) cs = elim cs [ ]
+  cut_texts ranges limit (t ∷ ts) [] cs = elim cs [ ]
   cut_texts ranges limit [] [] cs = tt
   cut_texts ranges limit (t ∷ ts) (p ∷ ps) cs = (cut_text ranges limit t p cs.0, cut_texts ranges limit ts ps cs.1)
 

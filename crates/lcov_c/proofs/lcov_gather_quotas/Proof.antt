@@ -14,6 +14,5 @@ lcov_gather_quotas_spec =
     (λ c. search rules)
     (λ c. search rules)
     (λ c. search rules)
-    (λ c. let t = c.before.before in
-    let e = t.before.before.before.before.before.before.before.before.gather-quotas.ensures in
-    (told _ _ _ _ _ _ _ e.call t.store-answer.ensures.0 t.store-answer.ensures.1, e.marked)))
+    (λ c. let e = c.before.before.before.before.before.before.before.before.before.before.gather_quotas-got.ensures in
+    (told _ _ _ _ _ _ _ e.call c.before.before.store_answer.ensures.0 c.before.before.store_answer.ensures.1, e.marked)))

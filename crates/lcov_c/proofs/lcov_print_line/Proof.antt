@@ -9,7 +9,6 @@ unfolding tags_of are_tags
 lcov_print_line_spec =
     tie.close
     (tie.spec
-    (λ c. search rules)
     (λ c κs. search rules)
     (λ c. search rules)
     (λ c. search rules)
@@ -18,7 +17,6 @@ lcov_print_line_spec =
     (λ c κs. search rules)
     (λ c. search rules)
     (λ c. search (refused_stored, rules))
-    (λ c. search rules)
     (λ c κs. search rules)
     (λ c κs. search rules)
     (λ c κs. search rules)

@@ -13,6 +13,5 @@ lcov_windows_spec =
     (λ c. search rules)
     (λ c. search rules)
     (λ c. search rules)
-    (λ c. let t = c.before.before in
-    let e = t.before.before.before.before.before.before.windows.ensures in
-    told _ _ _ _ _ _ _ e t.store-answer.ensures.0 t.store-answer.ensures.1))
+    (λ c. let e = c.before.before.before.before.before.before.before.before.windows-got.ensures in
+    told _ _ _ _ _ _ _ e c.before.before.store_answer.ensures.0 c.before.before.store_answer.ensures.1))
