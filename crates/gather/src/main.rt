@@ -1,5 +1,7 @@
 // The program `gather` (SPEC 7.3): a bundle on standard input, checked mode, 8,192 words of scratch and 65,536 bytes of output. It prints
 // the joined tracefile, or `refused` with the refusal's number, text, line and field.
+#![tactic(auto)]
+
 ghost use Rattle.std.specs.Prelude.{◌≡◌, length};
 ghost use Rattle.model.specs.declared.Mode.TheVariants.{Checked};
 ghost use Rattle.model.specs.Limits.{program_words, program_output};

@@ -1,6 +1,8 @@
 // Replays recorded lines: standard input holds cases, each a little-endian u16 length and a line of that many bytes.
 // For each it writes the record printed, or `refused`, number, text (always 0), line and field. tests/README.md says
 // how the lines and the Rust's answers were recorded.
+#![tactic(auto)]
+
 ghost use Rattle.std.specs.Prelude.{◌+◌, ◌≤◌, length};
 
 use model::{LineAnswer, Record, WriteAnswer};

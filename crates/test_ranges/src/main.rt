@@ -1,5 +1,7 @@
 // Writes what ranges and the filters answer: SPEC 11.1's cases (i), (j) and (k), and a call for each refusal that no line, text or bundle
 // gives: 15, 17 and 18.
+#![tactic(auto)]
+
 use model::{InsertAnswer, Part, Record, WriteAnswer};
 
 // All pairs of the slice, those past the used ones too.

@@ -1,6 +1,8 @@
 // Reads recorded texts: standard input holds cases, each a little-endian u16 entry limit, a u16 length and a text of
 // that many bytes. For each it reads the text in scratch for that many entries and writes the report, or the refusal.
 // tests/README.md says how the texts and their answers were recorded.
+#![tactic(auto)]
+
 ghost use Rattle.std.specs.Prelude.{◌≡◌, ◌*◌, min};
 ghost use Rattle.model.specs.Limits.{words_per_entry, program_words};
 

@@ -1,5 +1,7 @@
 // The program `totals`: a bundle on standard input, gathered in checked mode with the sizes of `gather`. It prints the page of totals, or
 // `refused` with the refusal's number, text, line and field.
+#![tactic(auto)]
+
 ghost use Rattle.std.specs.Prelude.{◌≡◌, length};
 ghost use Rattle.model.specs.Limits.{program_words, program_output};
 ghost use Rattle.model.specs.Tags.{default_tag};

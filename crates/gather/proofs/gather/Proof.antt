@@ -7,7 +7,7 @@ use Rattle.program_io.proofs.AnswerLaws.{written-front, refused-front}
 use Rattle.gather.proofs.gather.Statement.{statement}
 use Rattle.gather.proofs.gather.Tie as tie
 
-abbrev start : tie.After-gather-checked → tie.Start
+abbrev start : tie.After-gather_checked → tie.Start
 start g = g.before.before.before.before.before.before
 
 pub gather_spec : {M : Type 1} → statement M
@@ -20,12 +20,9 @@ gather_spec =
     (λ c κs. search rules)
     (λ c. search rules)
     (λ c. search rules)
-    (λ c. let g = c.before.before.before.before.before.before.before in
-    let s = start g in
-    written-front (gather default_tag Checked) s.args.bundle.now s.args.out.now _ s.pre.0 s.pre.1 _ c.before.n.given.0.0 g.gather-checked.result g.gather-checked.ensures.0 (search rules))
+    (λ c. let s = start c.before.before.before.before.before in
+    written-front (gather default_tag Checked) s.args.bundle.now s.args.out.now _ s.requires.0 s.requires.1 _ c.in-Written.n c.before.before.before.before.before.gather_checked.result c.before.before.before.before.before.gather_checked.ensures.0 (search rules))
     (λ c. search rules)
     (λ c. search rules)
-    (λ c. let p = c.before.before in
-    let g = c.before.before.before.before.before.before.before.before.before.before.before in
-    let s = start g in
-    refused-front (gather default_tag Checked) s.args.bundle.now s.args.out.now _ s.pre.0 s.pre.1 _ _ _ g.gather-checked.result _ g.gather-checked.ensures.0 (search rules) p.put-refusal.ensures.0 p.put-refusal.ensures.1))
+    (λ c. let s = start c.before.before.before.before.before.before.before.before.before in
+    refused-front (gather default_tag Checked) s.args.bundle.now s.args.out.now _ s.requires.0 s.requires.1 _ _ _ c.before.before.before.before.before.before.before.before.before.gather_checked.result _ c.before.before.before.before.before.before.before.before.before.gather_checked.ensures.0 (search rules) c.before.before.put_refusal.ensures.0 c.before.before.put_refusal.ensures.1))

@@ -4,10 +4,10 @@ use lib.ListN.{length}
 use Rattle.test_lines.proofs.replay.Statement.{statement}
 use Rattle.test_lines.proofs.replay.Tie as tie
 
-abbrev invariant-loop : tie.invariant-loop
+abbrev invariant-loop : tie.invariant-loop-at
 invariant-loop input at₀ at = at ≤ length input
 
-abbrev decreases-loop : tie.decreases-loop
+abbrev decreases-loop : tie.decreases-loop-at
 decreases-loop input at₀ at = length input - at
 
 pub replay_spec : {M : Type 1} → statement M

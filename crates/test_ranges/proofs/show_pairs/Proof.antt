@@ -3,11 +3,11 @@ use Prim.Native.Nat.{◌-◌}
 use Rattle.test_ranges.proofs.show_pairs.Statement.{statement}
 use Rattle.test_ranges.proofs.show_pairs.Tie as tie
 
-abbrev invariant-loop : tie.invariant-loop
-invariant-loop pairs n k₀ t4 k = Unit {0}
+abbrev invariant-loop : tie.invariant-loop-k
+invariant-loop pairs n k₀ k = Unit {0}
 
-abbrev decreases-loop : tie.decreases-loop
-decreases-loop pairs n k₀ t4 k = n - k
+abbrev decreases-loop : tie.decreases-loop-k
+decreases-loop pairs n k₀ k = n - k
 
 pub show_pairs_spec : {M : Type 1} → statement M
 show_pairs_spec =
@@ -23,7 +23,6 @@ show_pairs_spec =
     (λ c. search rules)
     (λ c. search rules)
     (λ c κs. search rules)
-    (λ c. search rules)
     (λ c. search rules)
     (λ c. search rules)
     (λ c. search rules)

@@ -4,10 +4,10 @@ use lib.ListN.{length}
 use Rattle.test_texts.proofs.show_all.Statement.{statement}
 use Rattle.test_texts.proofs.show_all.Tie as tie
 
-abbrev invariant-loop : tie.invariant-loop
+abbrev invariant-loop : tie.invariant-loop-at
 invariant-loop input at₀ at = at ≤ length input
 
-abbrev decreases-loop : tie.decreases-loop
+abbrev decreases-loop : tie.decreases-loop-at
 decreases-loop input at₀ at = length input - at
 
 pub show_all_spec : {M : Type 1} → statement M

@@ -19,12 +19,9 @@ totals_spec =
     (λ c κs. search rules)
     (λ c. search rules)
     (λ c. search rules)
-    (λ c. let g = c.before.before.before.before.before.before.before in
-    let s = start g in
-    written-front (totals default_tag) s.args.bundle.now s.args.out.now _ s.pre.0 s.pre.1 _ c.before.n.given.0.0 g.totals.result g.totals.ensures (search rules))
+    (λ c. let s = start c.before.before.before.before.before in
+    written-front (totals default_tag) s.args.bundle.now s.args.out.now _ s.requires.0 s.requires.1 _ c.in-Written.n c.before.before.before.before.before.totals.result c.before.before.before.before.before.totals.ensures (search rules))
     (λ c. search rules)
     (λ c. search rules)
-    (λ c. let p = c.before.before in
-    let g = c.before.before.before.before.before.before.before.before.before.before.before in
-    let s = start g in
-    refused-front (totals default_tag) s.args.bundle.now s.args.out.now _ s.pre.0 s.pre.1 _ _ _ g.totals.result _ g.totals.ensures (search rules) p.put-refusal.ensures.0 p.put-refusal.ensures.1))
+    (λ c. let s = start c.before.before.before.before.before.before.before.before.before in
+    refused-front (totals default_tag) s.args.bundle.now s.args.out.now _ s.requires.0 s.requires.1 _ _ _ c.before.before.before.before.before.before.before.before.before.totals.result _ c.before.before.before.before.before.before.before.before.before.totals.ensures (search rules) c.before.before.put_refusal.ensures.0 c.before.before.put_refusal.ensures.1))
