@@ -13,12 +13,12 @@ combine_spec =
     tie.close
     (tie.spec
     (λ c. let a = c.before.args in
-    (λ text. combined_replaced text a.old a.row a.accumulate (cc), λ text o r. r))
+    (λ text. combined_replaced text a.old a.row a.accumulate (search rules), λ text o r. r))
     (λ c. let a = (start c.before).args in
     (λ text. combined_other text a.old a.row a.accumulate (omega arith), λ text o r. r))
     (λ c. search rules)
     (λ c. let s = start c.before.before in
-    (λ text. combined_past text s.args.old s.args.row s.args.accumulate (cc) (omega arith) s.requires (omega arith), λ text o r. tt))
+    (λ text. combined_past text s.args.old s.args.row s.args.accumulate (search rules) (omega arith) s.requires (omega arith), λ text o r. tt))
     (λ c. search rules)
     (λ c. let s = start c.before.before in
-    (λ text. combined_sum text s.args.old s.args.row s.args.accumulate (cc) (omega arith) s.requires (omega arith), λ text o r. inner-count _ o)))
+    (λ text. combined_sum text s.args.old s.args.row s.args.accumulate (search rules) (omega arith) s.requires (omega arith), λ text o r. inner-count _ o)))
