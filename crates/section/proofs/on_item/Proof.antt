@@ -51,7 +51,7 @@ on_item_spec =
     tie.close
     (tie.spec
     (λ c. search rules)
-    (λ c. added_none c.before.before.before.before.requires.0 c.before.before.before.before.args.row c.before.before.before.before.args.accumulate c.if-most-kept.true)
+    (λ c. added_none c.before.before.before.before.requires.0 c.before.before.before.before.args.row c.before.before.before.before.args.accumulate (omega arith))
     (λ c κs. let ζ = c.before.before.before.before.before.before.requires.0 in (ζ.space.store, ζ.space.room, ζ.space.most, ζ.space.kept))
     (λ c. search rules)
     (λ c. let p = places c.before.before.before in omega arith)

@@ -27,7 +27,7 @@ append_or_flush_spec =
     (λ c κs. (c.before.before.before.before.before.before.before.before.before.before.before.before.before.before.requires.0.0.parts.main.store, omega (arith, c.before.before.before.before.before.before.before.before.before.before.before.before.before.before.requires.0.0.room, c.before.before.before.before.before.before.before.before.before.before.before.before.before.before.requires.0.1)))
     (λ c κs. omega (arith, c.before.before.before.before.before.before.before.before.before.before.before.before.before.before.before.before.before.requires.0.0.room))
     (λ c. search rules)
-    (λ c. let j = c.before.before.before.before.before.before.before.before.joins.ensures c.before.before.before.before.before.before.before.if-joins.true in
+    (λ c. let j = c.before.before.before.before.before.before.before.before.joins.ensures (search rules) in
     sizes_as c.with_tail.ensures
     (included_last-row c.before.before.before.before.before.before.before.before.before.before.before.before.before.before.before.before.before.before.args.row c.before.before.before.before.before.before.before.before.before.before.before.before.before.before.before.before.before.before.args.accumulate c.before.before.before.before.before.before.before.before.before.before.before.before.before.before.before.before.before.before.requires.0.0 c.before.before.before.before.before.before.before.before.before.before.before.before.before.before.before.before.before.before.requires.0.3 (c.before.before.before.before.before.before.before.before.before.before.before.before.calls_fit.ensures c.before.before.before.before.before.before.before.before.before.before.before.if-calls_fit.true) c.before.before.before.before.before.before.before.before.before.before.before.before.before.before.before.before.before.before.requires.1.0 c.before.before.before.before.before.before.before.before.before.before.before.before.before.before.before.before.before.before.requires.0.2 c.before.before.before.put.ensures.0
     c.before.before.before.put.ensures.1.1 (omega (arith, c.before.before.before.before.before.before.before.before.before.before.before.before.before.before.before.before.before.before.requires.0.1)) c.before.before.before.before.before.before.before.before.before.before.before.before.before.before.before.before.before.before.requires.0.1 c.before.before.before.before.before.before.before.before.before.get-last.ensures j.0 j.1

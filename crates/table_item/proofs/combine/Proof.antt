@@ -1,6 +1,4 @@
 -- `table_item::combine` meets its contract: one law for each way out. Assumes nothing.
-use mathlib.Core.Bool.{not}
-use mathlib.Core.Path.{ap}
 use native.Mathlib.Omega.{arith}
 use Rattle.table_item.proofs.CountLaws.{inner-count, combined_replaced, combined_other, combined_sum, combined_past}
 use borrow.Author.Rules.{rules}
@@ -15,12 +13,12 @@ combine_spec =
     tie.close
     (tie.spec
     (λ c. let a = c.before.args in
-    (λ text. combined_replaced text a.old a.row a.accumulate (ap not c.if-not-accumulate.true), λ text o r. r))
+    (λ text. combined_replaced text a.old a.row a.accumulate (search rules), λ text o r. r))
     (λ c. let a = (start c.before).args in
     (λ text. combined_other text a.old a.row a.accumulate (omega arith), λ text o r. r))
     (λ c. search rules)
     (λ c. let s = start c.before.before in
-    (λ text. combined_past text s.args.old s.args.row s.args.accumulate (ap not c.before.before.before.if-not-accumulate.false) (omega arith) s.requires (omega arith), λ text o r. tt))
+    (λ text. combined_past text s.args.old s.args.row s.args.accumulate (search rules) (omega arith) s.requires (omega arith), λ text o r. tt))
     (λ c. search rules)
     (λ c. let s = start c.before.before in
-    (λ text. combined_sum text s.args.old s.args.row s.args.accumulate (ap not c.before.before.before.if-not-accumulate.false) (omega arith) s.requires (omega arith), λ text o r. inner-count _ o)))
+    (λ text. combined_sum text s.args.old s.args.row s.args.accumulate (search rules) (omega arith) s.requires (omega arith), λ text o r. inner-count _ o)))
