@@ -43,9 +43,17 @@ fn write_all() -> io::Result<()> {
     write_in(cuts::FOLDER, &cuts::files())
 }
 
+// The sample, and the copy that crates/test_lines replays.
+const SAMPLES: [(&str, &str); 2] = [
+    ("lines.in", "lines.out"),
+    ("../crates/test_lines/stdin", "../crates/test_lines/stdout"),
+];
+
 fn write(sample: &Sample) -> io::Result<()> {
-    fs::write(file("lines.in"), &sample.lines)?;
-    fs::write(file("lines.out"), &sample.answers)?;
+    for (lines, answers) in SAMPLES {
+        fs::write(file(lines), &sample.lines)?;
+        fs::write(file(answers), &sample.answers)?;
+    }
     println!(
         "{} bytes of lines, {} bytes of answers",
         sample.lines.len(),
@@ -55,7 +63,11 @@ fn write(sample: &Sample) -> io::Result<()> {
 }
 
 fn check() -> Result<(), String> {
-    let recorded = recorded().map_err(|error| format!("the sample can't be read: {error}"))?;
+    let [recorded, replayed] =
+        recorded().map_err(|error| format!("the sample can't be read: {error}"))?;
+    if replayed != recorded {
+        return Err("crates/test_lines replays another sample: run `record`".to_owned());
+    }
     let lines = sample::decoded(&recorded.lines).ok_or("lines.in is cut within a case")?;
     // first, since it tells of the Rust, whatever made the lines
     if sample::answers(&lines) != recorded.answers {
@@ -73,11 +85,15 @@ fn check() -> Result<(), String> {
     Ok(())
 }
 
-fn recorded() -> io::Result<Sample> {
-    Ok(Sample {
-        lines: fs::read(file("lines.in"))?,
-        answers: fs::read(file("lines.out"))?,
-    })
+fn recorded() -> io::Result<[Sample; 2]> {
+    let read = |(lines, answers)| -> io::Result<Sample> {
+        Ok(Sample {
+            lines: fs::read(file(lines))?,
+            answers: fs::read(file(answers))?,
+        })
+    };
+    let [sample, replayed] = SAMPLES;
+    Ok([read(sample)?, read(replayed)?])
 }
 
 // ---- ranges
