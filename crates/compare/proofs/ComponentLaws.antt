@@ -8,7 +8,8 @@ use native.Mathlib.Omega.{arith}
 use lib.Dec.{ltb}
 use lib.ListN.{length}
 use Rattle.ordmap.proofs.Results.{impossible}
-use Rattle.model.specs.Order.{if◌then◌else◌, lex}
+use Rattle.model.specs.Order.{lex}
+use Rattle.std.specs.Prelude.{if◌then◌else◌}
 use Rattle.model.specs.Bytes.{Bytes, ascii, compare_bytes, same_bytes}
 use Rattle.model.specs.Path.{Path, Component, root, current, parent, name, code, named, leading}
 use Rattle.model.proofs.KeyOrder.{bytes_same}

@@ -11,7 +11,7 @@ use borrow.Author.Tests.{ltb-true, ltb-false, lt-ltb, le-ltb}
 use lib.Dec.{ltb}
 use lib.ListN.{length, drop}
 use lib.Seq.{length-take-le}
-use Rattle.model.specs.Order.{if◌then◌else◌}
+use Rattle.std.specs.Prelude.{if◌then◌else◌}
 use Rattle.model.specs.Bytes.{Bytes, slash, split}
 use Rattle.model.specs.Path.{Path, named, leading, components}
 use Rattle.compare.specs.declared.path.Piece.TheVariants.{At, End}

@@ -10,7 +10,7 @@ use lib.Dec.{eqb, leb, ltb}
 use lib.ListN.{length, get_or, take, drop, take-append-drop, length-drop, drop_of_length-le}
 use lib.Seq.{take-suc, drop-cons, drop-drop, get_or-drop}
 use Rattle.ordmap.proofs.Results.{impossible}
-use Rattle.model.specs.Order.{if◌then◌else◌}
+use Rattle.std.specs.Prelude.{if◌then◌else◌}
 use Rattle.model.specs.Bytes.{Bytes, slash, onto, split, Free}
 use Rattle.model.proofs.ByteLaws.{free-append}
 use Rattle.model.proofs.TextLaws.{split_seam}

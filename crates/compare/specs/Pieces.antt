@@ -1,7 +1,6 @@
 -- The pieces of a path between its slashes, and its components from a position on (SPEC 4.2). Assumes nothing.
 use Prim.Native.Nat.{ℕ, zero, suc, ◌+◌, ◌-◌, ◌≤◌, ◌<◌, Ordering}
-use Rattle.std.specs.Prelude.{◌≡◌, ◌≢◌, Bool, List, [], ◌∷◌, ltb, length, get_or, take, drop}
-use Rattle.model.specs.Order.{if◌then◌else◌}
+use Rattle.std.specs.Prelude.{◌≡◌, ◌≢◌, Bool, List, [], ◌∷◌, ltb, length, get_or, take, drop, if◌then◌else◌}
 use Rattle.model.specs.Bytes.{Bytes, ascii, slash, same_bytes, split, Free}
 use Rattle.model.specs.Path.{Path, Component, root, current, parent, name, named, components}
 use Rattle.compare.specs.declared.path.Piece.{Piece}

@@ -14,7 +14,7 @@ use Rattle.ordmap.proofs.Maps.{some≢none, above-trans}
 use Rattle.ordmap.proofs.Members.{sorted-append}
 use Rattle.model.specs.declared.Bound.{Bound}
 use Rattle.model.specs.declared.Range.{Range}
-use Rattle.model.specs.Order.{if◌then◌else◌}
+use Rattle.std.specs.Prelude.{if◌then◌else◌}
 use Rattle.model.specs.Lists.{filter, insert_sorted, sort}
 use Rattle.model.specs.Bytes.{compare_bytes}
 use Rattle.model.specs.Report.{Item, section_item, function_item, branch_item, line_item, item_key, compare_items}

@@ -16,7 +16,7 @@ use Rattle.ordmap.proofs.Maps.{ext, keys-equal}
 use Rattle.ordmap.proofs.Members.{find_some, only_member}
 use Rattle.ordmap.proofs.Sizes.{length_of_keys}
 use Rattle.model.specs.declared.Range.{Range}
-use Rattle.model.specs.Order.{if◌then◌else◌}
+use Rattle.std.specs.Prelude.{if◌then◌else◌}
 use Rattle.model.specs.Lists.{filter}
 use Rattle.model.specs.Bytes.{same_bytes}
 use Rattle.model.specs.Limits.{u64_max}

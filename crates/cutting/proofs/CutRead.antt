@@ -11,7 +11,7 @@ use borrow.Author.Tests.{le-leb}
 use Rattle.ordmap.proofs.Members.{sorted-right}
 use Rattle.model.specs.declared.Kind.{Kind}
 use Rattle.model.specs.declared.Range.{Range}
-use Rattle.model.specs.Order.{if◌then◌else◌}
+use Rattle.std.specs.Prelude.{if◌then◌else◌}
 use Rattle.model.specs.Lists.{filter, concat_map, sort}
 use Rattle.model.specs.Bytes.{Bytes, compare_bytes}
 use Rattle.model.specs.Path.{Path, components}

@@ -18,7 +18,7 @@ use Rattle.model.specs.declared.Fault.TheVariants.{MalformedRanges}
 use Rattle.model.specs.declared.Kind.{Kind}
 use Rattle.model.specs.declared.Mode.TheVariants.{Checked}
 use Rattle.model.specs.declared.Range.{Range}
-use Rattle.model.specs.Order.{if◌then◌else◌}
+use Rattle.std.specs.Prelude.{if◌then◌else◌}
 use Rattle.model.specs.Lists.{filter}
 use Rattle.model.specs.Bytes.{Bytes}
 use Rattle.model.specs.Answer.{Answer, accepted, ◌>>=◌, refuse, refuse_length}

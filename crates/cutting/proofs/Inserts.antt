@@ -14,7 +14,7 @@ use borrow.Author.Tests.{le-leb, leb-true, leb-false, lt-ltb, ltb-true, ltb-fals
 use Rattle.ordmap.proofs.Results.{accepted_inj, not_accepted}
 use Rattle.model.specs.declared.Fault.TheVariants.{RangesFull, MalformedRanges}
 use Rattle.model.specs.declared.Range.{Range}
-use Rattle.model.specs.Order.{if◌then◌else◌}
+use Rattle.std.specs.Prelude.{if◌then◌else◌}
 use Rattle.model.specs.Lists.{any}
 use Rattle.model.specs.Answer.{Answer, accepted, refuse}
 use Rattle.model.specs.Ranges.{join_into, insert_range, insert_call, slice_after, holds, ascending, well_formed_ranges, query_call}

@@ -15,7 +15,7 @@ use Rattle.ordmap.specs.Gathering.{flat, Same}
 use Rattle.ordmap.proofs.Results.{impossible}
 use Rattle.ordmap.proofs.Maps.{some≢none}
 use Rattle.ordmap.proofs.Members.{above_member}
-use Rattle.model.specs.Order.{if◌then◌else◌}
+use Rattle.std.specs.Prelude.{if◌then◌else◌}
 use Rattle.model.specs.Lists.{filter}
 use Rattle.model.specs.Joined.{all_agree, agreeing, total}
 use Rattle.model.proofs.ListLaws.{All, and_left, and_right}

@@ -13,7 +13,7 @@ use Rattle.table.proofs.PlaceLaws.{by-eq}
 use Rattle.table.proofs.TabulateLaws.{tabulate_cong, tabulate-split}
 use Rattle.table.proofs.WordLaws.{row_cong}
 use Rattle.model.specs.declared.Range.{Range}
-use Rattle.model.specs.Order.{if◌then◌else◌}
+use Rattle.std.specs.Prelude.{if◌then◌else◌}
 use Rattle.model.specs.Bytes.{Bytes}
 use Rattle.model.specs.Lists.{filter}
 use Rattle.model.specs.Report.{Item}

@@ -10,7 +10,7 @@ use Rattle.table.specs.Store.{row}
 use Rattle.model.specs.declared.Kind.{Kind}
 use Rattle.model.specs.declared.Bound.{Bound}
 use Rattle.model.specs.declared.Range.{Range}
-use Rattle.model.specs.Order.{if◌then◌else◌}
+use Rattle.std.specs.Prelude.{if◌then◌else◌}
 use Rattle.model.specs.Bytes.{Bytes}
 use Rattle.model.specs.Lists.{filter, sort, concat_map}
 use Rattle.model.specs.Record.{end_of_record}

@@ -9,7 +9,7 @@ use lib.Dec.{leb, ltb, eqb, compare_is_eq}
 use lib.ListN.{length-map}
 use borrow.Author.Tests.{le-leb, lt-leb, eqb-true, eqb-false}
 use Rattle.ordmap.proofs.Results.{impossible}
-use Rattle.model.specs.Order.{if◌then◌else◌}
+use Rattle.std.specs.Prelude.{if◌then◌else◌}
 use Rattle.model.specs.Lists.{filter}
 use Rattle.model.specs.Bytes.{Bytes}
 use Rattle.model.specs.Limits.{max_entries}

@@ -1,7 +1,6 @@
 -- Two tables whose entries are compared, as the code meets them. Assumes nothing.
-use Rattle.std.specs.Prelude.{ℕ, ◌+◌, ◌≤◌, ◌<◌, ◌≡◌, Bool, ◌&&◌, List, eqb, ltb, take, drop}
+use Rattle.std.specs.Prelude.{ℕ, ◌+◌, ◌≤◌, ◌<◌, ◌≡◌, Bool, ◌&&◌, List, eqb, ltb, take, drop, if◌then◌else◌}
 use Rattle.model.specs.declared.Kind.{Kind}
-use Rattle.model.specs.Order.{if◌then◌else◌}
 use Rattle.model.specs.Limits.{max_entries}
 use Rattle.model.specs.Bytes.{Bytes}
 use Rattle.model.specs.Answer.{Answer, in_text, ◌>>=◌}

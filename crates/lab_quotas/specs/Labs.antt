@@ -1,10 +1,9 @@
 -- Labs and their marks, as the code meets them. Assumes nothing.
-use Rattle.std.specs.Prelude.{ℕ, zero, suc, ◌*◌, ◌-◌, ◌≡◌, Bool, List, [], map, leb, eqb, get_or}
+use Rattle.std.specs.Prelude.{ℕ, zero, suc, ◌*◌, ◌-◌, ◌≡◌, Bool, List, [], map, leb, eqb, get_or, if◌then◌else◌}
 use Rattle.ordmap.specs.Gathering.{flat}
 use Rattle.model.specs.declared.Fault.TheVariants.{MalformedBundle, MalformedLabs}
 use Rattle.model.specs.declared.Kind.{Kind}
 use Rattle.model.specs.declared.Mode.TheVariants.{Checked}
-use Rattle.model.specs.Order.{if◌then◌else◌}
 use Rattle.model.specs.Lists.{from}
 use Rattle.model.specs.Bytes.{Bytes}
 use Rattle.model.specs.Answer.{Answer, refuse}

@@ -10,7 +10,7 @@ use Rattle.model.specs.declared.Fault.TheVariants.{MalformedBundle, MalformedLab
 use Rattle.model.specs.declared.Mode.TheVariants.{Checked}
 use Rattle.model.specs.declared.WriteAnswer.{WriteAnswer}
 use Rattle.model.specs.declared.WriteAnswer.TheVariants as W
-use Rattle.model.specs.Order.{if◌then◌else◌}
+use Rattle.std.specs.Prelude.{if◌then◌else◌}
 use Rattle.model.specs.Bytes.{Bytes}
 use Rattle.model.specs.Answer.{Answer, accepted, refused, refuse, unplaced, ◌>>=◌}
 use Rattle.model.specs.TagTable.{load_tags, tagged, tags_of}

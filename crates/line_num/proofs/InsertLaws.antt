@@ -11,7 +11,7 @@ use lib.ListN.{length, get_or, set, take, drop, replicate, length-set, length-ta
 use lib.Seq.{take_all, length-take-le, drop-cons, append_snoc, get_or-take, get_or-set_other, take-set-le, take-suc-set}
 use borrow.Author.Tests.{not-true, not-false, le-leb, lt-leb, lt-ltb, le-ltb, ltb-true, ltb-false}
 use Rattle.model.specs.declared.Range.{Range}
-use Rattle.model.specs.Order.{if◌then◌else◌}
+use Rattle.std.specs.Prelude.{if◌then◌else◌}
 use Rattle.model.specs.declared.Fault.TheVariants.{RangesFull, MalformedRanges}
 use Rattle.model.specs.declared.InsertAnswer.TheVariants as Insert
 use Rattle.model.specs.Answer.{unplaced, accepted, refuse}

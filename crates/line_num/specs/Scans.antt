@@ -1,9 +1,8 @@
 -- One pass over the ranges used: whether they are in order, whether one holds a queried line, and what an inserted
 -- range becomes. Assumes nothing.
-use Rattle.std.specs.Prelude.{ℕ, suc, ◌+◌, min, max, Bool, true, false, ◌&&◌, ◌||◌, List, [], ◌∷◌, leb, ltb, take}
+use Rattle.std.specs.Prelude.{ℕ, suc, ◌+◌, min, max, Bool, true, false, ◌&&◌, ◌||◌, List, [], ◌∷◌, leb, ltb, take, if◌then◌else◌}
 use Rattle.model.specs.declared.Range.{Range}
 use Rattle.model.specs.declared.Fault.TheVariants.{MalformedRanges}
-use Rattle.model.specs.Order.{if◌then◌else◌}
 use Rattle.model.specs.Answer.{Answer, accepted, refuse}
 use Rattle.line_num.specs.declared.Scan.{Scan}
 

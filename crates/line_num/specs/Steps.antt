@@ -1,11 +1,10 @@
 -- An insert step by step: the ranges used are read one after the other and written back with the new range among them;
 -- then the positions behind are filled. Assumes nothing.
-use Rattle.std.specs.Prelude.{ℕ, zero, suc, ◌+◌, ◌-◌, ◌≤◌, min, ◌&&◌, List, leb, ltb, get_or, set}
+use Rattle.std.specs.Prelude.{ℕ, zero, suc, ◌+◌, ◌-◌, ◌≤◌, min, ◌&&◌, List, leb, ltb, get_or, set, if◌then◌else◌}
 use Rattle.model.specs.declared.Range.{Range}
 use Rattle.model.specs.declared.Fault.TheVariants.{RangesFull, MalformedRanges}
 use Rattle.model.specs.declared.InsertAnswer.{InsertAnswer}
 use Rattle.model.specs.declared.InsertAnswer.TheVariants as Insert
-use Rattle.model.specs.Order.{if◌then◌else◌}
 use Rattle.model.specs.Answer.{unplaced}
 use Rattle.line_num_pairs.specs.Pairs.{pair}
 use Rattle.line_num.specs.declared.Scan.{Scan}

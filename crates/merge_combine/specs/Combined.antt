@@ -1,10 +1,9 @@
 -- What two rows of one key make. Assumes nothing.
-use Rattle.std.specs.Prelude.{ℕ, zero, suc, ◌+◌, ◌≡◌, Bool, true, false, leb, ltb}
+use Rattle.std.specs.Prelude.{ℕ, zero, suc, ◌+◌, ◌≡◌, Bool, true, false, leb, ltb, if◌then◌else◌}
 use Rattle.table.specs.declared.Row.{Row}
 use Rattle.model.specs.declared.Fault.TheVariants.{CountOverflow}
 use Rattle.model.specs.declared.Mode.{Mode}
 use Rattle.model.specs.declared.Mode.TheVariants.{Checked, Lossy}
-use Rattle.model.specs.Order.{if◌then◌else◌}
 use Rattle.model.specs.Bytes.{Bytes}
 use Rattle.model.specs.Limits.{u64_max}
 use Rattle.model.specs.Answer.{Answer, accepted, refuse}

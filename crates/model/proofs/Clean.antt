@@ -11,7 +11,7 @@ use Rattle.ordmap.proofs.Results.{impossible, accepted_inj, not_accepted, bind-a
 use Rattle.model.specs.declared.Fault.TheVariants.{UnknownRecord, FieldNotFound, TooManyFields, EndBeforeStart, InvalidDigit, NumberOverflow, SignedNumber}
 use Rattle.model.specs.declared.Kind.{Kind}
 use Rattle.model.specs.declared.Kind.TheVariants as K
-use Rattle.model.specs.Order.{if◌then◌else◌}
+use Rattle.std.specs.Prelude.{if◌then◌else◌}
 use Rattle.model.specs.Bytes.{Bytes, ascii, newline, return, comma, colon, same_bytes, before, after, onto, split, Free}
 use Rattle.model.specs.Answer.{Answer, accepted, refused, ◌>>=◌, refuse, refuse_field}
 use Rattle.model.specs.Limits.{u32_max, u64_max}

@@ -7,7 +7,7 @@ use mathlib.Core.Option.{Option, none, some}
 use lib.Dec.{eqb}
 use Rattle.ordmap.proofs.Results.{impossible, accepted_inj, not_accepted}
 use Rattle.model.specs.declared.Fault.TheVariants.{FieldNotFound}
-use Rattle.model.specs.Order.{if◌then◌else◌}
+use Rattle.std.specs.Prelude.{if◌then◌else◌}
 use Rattle.model.specs.Bytes.{Bytes, comma, after}
 use Rattle.model.specs.Answer.{Answer, accepted, refuse_field}
 use Rattle.model.specs.Line.{from_field, text_field}

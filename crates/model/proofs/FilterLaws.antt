@@ -14,7 +14,7 @@ use Rattle.ordmap.specs.Compare.{lex}
 use Rattle.ordmap.proofs.Orderings.{Says, says}
 use Rattle.model.specs.declared.Bound.TheVariants.{NextStart, GreaterStart}
 use Rattle.model.specs.declared.Range.{Range}
-use Rattle.model.specs.Order.{if◌then◌else◌}
+use Rattle.std.specs.Prelude.{if◌then◌else◌}
 use Rattle.model.specs.Lists.{filter, any, insert_sorted, sort}
 use Rattle.model.specs.Bytes.{compare_bytes}
 use Rattle.model.specs.Limits.{u32_max}

@@ -13,7 +13,7 @@ use Rattle.model.specs.declared.Bound.TheVariants.{NextStart, GreaterStart}
 use Rattle.model.specs.declared.Fault.TheVariants.{MalformedRanges}
 use Rattle.model.specs.declared.Kind.{Kind}
 use Rattle.model.specs.declared.Range.{Range}
-use Rattle.model.specs.Order.{if◌then◌else◌}
+use Rattle.std.specs.Prelude.{if◌then◌else◌}
 use Rattle.model.specs.Lists.{filter, insert_sorted, sort}
 use Rattle.model.specs.Bytes.{Bytes}
 use Rattle.model.specs.Answer.{Answer, accepted, refused, refuse, ◌>>=◌}

@@ -13,7 +13,7 @@ use Rattle.ordmap.proofs.Results.{bind_assoc}
 use Rattle.model.specs.declared.Fault.{Fault}
 use Rattle.model.specs.declared.Fault.TheVariants.{UnmatchedFunctionLine, UnmatchedChecksum, CountOverflow}
 use Rattle.model.specs.declared.Mode.TheVariants.{Checked}
-use Rattle.model.specs.Order.{if◌then◌else◌}
+use Rattle.std.specs.Prelude.{if◌then◌else◌}
 use Rattle.model.specs.Bytes.{Bytes, same_bytes}
 use Rattle.model.specs.Answer.{Answer, refuse}
 use Rattle.model.specs.Limits.{u64_max}

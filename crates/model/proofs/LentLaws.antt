@@ -17,7 +17,7 @@ use Rattle.model.specs.declared.Refusal.{Refusal}
 use Rattle.model.specs.declared.Record.{Record as LentRecord}
 use Rattle.model.specs.declared.LineAnswer.{LineAnswer}
 use Rattle.model.specs.declared.LineAnswer.TheVariants as Line
-use Rattle.model.specs.Order.{if◌then◌else◌}
+use Rattle.std.specs.Prelude.{if◌then◌else◌}
 use Rattle.model.specs.Bytes.{Bytes, ascii, newline, return, colon, same_bytes, before, after}
 use Rattle.model.specs.Answer.{Answer, accepted, refused, ◌>>=◌, refuse, on_line}
 use Rattle.model.specs.Limits.{u32_max, u64_max}

@@ -11,7 +11,7 @@ use lib.ListN.{length}
 use borrow.Author.Tests.{le-leb, lt-ltb, le-ltb, ne_eqb}
 use Rattle.ordmap.proofs.Results.{accepted_inj, not_accepted, bind-accepted}
 use Rattle.model.specs.declared.Fault.TheVariants.{InvalidDigit, NumberOverflow, SignedNumber}
-use Rattle.model.specs.Order.{if◌then◌else◌}
+use Rattle.std.specs.Prelude.{if◌then◌else◌}
 use Rattle.model.specs.Lists.{filter}
 use Rattle.model.specs.Bytes.{Bytes}
 use Rattle.model.specs.Answer.{Answer, accepted, ◌>>=◌, refuse}

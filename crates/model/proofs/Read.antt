@@ -21,7 +21,8 @@ use Rattle.ordmap.proofs.Gathered.{within-accepted, map_refused-accepted}
 use Rattle.model.specs.declared.Fault.{Fault}
 use Rattle.model.specs.declared.Fault.TheVariants.{UnexpectedRecord, UnexpectedEof, CallOverflow, TooManyEntries, SecondSourceFile}
 use Rattle.model.specs.declared.Kind.{Kind}
-use Rattle.model.specs.Order.{if◌then◌else◌, is_less, is_greater}
+use Rattle.model.specs.Order.{is_less, is_greater}
+use Rattle.std.specs.Prelude.{if◌then◌else◌}
 use Rattle.model.specs.Lists.{filter}
 use Rattle.model.specs.Bytes.{Bytes, compare_bytes}
 use Rattle.model.specs.Path.{components}

@@ -17,7 +17,7 @@ use Rattle.model.specs.declared.Kind.TheVariants as K
 use Rattle.model.specs.declared.Mode.{Mode}
 use Rattle.model.specs.declared.Mode.TheVariants as M
 use Rattle.model.specs.declared.Refusal.{Refusal}
-use Rattle.model.specs.Order.{if◌then◌else◌}
+use Rattle.std.specs.Prelude.{if◌then◌else◌}
 use Rattle.model.specs.Bytes.{Bytes, ascii, plus, comma, colon, compare_bytes, same_bytes, before}
 use Rattle.model.specs.Answer.{Answer, accepted, refused, ◌>>=◌, refuse, refuse_field, on_line, in_text, number_of}
 use Rattle.model.specs.Limits.{u32_max, u64_max}

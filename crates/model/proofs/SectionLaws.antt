@@ -9,7 +9,8 @@ use lib.Dec.{compare_is_eq, leb}
 use lib.ListN.{length, length-append, length-map}
 use borrow.Author.Tests.{le-leb}
 use Rattle.ordmap.specs.Keyed.{Above}
-use Rattle.model.specs.Order.{if◌then◌else◌, is_less, is_greater}
+use Rattle.model.specs.Order.{is_less, is_greater}
+use Rattle.std.specs.Prelude.{if◌then◌else◌}
 use Rattle.model.specs.Lists.{filter, concat_map}
 use Rattle.model.specs.Bytes.{Bytes, compare_bytes}
 use Rattle.model.specs.Path.{Path, components}

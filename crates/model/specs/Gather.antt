@@ -1,11 +1,10 @@
 -- The calls that read texts. Each is a function of what the caller lends: bytes, W words of scratch and the output's length.
 -- The bytes written are the answer, and the call answers their number. Assumes nothing.
-use Rattle.std.specs.Prelude.{ℕ, ◌/◌, min, List, [], ◌∷◌, ◌++◌, leb, length}
+use Rattle.std.specs.Prelude.{ℕ, ◌/◌, min, List, [], ◌∷◌, ◌++◌, leb, length, if◌then◌else◌}
 use Rattle.model.specs.declared.Fault.TheVariants.{MalformedBundle}
 use Rattle.model.specs.declared.Kind.{Kind}
 use Rattle.model.specs.declared.Mode.{Mode}
 use Rattle.model.specs.declared.Mode.TheVariants.{Checked}
-use Rattle.model.specs.Order.{if◌then◌else◌}
 use Rattle.model.specs.Bytes.{Bytes, ascii, newline}
 use Rattle.model.specs.Limits.{words_per_entry, max_entries, program_input, program_words, program_output}
 use Rattle.model.specs.Answer.{Answer, accepted, refused, ◌>>=◌, refuse, in_text, number_of}

@@ -1,5 +1,5 @@
 -- One line: `Record::from_str` and `Display for Record`. Assumes nothing.
-use Rattle.std.specs.Prelude.{ℕ, zero, suc, Bool, true, false, ◌&&◌, ◌||◌, List, [], ◌∷◌, ◌++◌, leb, eqb}
+use Rattle.std.specs.Prelude.{ℕ, zero, suc, Bool, true, false, ◌&&◌, ◌||◌, List, [], ◌∷◌, ◌++◌, leb, eqb, if◌then◌else◌}
 use Rattle.std.proofs.Math.Option.{Option, none, some}
 use Rattle.model.specs.declared.Fault.TheVariants.{UnknownRecord, FieldNotFound, TooManyFields, EndBeforeStart}
 use Rattle.model.specs.declared.Kind.{Kind}
@@ -18,7 +18,6 @@ use Rattle.model.specs.declared.Kind.TheVariants.{
   LinesHit,
   EndOfRecord,
 }
-use Rattle.model.specs.Order.{if◌then◌else◌}
 use Rattle.model.specs.Bytes.{Bytes, ascii, newline, return, comma, colon, same_bytes, before, after, joined}
 use Rattle.model.specs.Answer.{Answer, accepted, refused, ◌>>=◌, refuse, refuse_field, on_line}
 use Rattle.model.specs.Limits.{u32_max, u64_max}

@@ -1,5 +1,5 @@
 -- Records whose texts are parts of a lent text, and the line printer. Assumes nothing.
-use Rattle.std.specs.Prelude.{ℕ, ◌+◌, ◌-◌, [], ◌∷◌, ◌++◌, leb, length, take, drop}
+use Rattle.std.specs.Prelude.{ℕ, ◌+◌, ◌-◌, [], ◌∷◌, ◌++◌, leb, length, take, drop, if◌then◌else◌}
 use Rattle.std.proofs.Math.Option.{Option, none, some}
 use Rattle.model.specs.declared.Fault.TheVariants.{PartOutside}
 use Rattle.model.specs.declared.Kind.{Kind}
@@ -12,7 +12,6 @@ use Rattle.model.specs.declared.Checksum.{Checksum}
 use Rattle.model.specs.declared.Checksum.TheVariants as Ck
 use Rattle.model.specs.declared.Record.{Record as LentRecord}
 use Rattle.model.specs.declared.Record.TheVariants as Lent
-use Rattle.model.specs.Order.{if◌then◌else◌}
 use Rattle.model.specs.Bytes.{Bytes, newline}
 use Rattle.model.specs.Answer.{Answer, accepted, ◌>>=◌, refuse, on_line}
 use Rattle.model.specs.Record.{

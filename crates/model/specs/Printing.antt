@@ -1,9 +1,8 @@
 -- Printing a report: `into_records`. Assumes nothing.
 use Prim.Native.Nat.{ℕ, Ordering}
-use Rattle.std.specs.Prelude.{Bool, true, false, List, [], ◌∷◌, ◌++◌, ltb, length}
+use Rattle.std.specs.Prelude.{Bool, true, false, List, [], ◌∷◌, ◌++◌, ltb, length, if◌then◌else◌}
 use Rattle.std.proofs.Math.Option.{none, some}
 use Rattle.model.specs.declared.Kind.{Kind}
-use Rattle.model.specs.Order.{if◌then◌else◌}
 use Rattle.model.specs.Lists.{filter, sort, concat_map}
 use Rattle.model.specs.Bytes.{Bytes, newline, compare_bytes}
 use Rattle.model.specs.Record.{

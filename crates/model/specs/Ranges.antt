@@ -1,8 +1,7 @@
 -- Ranges of lines: `LineNum`. Assumes nothing.
-use Rattle.std.specs.Prelude.{ℕ, suc, ◌-◌, min, max, Bool, true, ◌&&◌, List, [], ◌∷◌, ◌++◌, leb, ltb, length, take, replicate}
+use Rattle.std.specs.Prelude.{ℕ, suc, ◌-◌, min, max, Bool, true, ◌&&◌, List, [], ◌∷◌, ◌++◌, leb, ltb, length, take, replicate, if◌then◌else◌}
 use Rattle.model.specs.declared.Fault.TheVariants.{RangesFull, MalformedRanges}
 use Rattle.model.specs.declared.Range.{Range}
-use Rattle.model.specs.Order.{if◌then◌else◌}
 use Rattle.model.specs.Lists.{any}
 use Rattle.model.specs.Answer.{Answer, accepted, refused, refuse}
 

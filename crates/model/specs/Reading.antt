@@ -1,11 +1,11 @@
 -- Reading a text: `section::parse`, reached by `Report::from_reader`. Assumes nothing.
-use Rattle.std.specs.Prelude.{ℕ, suc, ◌+◌, Bool, true, false, List, [], ◌∷◌, ◌++◌, map, length}
+use Rattle.std.specs.Prelude.{ℕ, suc, ◌+◌, Bool, true, false, List, [], ◌∷◌, ◌++◌, map, length, if◌then◌else◌}
 use Rattle.std.proofs.Math.Option.{Option, none, some}
 use Rattle.std.proofs.Math.Dec.{compare_is_eq}
 use Rattle.ordmap.specs.Keyed.{add as enter}
 use Rattle.model.specs.declared.Fault.TheVariants.{UnexpectedRecord, UnexpectedEof, CallOverflow, SecondSourceFile}
 use Rattle.model.specs.declared.Kind.{Kind}
-use Rattle.model.specs.Order.{if◌then◌else◌, is_less, is_greater}
+use Rattle.model.specs.Order.{is_less, is_greater}
 use Rattle.model.specs.Lists.{filter}
 use Rattle.model.specs.Bytes.{Bytes, newline, split, compare_bytes}
 use Rattle.model.specs.Path.{components}

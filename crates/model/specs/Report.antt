@@ -1,13 +1,13 @@
 -- Reports: entries by key, and the merge of `Report::merge` and `merge_lossy`. Assumes nothing.
 use Prim.Native.Nat.{ℕ, ◌+◌, Ordering, min, max}
-use Rattle.std.specs.Prelude.{Bool, List, [], ◌∷◌, leb, eqb}
+use Rattle.std.specs.Prelude.{Bool, List, [], ◌∷◌, leb, eqb, if◌then◌else◌}
 use Rattle.std.proofs.Math.Option.{Option, none, some}
 use Rattle.model.specs.declared.Fault.{Fault}
 use Rattle.model.specs.declared.Fault.TheVariants.{TooManyEntries, UnmatchedFunctionLine, UnmatchedChecksum, CountOverflow}
 use Rattle.model.specs.declared.Mode.{Mode}
 use Rattle.model.specs.declared.Mode.TheVariants.{Checked, Lossy}
 use Rattle.ordmap.specs.Keyed.{add_all}
-use Rattle.model.specs.Order.{if◌then◌else◌, compare_pair}
+use Rattle.model.specs.Order.{compare_pair}
 use Rattle.model.specs.Bytes.{Bytes, compare_bytes, same_bytes}
 use Rattle.model.specs.Path.{Path, compare_paths}
 use Rattle.model.specs.Answer.{Answer, accepted, ◌>>=◌, refuse}

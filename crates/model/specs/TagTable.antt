@@ -1,6 +1,6 @@
 -- A table of tags that a caller lends, in 221 bytes: "thirteen length bytes first, then thirteen slots of 16 bytes, in the order of
 -- `RecordKind`". Assumes nothing.
-use Rattle.std.specs.Prelude.{ℕ, zero, suc, ◌+◌, ◌*◌, ◌-◌, Bool, true, ◌&&◌, [], ◌∷◌, ◌++◌, map, leb, eqb, length, get_or, take, drop}
+use Rattle.std.specs.Prelude.{ℕ, zero, suc, ◌+◌, ◌*◌, ◌-◌, Bool, true, ◌&&◌, [], ◌∷◌, ◌++◌, map, leb, eqb, length, get_or, take, drop, if◌then◌else◌}
 use Rattle.model.specs.declared.Fault.TheVariants.{MalformedTags, EqualTags}
 use Rattle.model.specs.declared.Kind.{Kind}
 use Rattle.model.specs.declared.Kind.TheVariants.{
@@ -18,7 +18,6 @@ use Rattle.model.specs.declared.Kind.TheVariants.{
   LinesHit,
   EndOfRecord,
 }
-use Rattle.model.specs.Order.{if◌then◌else◌}
 use Rattle.model.specs.Lists.{all, from, concat_map}
 use Rattle.model.specs.Bytes.{Bytes}
 use Rattle.model.specs.Answer.{Answer, accepted, ◌>>=◌, refuse}

@@ -1,8 +1,7 @@
 -- Bounds of sampled counts: two texts of one run, the least counts first. A taken of none counts as 0 (`count_of`). Assumes nothing.
-use Rattle.std.specs.Prelude.{ℕ, Bool, true, false, ◌&&◌, List, [], ◌∷◌, map, leb}
+use Rattle.std.specs.Prelude.{ℕ, Bool, true, false, ◌&&◌, List, [], ◌∷◌, map, leb, if◌then◌else◌}
 use Rattle.std.proofs.Math.Dec.{compare_is_eq}
 use Rattle.model.specs.declared.Kind.{Kind}
-use Rattle.model.specs.Order.{if◌then◌else◌}
 use Rattle.model.specs.Lists.{filter}
 use Rattle.model.specs.Bytes.{Bytes}
 use Rattle.model.specs.declared.Fault.TheVariants.{DifferentKeys, LeastAboveGreatest}

@@ -25,7 +25,7 @@ use Rattle.model.specs.declared.Fault.TheVariants.{OutputTooShort}
 use Rattle.model.specs.declared.Kind.{Kind}
 use Rattle.model.specs.declared.Mode.{Mode}
 use Rattle.model.specs.declared.Refusal.{Refusal}
-use Rattle.model.specs.Order.{if◌then◌else◌}
+use Rattle.std.specs.Prelude.{if◌then◌else◌}
 use Rattle.model.specs.Bytes.{Bytes}
 use Rattle.model.specs.Answer.{Answer, accepted, refused, refuse_length, in_text}
 use Rattle.model.specs.Limits.{u32_max}

@@ -1,6 +1,6 @@
 -- Points that the requirements leave open, as docs/DECISIONS.md decides them, and the refusals that the Rust does not know: one claim about
 -- the definitions, on the smallest inputs, and one proof, by computation. Assumes nothing.
-use Rattle.std.specs.Prelude.{ℕ, ◌+◌, ◌*◌, ◌≡◌, refl, true, false, List, [], ◌∷◌, ◌++◌, eqb, length, replicate, drop}
+use Rattle.std.specs.Prelude.{ℕ, ◌+◌, ◌*◌, ◌≡◌, refl, true, false, List, [], ◌∷◌, ◌++◌, eqb, length, replicate, drop, if◌then◌else◌}
 use Prim.Native.String.{String}
 use Rattle.std.proofs.Math.Option.{none, some}
 use Rattle.model.specs.declared.Bound.{Bound}
@@ -18,7 +18,6 @@ use Rattle.model.specs.Path.{root, current, name, components}
 use Rattle.model.specs.Answer.{accepted, refused, with_values}
 use Rattle.model.specs.Number.{Counted, read_field}
 use Rattle.model.specs.Record.{Record, test_name, source_file, function_name, branch_data, line_data, end_of_record}
-use Rattle.model.specs.Order.{if◌then◌else◌}
 use Rattle.model.specs.Tags.{default_tag}
 use Rattle.model.specs.TagTable.{place_of, tagged, table_of}
 use Rattle.model.specs.Line.{read_line}

@@ -5,7 +5,7 @@ use mathlib.Core.Path.{◌≡◌, refl}
 use mathlib.Core.Bool.{Bool, true, false}
 use mathlib.Core.List.{List, [], ◌∷◌, ◌++◌}
 use lib.ListN.{length, length-append}
-use Rattle.model.specs.Order.{if◌then◌else◌}
+use Rattle.std.specs.Prelude.{if◌then◌else◌}
 use Rattle.model.specs.Lists.{filter, insert_sorted, sort, concat_map}
 use Rattle.model.specs.Report.{Item, section_item, function_item, branch_item, line_item}
 use Rattle.model.specs.Printing.{is_function, is_branch, is_line}

@@ -1,5 +1,5 @@
 -- Bytes that are only measured, or written at a place of the output; and rows handed on as the lines that they print. Assumes nothing.
-use Rattle.std.specs.Prelude.{ℕ, zero, suc, ◌+◌, ◌*◌, ◌≤◌, ◌<◌, min, ◌≡◌, Bool, true, false, List, ◌++◌, ltb, length, take, drop}
+use Rattle.std.specs.Prelude.{ℕ, zero, suc, ◌+◌, ◌*◌, ◌≤◌, ◌<◌, min, ◌≡◌, Bool, true, false, List, ◌++◌, ltb, length, take, drop, if◌then◌else◌}
 use Rattle.std.proofs.Math.Option.{Option, none, some}
 use Rattle.table.specs.Rows.{row_words, word, row_at}
 use Rattle.model.specs.declared.Part.{Part}
@@ -7,7 +7,6 @@ use Rattle.model.specs.declared.Taken.{Taken}
 use Rattle.model.specs.declared.Taken.TheVariants as Tk
 use Rattle.model.specs.declared.Checksum.{Checksum}
 use Rattle.model.specs.declared.Checksum.TheVariants as Ck
-use Rattle.model.specs.Order.{if◌then◌else◌}
 use Rattle.model.specs.Bytes.{Bytes}
 use Rattle.model.specs.Limits.{u64_max}
 use Rattle.model.specs.Number.{decimal}

@@ -9,7 +9,7 @@ use mathlib.Core.Option.{Option, none, some}
 use lib.Dec.{leb, ltb, eqb}
 use lib.ListN.{length, drop, get_or}
 use borrow.Author.Tests.{lt-ltb, lt-leb, le-leb, leb-true, eqb-true, eq-eqb, ne_eqb}
-use Rattle.model.specs.Order.{if◌then◌else◌}
+use Rattle.std.specs.Prelude.{if◌then◌else◌}
 use Rattle.model.specs.Bytes.{Bytes, comma, before, after}
 use Rattle.model.specs.Number.{is_digit}
 use Rattle.model.specs.Line.{all_digits, is_digits, begins_with_end}

@@ -1,5 +1,5 @@
 -- What the field readers promise, in the model's definitions. Assumes nothing.
-use Rattle.std.specs.Prelude.{ℕ, suc, ◌+◌, ◌≤◌, ◌≡◌, length, Bool, false, cond, [], ◌∷◌, ltb, eqb}
+use Rattle.std.specs.Prelude.{ℕ, suc, ◌+◌, ◌≤◌, ◌≡◌, length, Bool, false, cond, [], ◌∷◌, ltb, eqb, if◌then◌else◌}
 use Rattle.model.specs.declared.Fault.{Fault}
 use Rattle.model.specs.declared.Fault.TheVariants.{FieldNotFound, TooManyFields}
 use Rattle.model.specs.declared.Part.{Part}
@@ -7,7 +7,6 @@ use Rattle.model.specs.declared.Checksum.{Checksum}
 use Rattle.model.specs.declared.Checksum.TheVariants as Ck
 use Rattle.model.specs.declared.LineAnswer.{LineAnswer}
 use Rattle.model.specs.declared.LineAnswer.TheVariants.{Refused}
-use Rattle.model.specs.Order.{if◌then◌else◌}
 use Rattle.model.specs.Bytes.{Bytes, ascii, comma, same_bytes}
 use Rattle.model.specs.Number.{is_digit}
 use Rattle.scan.specs.declared.Number.{Number}

@@ -10,7 +10,7 @@ use lib.Dec.{eqb}
 use lib.ListN.{length, take, drop}
 use lib.Seq.{take_at, drop_at}
 use borrow.Author.Tests.{eqb-true}
-use Rattle.model.specs.Order.{if◌then◌else◌}
+use Rattle.std.specs.Prelude.{if◌then◌else◌}
 use Rattle.model.specs.Bytes.{Bytes, newline, before, split, Free}
 use Rattle.model.specs.Reading.{without_empty_last, lines}
 use Rattle.model.proofs.TextLaws.{lines_seam}

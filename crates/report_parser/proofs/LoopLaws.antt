@@ -13,7 +13,7 @@ use Rattle.model.specs.declared.Fault.{Fault}
 use Rattle.model.specs.declared.Fault.TheVariants.{UnexpectedEof}
 use Rattle.model.specs.declared.Refusal.{Refusal}
 use Rattle.model.specs.declared.Record.{Record as LentRecord}
-use Rattle.model.specs.Order.{if◌then◌else◌}
+use Rattle.std.specs.Prelude.{if◌then◌else◌}
 use Rattle.model.specs.Bytes.{Bytes, newline, before}
 use Rattle.model.specs.Answer.{Answer, accepted, refused, ◌>>=◌, on_line}
 use Rattle.model.specs.Record.{Record}

@@ -16,7 +16,7 @@ use Rattle.model.specs.declared.Checksum.TheVariants as Ck
 use Rattle.model.specs.declared.Record.{Record as LentRecord}
 use Rattle.model.specs.declared.Record.TheVariants as Lent
 use Rattle.model.specs.Bytes.{Bytes}
-use Rattle.model.specs.Order.{if◌then◌else◌}
+use Rattle.std.specs.Prelude.{if◌then◌else◌}
 use Rattle.model.specs.Answer.{Answer, accepted, ◌>>=◌}
 use Rattle.model.specs.Record.{Record, test_name, source_file, function_name, function_data, line_data, end_of_record}
 use Rattle.model.specs.Report.{Item}

@@ -1,7 +1,7 @@
 -- A number read digit by digit: "first is it a digit, then does the value still fit". Assumes nothing.
 use Rattle.std.proofs.Common.{◌≡◌, ℕ, suc, ◌+◌, ◌-◌, ◌*◌, ◌/◌, ◌%◌, ◌<◌, ◌≤◌, Bool, true, false, cond, ◌&&◌, eqb, ltb, leb, [], ◌∷◌, length, get_or, drop, sym, refl, ap, ◌∙◌, true≢false, arith, ltb-false, ltb-true, le-ltb, lt-ltb, eq-eqb, ne_eqb, eqb-true, le-leb, leb-true}
 use borrow.Author.Tests.{lt-leb}
-use Rattle.model.specs.Order.{if◌then◌else◌}
+use Rattle.std.specs.Prelude.{if◌then◌else◌}
 use Rattle.model.specs.declared.Fault.TheVariants.{EmptyNumber, InvalidDigit, NumberOverflow, SignedNumber}
 use Rattle.model.specs.Bytes.{Bytes, plus, comma, before, after}
 use Rattle.model.specs.Answer.{Answer, accepted, refuse}

@@ -15,7 +15,8 @@ use Rattle.ordmap.specs.Result.{accepted}
 use Rattle.model.specs.declared.Part.{Part}
 use Rattle.model.specs.declared.Fault.TheVariants.{UnexpectedRecord, TooManyEntries, SecondSourceFile}
 use Rattle.model.specs.Lists.{filter}
-use Rattle.model.specs.Order.{if◌then◌else◌, is_less, is_greater}
+use Rattle.model.specs.Order.{is_less, is_greater}
+use Rattle.std.specs.Prelude.{if◌then◌else◌}
 use Rattle.model.specs.Bytes.{Bytes}
 use Rattle.model.specs.Path.{components}
 use Rattle.model.specs.Answer.{Answer}

@@ -12,7 +12,7 @@ use Rattle.table.specs.Places.{tabulate}
 use Rattle.table.specs.Store.{row, Store}
 use Rattle.table.proofs.TabulateLaws.{tabulate_cong, map-tabulate}
 use Rattle.model.specs.Report.{compare_sections}
-use Rattle.model.specs.Order.{if◌then◌else◌}
+use Rattle.std.specs.Prelude.{if◌then◌else◌}
 use Rattle.model.specs.Lists.{filter}
 use Rattle.model.proofs.ListLaws.{All}
 use Rattle.table_tombstone.specs.Live.{is_live, live_rows, Compacted}

@@ -19,7 +19,7 @@ use Rattle.ordmap.specs.Compare.{lex}
 use Rattle.ordmap.specs.Result.{accepted}
 use Rattle.ordmap.proofs.Orderings.{is_eq}
 use Rattle.ordmap.proofs.Results.{impossible, accepted_inj}
-use Rattle.model.specs.Order.{if◌then◌else◌}
+use Rattle.std.specs.Prelude.{if◌then◌else◌}
 use Rattle.model.specs.Lists.{filter}
 use Rattle.model.specs.Bytes.{Bytes}
 use Rattle.model.specs.Report.{SectionKey, compare_sections}

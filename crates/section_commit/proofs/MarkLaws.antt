@@ -9,7 +9,7 @@ use Rattle.ordmap.specs.Compare.{lex, compare_pair}
 use Rattle.ordmap.specs.Keyed.{by_order, Order}
 use Rattle.ordmap.proofs.Orderings.{number-order, pair-order}
 use Rattle.ordmap.proofs.Results.{impossible}
-use Rattle.model.specs.Order.{if◌then◌else◌}
+use Rattle.std.specs.Prelude.{if◌then◌else◌}
 use Rattle.model.specs.Lists.{filter}
 use Rattle.model.specs.Bytes.{Bytes}
 use Rattle.model.specs.Report.{Entry, Report, SectionKey, section_key, compare_sections}

@@ -8,7 +8,8 @@ use native.Mathlib.Omega.{arith}
 use lib.Dec.{compare_is_eq}
 use lib.ListN.{length}
 use Rattle.table.specs.Places.{tabulate}
-use Rattle.model.specs.Order.{if◌then◌else◌, is_less, is_greater}
+use Rattle.model.specs.Order.{is_less, is_greater}
+use Rattle.std.specs.Prelude.{if◌then◌else◌}
 use Rattle.model.specs.Lists.{filter}
 use Rattle.model.specs.Bytes.{Bytes}
 use Rattle.model.specs.Path.{components}

@@ -1,8 +1,7 @@
 -- What tells a tag's kind promises. Assumes nothing.
-use Rattle.std.specs.Prelude.{ℕ, ◌+◌, ◌≤◌, ◌≡◌, Bool, true, false, not, List, [], ◌∷◌, ltb, eqb, length, get_or}
+use Rattle.std.specs.Prelude.{ℕ, ◌+◌, ◌≤◌, ◌≡◌, Bool, true, false, not, List, [], ◌∷◌, ltb, eqb, length, get_or, if◌then◌else◌}
 use Rattle.model.specs.declared.Kind.{Kind}
 use Rattle.model.specs.declared.Kind.TheVariants.{FunctionsFound, FunctionsHit, BranchesFound, BranchesHit, LinesFound, LinesHit}
-use Rattle.model.specs.Order.{if◌then◌else◌}
 use Rattle.model.specs.Lists.{all}
 use Rattle.model.specs.Bytes.{Bytes, colon, same_bytes, before}
 use Rattle.model.specs.Tags.{default_tag}

@@ -12,7 +12,7 @@ use mathlib.Core.List.Permᴰ.{swap as p-swap}
 use mathlib.Core.List.Permᴰ.{trans as p-trans}
 use Rattle.ordmap.specs.Gathering.{times, Same}
 use Rattle.ordmap.proofs.Perms.{perm_member, perm_of_times, perm_times}
-use Rattle.model.specs.Order.{if◌then◌else◌}
+use Rattle.std.specs.Prelude.{if◌then◌else◌}
 use Rattle.model.specs.Lists.{filter, all, from}
 use Rattle.model.specs.Bytes.{Bytes, same_bytes}
 use Rattle.model.specs.Bundle.{Text, contents}

@@ -13,7 +13,7 @@ use borrow.Author.Tests.{eqb-true, eqb-false}
 use Rattle.ordmap.specs.Gathering.{times, Same}
 use Rattle.ordmap.proofs.Results.{impossible}
 use Rattle.ordmap.proofs.Maps.{some≢none}
-use Rattle.model.specs.Order.{if◌then◌else◌}
+use Rattle.std.specs.Prelude.{if◌then◌else◌}
 use Rattle.model.specs.Lists.{filter, all, any, from}
 use Rattle.model.specs.Bundle.{Text}
 use Rattle.model.proofs.ListLaws.{all-each, each_all, from_member, member_from}

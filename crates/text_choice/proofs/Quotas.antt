@@ -15,7 +15,7 @@ use Rattle.ordmap.proofs.Results.{impossible, is_accepted, accepted-is, map_acce
 use Rattle.model.specs.declared.Kind.{Kind}
 use Rattle.model.specs.declared.Mode.TheVariants.{Checked}
 use Rattle.model.specs.declared.Refusal.{Refusal}
-use Rattle.model.specs.Order.{if◌then◌else◌}
+use Rattle.std.specs.Prelude.{if◌then◌else◌}
 use Rattle.model.specs.Bytes.{Bytes, same_bytes}
 use Rattle.model.specs.Limits.{max_labs}
 use Rattle.model.specs.Answer.{Answer, accepted, refused}

@@ -11,7 +11,7 @@ use lib.Dec.{leb, ltb, eqb}
 use borrow.Author.Tests.{le-leb, leb-true, leb-false, eq-eqb, eqb-true, eqb-false}
 use Rattle.ordmap.specs.Gathering.{times, Same}
 use Rattle.ordmap.proofs.Perms.{perm_times}
-use Rattle.model.specs.Order.{if◌then◌else◌}
+use Rattle.std.specs.Prelude.{if◌then◌else◌}
 use Rattle.model.specs.Lists.{all, from}
 use Rattle.model.specs.Bytes.{Bytes}
 use Rattle.model.specs.Bundle.{text_count}

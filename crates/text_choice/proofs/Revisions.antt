@@ -14,7 +14,7 @@ use Rattle.ordmap.proofs.Maps.{some≢none}
 use Rattle.model.specs.declared.Fault.TheVariants.{MalformedBundle, RepeatedRevision}
 use Rattle.model.specs.declared.Kind.{Kind}
 use Rattle.model.specs.declared.Mode.TheVariants.{Checked}
-use Rattle.model.specs.Order.{if◌then◌else◌}
+use Rattle.std.specs.Prelude.{if◌then◌else◌}
 use Rattle.model.specs.Lists.{all, from}
 use Rattle.model.specs.Bytes.{Bytes}
 use Rattle.model.specs.Answer.{Answer, accepted, ◌>>=◌, refuse, in_text}

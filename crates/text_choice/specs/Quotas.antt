@@ -8,7 +8,7 @@
 --   `own_mark` and `others_changed`.
 --   "sums and acceptance then range over the labs that were let in, each text taking its lab number along in any order": `any_order` and `same_entries`.
 -- Assumes nothing.
-use Rattle.std.specs.Prelude.{ℕ, suc, ◌-◌, ◌≤◌, ◌<◌, ◌≡◌, ◌↔◌, Bool, true, false, ◌&&◌, List, [], ◌∷◌, map, leb, eqb, length, get_or}
+use Rattle.std.specs.Prelude.{ℕ, suc, ◌-◌, ◌≤◌, ◌<◌, ◌≡◌, ◌↔◌, Bool, true, false, ◌&&◌, List, [], ◌∷◌, map, leb, eqb, length, get_or, if◌then◌else◌}
 use Rattle.std.proofs.Math.Option.{Option, none, some}
 use Rattle.ordmap.specs.Result.{value, map_accepted, IsAccepted}
 use Rattle.ordmap.specs.Gathering.{flat}
@@ -16,7 +16,6 @@ use Rattle.model.specs.declared.Fault.TheVariants.{MalformedBundle, MalformedLab
 use Rattle.model.specs.declared.Kind.{Kind}
 use Rattle.model.specs.declared.Mode.TheVariants.{Checked}
 use Rattle.model.specs.declared.Refusal.{Refusal}
-use Rattle.model.specs.Order.{if◌then◌else◌}
 use Rattle.model.specs.Lists.{all, from}
 use Rattle.model.specs.Bytes.{Bytes}
 use Rattle.model.specs.Limits.{max_labs}

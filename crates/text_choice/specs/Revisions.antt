@@ -8,14 +8,13 @@
 --   "It refuses with 20 a run that has the same revision twice, tested right after 16 and carrying the index of the first text that repeats an
 --   earlier pair": `repeats` and `no_repeats`.
 -- Assumes nothing.
-use Rattle.std.specs.Prelude.{ℕ, ◌≤◌, ◌<◌, ◌≡◌, ◌↔◌, true, List, [], length}
+use Rattle.std.specs.Prelude.{ℕ, ◌≤◌, ◌<◌, ◌≡◌, ◌↔◌, true, List, [], length, if◌then◌else◌}
 use Rattle.std.proofs.Math.Option.{none, some}
 use Rattle.ordmap.specs.Result.{value, IsAccepted}
 use Rattle.model.specs.declared.Fault.TheVariants.{MalformedBundle, RepeatedRevision}
 use Rattle.model.specs.declared.Kind.{Kind}
 use Rattle.model.specs.declared.Mode.TheVariants.{Checked}
 use Rattle.model.specs.declared.Refusal.{Refusal}
-use Rattle.model.specs.Order.{if◌then◌else◌}
 use Rattle.model.specs.Bytes.{Bytes}
 use Rattle.model.specs.Answer.{Answer, accepted, refused, ◌>>=◌, refuse, in_text}
 use Rattle.model.specs.Report.{Report}

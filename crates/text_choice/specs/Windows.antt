@@ -7,14 +7,13 @@
 --   `refused_text`.
 --   "14 comes only if these lines, byte 10 after each, pass the output lent": `accepts` and `never_14`.
 -- Assumes nothing.
-use Rattle.std.specs.Prelude.{ℕ, suc, ◌+◌, ◌-◌, ◌<◌, ◌≤◌, ◌≡◌, ◌↔◌, Bool, true, ◌&&◌, List, [], ◌∷◌, ◌++◌, map, leb, ltb, length, get_or}
+use Rattle.std.specs.Prelude.{ℕ, suc, ◌+◌, ◌-◌, ◌<◌, ◌≤◌, ◌≡◌, ◌↔◌, Bool, true, ◌&&◌, List, [], ◌∷◌, ◌++◌, map, leb, ltb, length, get_or, if◌then◌else◌}
 use Rattle.ordmap.specs.Result.{IsAccepted}
 use Rattle.ordmap.specs.Gathering.{flat}
 use Rattle.model.specs.declared.Fault.TheVariants.{MalformedBundle, WidthOutside}
 use Rattle.model.specs.declared.Kind.{Kind}
 use Rattle.model.specs.declared.Mode.TheVariants.{Checked}
 use Rattle.model.specs.declared.Refusal.{Refusal}
-use Rattle.model.specs.Order.{if◌then◌else◌}
 use Rattle.model.specs.Lists.{filter, from}
 use Rattle.model.specs.Bytes.{Bytes, slash, newline}
 use Rattle.model.specs.Limits.{max_width}
