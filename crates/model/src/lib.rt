@@ -1,5 +1,6 @@
 // The plain values that cross every call: records and their parts, ranges, modes, and answers with their refusals.
 // specs/ defines what they mean.
+#![tactic(auto)]
 
 // Why a call is refused. `number_of` in specs/Answer.antt gives each its number in SPEC 9.1's table; the names of the faults that
 // the Rust has too are the Rust's.
