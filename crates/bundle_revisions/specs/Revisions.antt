@@ -5,7 +5,7 @@ use Rattle.model.specs.Bytes.{Bytes}
 use Rattle.model.specs.Limits.{max_texts}
 use Rattle.model.specs.Bundle.{text_count}
 use Rattle.text_choice.specs.RevisionBundle.{run_at, revision_at, is_highest, first_repeat}
-use Rattle.bundle.specs.Marks.{MarkedAs}
+use Rattle.bundle.specs.Marks.{is_marked}
 
 -- n is the number of texts, and the bundle holds their arrays
 pub record Counted (bundle : Bytes) (n : ℕ) : Type 0 where
@@ -25,4 +25,4 @@ pub record FirstRepeatAt (bundle : Bytes) (r : ℕ) : Type 0 where
 
 -- the marks choose the texts that have the highest revision of their run
 abbrev pub HighestMarked : Bytes → List ℕ → Type 0
-HighestMarked bundle marks = MarkedAs (is_highest bundle) (text_count bundle) marks
+HighestMarked bundle marks = (i : ℕ) → i < text_count bundle → is_marked marks i ≡ is_highest bundle i
