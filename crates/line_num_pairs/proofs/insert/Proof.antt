@@ -17,7 +17,7 @@ meets : (c : tie.After-join_from-joined)
 meets c =
     record {
       well = told_well _ _ _ c.before.before.before.before.is_well_formed.ensures (ap not c.before.before.before.if-not-is_well_formed.false);
-      right = c.before.before.if-end-start.false;
+      right = omega arith;
       cut = c.before.ends_before-first.ensures.1;
       joined = c.join_from-joined.ensures.1;
     }

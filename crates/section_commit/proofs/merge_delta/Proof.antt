@@ -15,9 +15,10 @@ merge_delta_spec =
     tie.close
     (tie.spec
     (λ c κs. (c.before.before.before.requires.0, c.before.before.before.requires.1, omega (arith, c.before.before.before.requires.2, c.before.before.before.requires.0.delta.room)))
-    (λ c κs. let s = start c.before.before.before in (
+    (λ c κs. let s = start c.before.before.before in
+    let η = cached_rising s.requires.0 c.before.before.before.write_positions.ensures in (
       (behind-store s.requires.0.main.store c.before.before.before.write_positions.ensures.kept s.requires.1 c.before.before.before.write_positions.auto.words, omega (arith, s.requires.0.delta.room)),
-      (s.requires.1, omega (arith, s.requires.2, s.requires.0.delta.room, c.before.before.before.write_positions.auto.words), cached_rising s.requires.0 c.before.before.before.write_positions.ensures),
+      (s.requires.1, omega (arith, s.requires.2, s.requires.0.delta.room, c.before.before.before.write_positions.auto.words), record { most = λ j l. η.most j (omega arith); rising = λ i j h l. η.rising i j h (omega arith) }),
     ))
     (λ c. let s = start c.before.before.before.before.before.before.before in omega (arith, s.requires.0.delta.room, s.requires.2))
     (λ c. search rules)
