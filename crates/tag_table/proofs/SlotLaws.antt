@@ -31,9 +31,6 @@ module _ (table : Bytes) (well : well_formed_tags table ≡ true) (k : ℕ) (few
   length-few = tag-few table k (table_fits table well k few)
 
   module _ (n : ℕ) (is : n ≡ tag_length table k) where
-    pub slot_inside : 13 + 16 * k + n ≤ length table
-    slot_inside = omega (arith, table-length table well, length-few, is)
-
     pub slot_tag : (r : Bytes) → r ≡ take (13 + 16 * k + n - (13 + 16 * k)) (drop (13 + 16 * k) table) → r ≡ tag_at table k
     unfolding tag_at slot_at
     slot_tag r e =

@@ -1,5 +1,6 @@
 use borrow.Author.Rules.{rules}
-use Rattle.tag_table.proofs.SlotLaws.{in_table, slot_inside, slot_tag}
+use Rattle.model.proofs.TagTableLaws.{table-length}
+use Rattle.tag_table.proofs.SlotLaws.{in_table, length-few, slot_tag}
 use Rattle.tag_table.proofs.tag_at.Statement.{statement}
 use Rattle.tag_table.proofs.tag_at.Tie as tie
 
@@ -10,8 +11,8 @@ tag_at_spec =
     (λ c. search rules)
     (λ c. search rules)
     (λ c κs. search (in_table, rules))
-    (λ c. search (slot_inside, rules))
-    (λ c. search (slot_inside, rules))
-    (λ c. search (slot_inside, rules))
-    (λ c. search (slot_inside, rules))
+    (λ c. search (table-length, length-few, rules))
+    (λ c. search (table-length, length-few, rules))
+    (λ c. search (table-length, length-few, rules))
+    (λ c. search (table-length, length-few, rules))
     (λ c. search (slot_tag, rules)))
