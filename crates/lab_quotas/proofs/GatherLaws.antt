@@ -1,6 +1,5 @@
 -- The texts of a lab gathered by themselves: the gather over the whole bundle, with the lab's own text indexes. Assumes nothing.
-use Prim.Native.Nat.{ℕ, zero, suc, ◌+◌, ◌*◌, ◌≤◌, ◌<◌}
-use native.Mathlib.Omega.{arith}
+use Prim.Native.Nat.{ℕ, zero, suc, ◌+◌, ◌*◌, ◌<◌}
 use mathlib.Core.Path.{◌≡◌, refl, sym, ap, ◌∙◌}
 use mathlib.Core.Bool.{Bool, true, false}
 use mathlib.Core.List.{List, [], ◌∷◌}
@@ -14,8 +13,7 @@ use Rattle.std.specs.Prelude.{if◌then◌else◌}
 use Rattle.model.specs.Bytes.{Bytes}
 use Rattle.model.specs.Answer.{Answer, accepted, refused, in_text}
 use Rattle.model.specs.Report.{Report}
-use Rattle.model.specs.Limits.{max_texts}
-use Rattle.model.specs.Bundle.{Text, contents, well_formed, text_count, text_at}
+use Rattle.model.specs.Bundle.{Text, contents, text_count, text_at}
 use Rattle.model.specs.Gather.{entry_limit, gather_text, gather_texts}
 use Rattle.text_choice.specs.declared.Mark.{Mark}
 use Rattle.text_choice.specs.declared.Mark.TheVariants.{RefusedLab}

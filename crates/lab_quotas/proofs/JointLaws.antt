@@ -1,11 +1,11 @@
 -- The texts of the labs that are let in, gathered together. Assumes nothing.
 use Prim.Native.Nat.{ℕ, ◌+◌, ◌*◌, ◌-◌, ◌≤◌, ◌<◌}
 use native.Mathlib.Omega.{arith}
-use mathlib.Core.Path.{◌≡◌, refl, sym, ap, ◌∙◌}
+use mathlib.Core.Path.{◌≡◌, refl, sym, ◌∙◌}
 use mathlib.Core.Bool.{Bool, true, false}
 use mathlib.Core.List.{List, []}
 use lib.Dec.{leb}
-use lib.ListN.{length, get_or}
+use lib.ListN.{length}
 use borrow.Author.Tests.{le-leb, lt-leb}
 use Rattle.model.specs.declared.Kind.{Kind}
 use Rattle.model.specs.declared.Fault.TheVariants.{MalformedBundle, MalformedLabs}
@@ -13,10 +13,9 @@ use Rattle.model.specs.declared.Mode.TheVariants.{Checked}
 use Rattle.model.specs.declared.Refusal.{Refusal}
 use Rattle.model.specs.Bytes.{Bytes}
 use Rattle.model.specs.Limits.{max_labs}
-use Rattle.model.specs.Lists.{all}
 use Rattle.model.specs.Answer.{unplaced}
 use Rattle.model.specs.Output.{written, output_after}
-use Rattle.model.specs.Bundle.{Text, text_count, text_at, well_formed}
+use Rattle.model.specs.Bundle.{text_count, text_at, well_formed}
 use Rattle.model.specs.Gather.{entry_limit, gather_texts}
 use Rattle.text_choice.specs.Choice.{choose_texts}
 use Rattle.text_choice.specs.Quotas.{is_lab, are_labs, lab_at, is_in_text, let_in_texts, gather_quotas, marks_after}

@@ -11,20 +11,6 @@ ghost use Rattle.line_num.specs.Steps.{plan_by, plan_of, answer_of, PlanFits, re
 
 use model::{Fault, InsertAnswer, QueryAnswer, Range};
 
-fn range_at(list: &[Range], i: usize) -> Range
-    requires { i < length list.now }
-    ensures { result ≡ get_or list.now i (pair 0 0) }
-{
-    list[i]
-}
-
-fn put_range(list: &mut [Range], i: usize, range: Range)
-    requires { i < length list.old }
-    ensures { list.new ≡ set list.old i range }
-{
-    list[i] = range;
-}
-
 // One pass over the ranges used: it queries the lines from start to end, and computes what an insert of them would
 // write.
 #[derive(Clone, Copy)]
