@@ -22,8 +22,7 @@ use Rattle.text_choice.specs.Quotas.{is_lab, are_labs, lab_at, is_in_text, let_i
 use Rattle.text_choice.proofs.Positions.{choose_agree}
 use Rattle.format.specs.Put.{over}
 use Rattle.bundle.specs.Marks.{MarkedAs}
-use Rattle.joined_table.specs.declared.Gathered.{Gathered}
-use Rattle.joined_table.specs.declared.Gathered.TheVariants as G
+use Rattle.std.specs.Prelude.{Result as Answered, Err}
 use Rattle.joined_table.specs.Gathering.{marked_texts, BundleGathered}
 use Rattle.joined_table.proofs.BundleLaws.{marked-chosen}
 use Rattle.lab_quotas.specs.Labs.{mark_size, is_in_by, marks_to, gather_joint, LabsGathered}
@@ -32,7 +31,7 @@ use Rattle.lab_quotas.proofs.MarkLaws.{words_long, state_is}
 
 -- the marked texts are those whose lab is let in
 pub let_in_gathered : (tag : Kind → Bytes) (bundle : Bytes) (labs marks : List ℕ) → length labs ≡ text_count bundle → (chosen : List ℕ)
-    → MarkedAs (is_in_by marks labs) (length labs) chosen → (body : ℕ) → body ≡ 8 + 8 * text_count bundle → (words : ℕ) (ws : List ℕ) (r : Gathered)
+    → MarkedAs (is_in_by marks labs) (length labs) chosen → (body : ℕ) → body ≡ 8 + 8 * text_count bundle → (words : ℕ) (ws : List ℕ) (r : Answered ℕ Refusal)
     → BundleGathered (gather_texts tag Checked (entry_limit words) (marked_texts body chosen bundle) []) bundle ws (entry_limit words) r
     → BundleGathered (gather_texts tag Checked (entry_limit words) (choose_texts (is_in_by marks labs) (text_at bundle) 0 (text_count bundle)) []) bundle ws (entry_limit words) r
 let_in_gathered tag bundle labs marks count chosen m body at words ws r g = rw (marked-chosen bundle (is_in_by marks labs) chosen body at (rw count at m)) at g
@@ -50,7 +49,7 @@ module _ (tag : Kind → Bytes) (bundle : Bytes) (labs quotas : List ℕ) (are :
           state_is tag words bundle labs quotas old room marks held (lab_at labs k) (mark_size * (lab_at labs k - 1)) (lab_least (lab_at labs k) is) (lab_last (lab_at labs k) is) refl
 
   pub joint-gathered : (old marks : List ℕ) → max_labs * mark_size ≤ length old → marks ≡ over (marks_to tag (entry_limit words) bundle labs quotas max_labs) old
-      → (words' : ℕ) → words' ≡ words → (ws : List ℕ) (r : Gathered)
+      → (words' : ℕ) → words' ≡ words → (ws : List ℕ) (r : Answered ℕ Refusal)
       → BundleGathered (gather_texts tag Checked (entry_limit words') (choose_texts (is_in_by marks labs) (text_at bundle) 0 (text_count bundle)) []) bundle ws (entry_limit words') r
       → BundleGathered (gather_texts tag Checked (entry_limit words) (let_in_texts tag (entry_limit words) bundle labs quotas) []) bundle ws (entry_limit words) r
   joint-gathered old marks room held words' same ws r g = rw (joint-texts old marks room held) at (rw same at g)
@@ -61,14 +60,14 @@ module _ (tag : Kind → Bytes) (bundle : Bytes) (labs quotas : List ℕ) (words
   pub is_well : b ≡ true → well_formed bundle ≡ true
   is_well h = sym is ∙ h
 
-  pub no_bundle : b ≡ false → (q : Refusal) → q ≡ unplaced MalformedBundle → (ws marks : List ℕ) → LabsGathered tag bundle labs quotas words ws marks marks (G.Refused q)
+  pub no_bundle : b ≡ false → (q : Refusal) → q ≡ unplaced MalformedBundle → (ws marks : List ℕ) → LabsGathered tag bundle labs quotas words ws marks marks (Err q)
   unfolding gather_joint gather_quotas marks_after
   no_bundle h q e ws marks =
       let ill : well_formed bundle ≡ false = sym is ∙ h in
       record { joint = record { is = rw (ill, e); held = tt }; marked = λ room. rw ill }
 
   module _ (well : b ≡ true) (d : Bool) (at : d ≡ are_labs bundle labs quotas) where
-    pub no_labs : d ≡ false → (q : Refusal) → q ≡ unplaced MalformedLabs → (ws marks : List ℕ) → LabsGathered tag bundle labs quotas words ws marks marks (G.Refused q)
+    pub no_labs : d ≡ false → (q : Refusal) → q ≡ unplaced MalformedLabs → (ws marks : List ℕ) → LabsGathered tag bundle labs quotas words ws marks marks (Err q)
     unfolding gather_joint gather_quotas marks_after
     no_labs h q e ws marks =
         let none : are_labs bundle labs quotas ≡ false = sym at ∙ h in
@@ -78,7 +77,7 @@ module _ (tag : Kind → Bytes) (bundle : Bytes) (labs quotas : List ℕ) (words
       pub are_labs_lem : are_labs bundle labs quotas ≡ true
       are_labs_lem = sym at ∙ h
 
-      module _ (ws : List ℕ) (r : Gathered)
+      module _ (ws : List ℕ) (r : Answered ℕ Refusal)
           (g : BundleGathered (gather_texts tag Checked (entry_limit words) (let_in_texts tag (entry_limit words) bundle labs quotas) []) bundle ws (entry_limit words) r) where
         joined : BundleGathered (gather_joint tag bundle labs quotas words) bundle ws (entry_limit words) r
         unfolding gather_joint

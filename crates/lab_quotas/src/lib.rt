@@ -16,7 +16,6 @@ ghost use Rattle.bundle.specs.Marks.{MarkedAs};
 ghost use Rattle.joined_table.specs.Gathering.{in_text_of, BundleGathered};
 ghost use Rattle.lab_quotas.specs.Labs.{mark_size, is_of_lab, rank_of, lab_mark, is_let_in_by, is_in_by, marks_to, LabsGathered};
 
-use joined_table::Gathered;
 use model::{Fault, Mode, Refusal};
 use text_choice::Mark;
 
@@ -115,8 +114,8 @@ fn gather_lab(
     mark_lab(labs, lab, &mut chosen);
     let body = bundle::body_at(bundle);
     match joined_table::gather_marked(tags, bundle, body, &chosen, scratch, Mode::Checked) {
-        Gathered::Refused(refusal) => Mark::RefusedLab(in_lab(labs, lab, refusal)),
-        Gathered::Entries(entries) => mark_entries(entries, quota as usize),
+        Err(refusal) => Mark::RefusedLab(in_lab(labs, lab, refusal)),
+        Ok(entries) => mark_entries(entries, quota as usize),
     }
 }
 
@@ -195,7 +194,7 @@ fn gather_let_in(
     labs: &[u8],
     marks: &[u64],
     scratch: &mut [u64],
-) -> Gathered
+) -> Result<usize, Refusal>
     requires tags_value { are_tags tags.now ≡ true }
     requires bundle_value { (well_formed bundle.now ≡ true) × (length labs.now ≡ text_count bundle.now) × (all is_lab labs.now ≡ true) × (max_labs * mark_size ≤ length marks.now) }
     ensures { BundleGathered (gather_texts (tags_of tags.now) Checked (entry_limit (length scratch.old)) (choose_texts (is_in_by marks.now labs.now) (text_at bundle.now) 0 (text_count bundle.now)) []) bundle.now scratch.new (entry_limit (length scratch.old)) result }
@@ -214,7 +213,7 @@ fn gather_marked_labs(
     quotas: &[u32],
     scratch: &mut [u64],
     marks: &mut [u64],
-) -> Gathered
+) -> Result<usize, Refusal>
     requires tags_value { are_tags tags.now ≡ true }
     requires bundle_value { (well_formed bundle.now ≡ true) × (are_labs bundle.now labs.now quotas.now ≡ true) × (max_labs * mark_size ≤ length marks.old) }
     ensures marked { marks.new ≡ over (marks_to (tags_of tags.now) (entry_limit (length scratch.old)) bundle.now labs.now quotas.now max_labs) marks.old }
@@ -232,7 +231,7 @@ pub fn gather_labs(
     quotas: &[u32],
     scratch: &mut [u64],
     marks: &mut [u64],
-) -> Gathered
+) -> Result<usize, Refusal>
     requires { are_tags tags.now ≡ true }
     ensures { LabsGathered (tags_of tags.now) bundle.now labs.now quotas.now (length scratch.old) scratch.new marks.old marks.new result }
 {
@@ -244,7 +243,7 @@ pub fn gather_labs(
             }
             return gather_marked_labs(tags, bundle, labs, quotas, scratch, marks);
         }
-        return Gathered::Refused(refusal::unplaced(Fault::MalformedLabs));
+        return Err(refusal::unplaced(Fault::MalformedLabs));
     }
-    Gathered::Refused(refusal::unplaced(Fault::MalformedBundle))
+    Err(refusal::unplaced(Fault::MalformedBundle))
 }

@@ -1,7 +1,7 @@
 -- Parts of the words that are lent: the rows in the front part, and the words as they come back. Assumes nothing.
 use Prim.Native.Nat.{ℕ, ◌+◌, ◌*◌, ◌-◌, ◌≤◌, ◌<◌}
 use native.Mathlib.Omega.{arith}
-use mathlib.Core.Path.{◌≡◌, sym, ap, ◌∙◌}
+use mathlib.Core.Path.{refl, ◌≡◌, sym, ap, ◌∙◌}
 use mathlib.Core.List.{List, ◌++◌}
 use lib.ListN.{length, take, drop, length-append, length-take, length-drop}
 use lib.Seq.{take_at, drop_at, take_all, take-take}
@@ -63,3 +63,13 @@ module _ {base : ℕ} {words₀ words : List ℕ} (λ₀ : Lent base words₀ wo
       other = drop_at front (drop base words) base front_size ∙ λ₀.other;
       size = simp (length-append, length-drop) (omega (arith, front_size, λ₀.size));
     }
+
+-- ---- words that were lent
+
+-- the words before a place were lent and came back as ys
+module _ (words ys : List ℕ) (spare : ℕ) (inside : spare ≤ length words) (len : length ys ≡ length (take spare words)) where
+  pub lent-part : take spare (ys ++ drop spare words) ≡ ys
+  lent-part = lent-front (record { other = refl; size = refl }) ys inside len
+
+  pub lent_size : length (ys ++ drop spare words) ≡ length words
+  lent_size = (lent_back (record { other = refl; size = refl }) ys inside len).size
