@@ -1,5 +1,6 @@
 -- Windows and their lines, as the code meets them. Assumes nothing.
-use Rattle.std.specs.Prelude.{ℕ, ◌≤◌, ◌≡◌, [], ◌∷◌, ◌++◌, length, take}
+use Rattle.std.specs.Prelude.{ℕ, ◌≤◌, ◌≡◌, [], ◌∷◌, ◌++◌, length, take, Result as Answered, Ok, Err}
+use Rattle.model.specs.declared.Refusal.{Refusal}
 use Rattle.model.specs.declared.WriteAnswer.{WriteAnswer}
 use Rattle.model.specs.declared.WriteAnswer.TheVariants as W
 use Rattle.model.specs.Bytes.{Bytes, slash, newline}
@@ -7,8 +8,6 @@ use Rattle.model.specs.Answer.{Answer, accepted, refused, ◌>>=◌}
 use Rattle.model.specs.Output.{written}
 use Rattle.model.specs.Number.{decimal}
 use Rattle.model_totals.specs.declared.Ratio.{Ratio}
-use Rattle.window_lines.specs.declared.Window.{Window}
-use Rattle.window_lines.specs.declared.Window.TheVariants as C
 
 -- ---- lines
 
@@ -20,9 +19,9 @@ abbrev pub ratio_line : Ratio → Bytes
 ratio_line lines = decimal lines.hit ++ slash ∷ decimal lines.found ++ newline ∷ []
 
 -- the line of a window that was counted
-abbrev pub line_of : Window → Answer Bytes
-line_of (C.Lines lines) = accepted (ratio_line lines)
-line_of (C.Refused r) = refused r
+abbrev pub line_of : Answered Ratio Refusal → Answer Bytes
+line_of (Ok lines) = accepted (ratio_line lines)
+line_of (Err r) = refused r
 
 -- ---- the lines of all windows, at the front of an output
 
