@@ -42,7 +42,8 @@ use Rattle.scratch_layout.specs.Layout.{index_at, spare_at}
 use Rattle.joined_table.specs.declared.Gathered.{Gathered}
 use Rattle.joined_table.specs.declared.Gathered.TheVariants as G
 use Rattle.joined_table.specs.Gathering.{seen_bundle, HeldBundle, BundleGathered}
-use Rattle.model_bounds.specs.Bounds.{Bounds, call_answer}
+use Rattle.model_bounds.specs.declared.Bounds.{Bounds}
+use Rattle.model_bounds.specs.Bounds.{call_answer}
 use Rattle.text_choice.specs.Revisions.{gather_highest, gather_revisions}
 use Rattle.lcov.specs.Printed.{printed_by}
 use Rattle.lcov.specs.Demand.{refused_tags}

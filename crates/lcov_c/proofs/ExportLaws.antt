@@ -12,7 +12,7 @@ use Rattle.model.specs.declared.Kind.{Kind}
 use Rattle.model.specs.Bytes.{Bytes, newline}
 use Rattle.model.specs.Answer.{Answer, refused, unplaced, ◌>>=◌}
 use Rattle.model.specs.Record.{Record}
-use Rattle.model.specs.Number.{Counted}
+use Rattle.model.specs.declared.Counted.{Counted}
 use Rattle.model.specs.TagTable.{tagged, tags_of}
 use Rattle.model.specs.Line.{print_record}
 use Rattle.model.specs.Output.{written, output_after}
@@ -28,7 +28,8 @@ use Rattle.tag_table.specs.declared.Loading.TheVariants.{Loaded, Refused}
 use Rattle.compare.specs.declared.Order.{Order}
 use Rattle.compare.specs.Orders.{order_of}
 use Rattle.lcov.proofs.CallLaws.{tags-refused}
-use Rattle.model_bounds.specs.Bounds.{Bounds, call_answer}
+use Rattle.model_bounds.specs.declared.Bounds.{Bounds}
+use Rattle.model_bounds.specs.Bounds.{call_answer}
 use Rattle.lcov_c_words.specs.Words.{line_words, line_number, counted_words, counted_number, write_words, write_number, insert_words, insert_number, query_words, query_number, bounds_words, bounds_number, with_prefix}
 use Rattle.lcov_c.specs.Exports.{ReadLine, ReadNumber, printed_line, AnswerStored, RangeInserted, Queried, BoundsStored, range_words, order_number}
 

@@ -5,13 +5,14 @@ use Rattle.model.specs.declared.Kind.{Kind}
 use Rattle.model.specs.declared.Record.{Record as LentRecord}
 use Rattle.model.specs.Bytes.{Bytes, newline}
 use Rattle.model.specs.Answer.{Answer, ◌>>=◌}
-use Rattle.model.specs.Number.{Counted}
+use Rattle.model.specs.declared.Counted.{Counted}
 use Rattle.model.specs.Line.{read_line, print_record}
 use Rattle.model.specs.Output.{written, output_after}
 use Rattle.model.specs.declared.Range.{Range}
 use Rattle.model.specs.Ranges.{slice_after}
 use Rattle.model.specs.Calls.{call_answer, length_answer}
-use Rattle.model_bounds.specs.Bounds.{Bounds, call_answer}
+use Rattle.model_bounds.specs.declared.Bounds.{Bounds}
+use Rattle.model_bounds.specs.Bounds.{call_answer}
 use Rattle.lcov_c_words.specs.Words.{eight, line_words, line_number, counted_words, counted_number, write_words, write_number, insert_words, insert_number, query_words, query_number, bounds_words, bounds_number, with_prefix}
 
 -- a line read: the number and the words of the model's answer, in which a text is its start and length in the line

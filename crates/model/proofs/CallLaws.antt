@@ -44,7 +44,7 @@ use Rattle.model.specs.declared.Range.{Range}
 use Rattle.model.specs.declared.Record.{Record as LentRecord}
 use Rattle.model.specs.Bytes.{Bytes}
 use Rattle.model.specs.Answer.{Answer, accepted, refused, number_of, refusal_values, with_values}
-use Rattle.model.specs.Number.{Counted}
+use Rattle.model.specs.declared.Counted.{Counted}
 use Rattle.model.specs.Output.{output_after}
 use Rattle.model.specs.Ranges.{slice_after}
 use Rattle.model.specs.Calls.{

@@ -1,6 +1,6 @@
 -- Numbers as text. Assumes nothing.
 use Rattle.std.specs.Prelude.{ℕ, zero, suc, ◌+◌, ◌-◌, ◌*◌, ◌/◌, ◌%◌, Bool, true, false, ◌&&◌, [], ◌∷◌, ◌++◌, leb, ltb, eqb, length, if◌then◌else◌}
-pub use Rattle.model.specs.declared.Counted.{Counted}
+use Rattle.model.specs.declared.Counted.{Counted}
 use Rattle.model.specs.declared.Fault.TheVariants.{EmptyNumber, InvalidDigit, NumberOverflow, SignedNumber}
 use Rattle.model.specs.Bytes.{Bytes, plus}
 use Rattle.model.specs.Answer.{Answer, accepted, ◌>>=◌, refuse}

@@ -10,7 +10,7 @@ use Rattle.model.specs.Report.{Item, Report, compare_keys, entry_key, count_of}
 use Rattle.model.specs.Reading.{read_text}
 use Rattle.model.specs.Printing.{is_function, is_branch, is_line, hits}
 use Rattle.model.specs.Gather.{entry_limit}
-pub use Rattle.model_bounds.specs.declared.Bounds.{Bounds}
+use Rattle.model_bounds.specs.declared.Bounds.{Bounds}
 use Rattle.model_bounds.specs.declared.Hits.{Hits}
 
 abbrev pub items_of : Report → List Item

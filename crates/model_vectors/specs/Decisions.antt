@@ -15,7 +15,8 @@ use Rattle.model.specs.declared.Record.TheVariants as Lent
 use Rattle.model.specs.Bytes.{Bytes, ascii}
 use Rattle.model.specs.Path.{root, current, name, components}
 use Rattle.model.specs.Answer.{accepted, refused, with_values}
-use Rattle.model.specs.Number.{Counted, read_field}
+use Rattle.model.specs.declared.Counted.{Counted}
+use Rattle.model.specs.Number.{read_field}
 use Rattle.model.specs.Record.{Record, test_name, source_file, function_name, branch_data, line_data, end_of_record}
 use Rattle.model.specs.Tags.{default_tag}
 use Rattle.model.specs.TagTable.{place_of, tagged, table_of}

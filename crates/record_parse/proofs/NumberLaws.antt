@@ -14,7 +14,8 @@ use Rattle.model.specs.declared.Fault.TheVariants.{EmptyNumber, InvalidDigit, Nu
 use Rattle.model.specs.declared.Refusal.{Refusal}
 use Rattle.model.specs.Bytes.{Bytes, ascii, comma, compare_bytes, same_bytes, before, after}
 use Rattle.model.specs.Answer.{Answer, accepted, refused, refuse, unplaced}
-use Rattle.model.specs.Number.{is_digit, read_digits, read_number, Counted, read_field}
+use Rattle.model.specs.declared.Counted.{Counted}
+use Rattle.model.specs.Number.{is_digit, read_digits, read_number, read_field}
 use Rattle.model.specs.Calls.{ValueCall, call_answer}
 use Rattle.model.proofs.CallLaws.{value_called}
 use Rattle.scan.specs.declared.Number.{Number as Scanned}

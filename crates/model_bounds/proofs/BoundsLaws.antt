@@ -27,7 +27,8 @@ use Rattle.model.specs.Gather.{entry_limit, read_and_print}
 use Rattle.model.specs.Valid.{Valid}
 use Rattle.model.proofs.Read.{read_text-valid}
 use Rattle.model_bounds.specs.declared.Hits.{Hits}
-use Rattle.model_bounds.specs.Bounds.{items_of, hits_in, same_keys, counts_rise, hits_of, Bounds, bounds, hit_bounds}
+use Rattle.model_bounds.specs.declared.Bounds.{Bounds}
+use Rattle.model_bounds.specs.Bounds.{items_of, hits_in, same_keys, counts_rise, hits_of, bounds, hit_bounds}
 use Rattle.model_bounds.specs.Claims.{SameKeys, CountsRise, CountAbove, Between, AtMost, Within, Reached, TwoRead, BoundsClaim}
 use Rattle.model_bounds.proofs.Printed.{printed-read}
 use Rattle.model_totals.proofs.HitLaws.{one, hit-step}
