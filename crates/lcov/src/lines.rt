@@ -6,9 +6,7 @@ ghost use Rattle.model.specs.Tags.{default_tag};
 ghost use Rattle.model.specs.TagTable.{tagged};
 ghost use Rattle.record_display.specs.Lines.{line_in, counted};
 
-use crate::refused_tags;
 use model::{Record, Refusal};
-use tag_table::Loading;
 
 // Reads a lone line, which is line 1.
 pub fn read_line(line: &[u8]) -> Result<Record, Refusal>
@@ -21,10 +19,8 @@ pub fn read_line(line: &[u8]) -> Result<Record, Refusal>
 pub fn read_line_tagged(tags: &[u8], line: &[u8]) -> Result<Record, Refusal>
     ensures { ValueCall (tagged tags.now (λ tag. lent_line tag line.now)) result }
 {
-    match tag_table::load(tags) {
-        Loading::Refused(fault) => Err(Refusal::from(fault)),
-        Loading::Loaded => record_parse::read_line(tags, line),
-    }
+    tag_table::load(tags)?;
+    record_parse::read_line(tags, line)
 }
 
 // Reads a line; its refusal has no line number.
@@ -38,10 +34,8 @@ pub fn read_record(line: &[u8]) -> Result<Record, Refusal>
 pub fn read_record_tagged(tags: &[u8], line: &[u8]) -> Result<Record, Refusal>
     ensures { ValueCall (tagged tags.now (λ tag. lent_record tag line.now)) result }
 {
-    match tag_table::load(tags) {
-        Loading::Refused(fault) => Err(Refusal::from(fault)),
-        Loading::Loaded => record_parse::read_record(tags, line),
-    }
+    tag_table::load(tags)?;
+    record_parse::read_record(tags, line)
 }
 
 // The length of a record's line, with byte 10 after it. A record with a part outside text has no line, and 0 is its length.
@@ -62,10 +56,8 @@ pub fn print_line(text: &[u8], record: Record, out: &mut [u8]) -> Result<usize, 
 pub fn print_line_tagged(tags: &[u8], text: &[u8], record: Record, out: &mut [u8]) -> Result<usize, Refusal>
     ensures { WriteCall (tagged tags.now (λ tag. print_line tag text.now «record» (length out.old))) out.old out.new result }
 {
-    match tag_table::load(tags) {
-        Loading::Refused(fault) => refused_tags(fault),
-        Loading::Loaded => record_display::print_line(tags, text, record, out),
-    }
+    tag_table::load(tags)?;
+    record_display::print_line(tags, text, record, out)
 }
 
 // Prints a line's record with no checksum, as `print_line` does.
@@ -79,8 +71,6 @@ pub fn print_line_data(line: u32, count: u64, out: &mut [u8]) -> Result<usize, R
 pub fn print_line_data_tagged(tags: &[u8], line: u32, count: u64, out: &mut [u8]) -> Result<usize, Refusal>
     ensures { WriteCall (tagged tags.now (λ tag. print_line tag [] (counted line count) (length out.old))) out.old out.new result }
 {
-    match tag_table::load(tags) {
-        Loading::Refused(fault) => refused_tags(fault),
-        Loading::Loaded => record_display::print_line_data(tags, line, count, out),
-    }
+    tag_table::load(tags)?;
+    record_display::print_line_data(tags, line, count, out)
 }

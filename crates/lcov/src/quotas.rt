@@ -6,9 +6,8 @@ ghost use Rattle.model.specs.TagTable.{tagged, tags_of, are_tags};
 ghost use Rattle.text_choice.specs.Quotas.{gather_quotas};
 ghost use Rattle.lcov.specs.Quotas.{QuotasCall};
 
-use crate::{print_joined, refused_tags};
+use crate::print_joined;
 use model::Refusal;
-use tag_table::Loading;
 
 // The labs marked, and the joint report printed.
 fn gather_let_in(
@@ -54,8 +53,6 @@ pub fn gather_quotas_tagged(
 ) -> Result<usize, Refusal>
     ensures { QuotasCall (tagged tags.now (λ tag. gather_quotas tag bundle.now labs.now quotas.now (length scratch.old) (length out.old))) out.old out.new marks.old marks.new result }
 {
-    match tag_table::load(tags) {
-        Loading::Refused(fault) => refused_tags(fault),
-        Loading::Loaded => gather_let_in(tags, bundle, labs, quotas, scratch, out, marks),
-    }
+    tag_table::load(tags)?;
+    gather_let_in(tags, bundle, labs, quotas, scratch, out, marks)
 }

@@ -5,9 +5,8 @@ ghost use Rattle.model.specs.Tags.{default_tag};
 ghost use Rattle.model.specs.TagTable.{tagged, tags_of, are_tags};
 ghost use Rattle.text_choice.specs.Revisions.{gather_revisions};
 
-use crate::{print_joined, refused_tags};
+use crate::print_joined;
 use model::Refusal;
-use tag_table::Loading;
 
 // The texts with the highest revisions gathered, the joined report printed.
 fn gather_chosen(tags: &[u8], bundle: &[u8], scratch: &mut [u64], out: &mut [u8]) -> Result<usize, Refusal>
@@ -34,8 +33,6 @@ pub fn gather_revisions_tagged(
 ) -> Result<usize, Refusal>
     ensures { WriteCall (tagged tags.now (λ tag. gather_revisions tag bundle.now (length scratch.old) (length out.old))) out.old out.new result }
 {
-    match tag_table::load(tags) {
-        Loading::Refused(fault) => refused_tags(fault),
-        Loading::Loaded => gather_chosen(tags, bundle, scratch, out),
-    }
+    tag_table::load(tags)?;
+    gather_chosen(tags, bundle, scratch, out)
 }
