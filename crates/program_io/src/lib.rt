@@ -54,7 +54,7 @@ pub fn put_refusal(refusal: Refusal, out: &mut [u8]) -> usize
     requires { max_refused ≤ length out.old }
     ensures { (result ≡ length (refused_line «refusal»)) × (out.new ≡ over (refused_line «refusal») out.old) }
 {
-    let number = u64::from(u32::from(refusal.fault));
+    let number = u32::from(refusal.fault) as u64;
     let head = format::put_bytes(b"refused", out);
     let n = put_places(
         number,
