@@ -6,9 +6,8 @@ ghost use Rattle.model.specs.TagTable.{tagged, tags_of, are_tags};
 ghost use Rattle.text_choice.specs.Quotas.{gather_quotas};
 ghost use Rattle.lcov.specs.Quotas.{QuotasCall};
 
-use crate::{print_joined, refused_tags};
-use model::WriteAnswer;
-use tag_table::Loading;
+use crate::print_joined;
+use model::Refusal;
 
 // The labs marked, and the joint report printed.
 fn gather_let_in(
@@ -19,7 +18,7 @@ fn gather_let_in(
     scratch: &mut [u64],
     out: &mut [u8],
     marks: &mut [u64],
-) -> WriteAnswer
+) -> Result<usize, Refusal>
     requires { are_tags tags.now ≡ true }
     ensures { QuotasCall (gather_quotas (tags_of tags.now) bundle.now labs.now quotas.now (length scratch.old) (length out.old)) out.old out.new marks.old marks.new result }
 {
@@ -36,7 +35,7 @@ pub fn gather_quotas(
     scratch: &mut [u64],
     out: &mut [u8],
     marks: &mut [u64],
-) -> WriteAnswer
+) -> Result<usize, Refusal>
     ensures { QuotasCall (gather_quotas default_tag bundle.now labs.now quotas.now (length scratch.old) (length out.old)) out.old out.new marks.old marks.new result }
 {
     gather_let_in(b"", bundle, labs, quotas, scratch, out, marks)
@@ -51,11 +50,9 @@ pub fn gather_quotas_tagged(
     scratch: &mut [u64],
     out: &mut [u8],
     marks: &mut [u64],
-) -> WriteAnswer
+) -> Result<usize, Refusal>
     ensures { QuotasCall (tagged tags.now (λ tag. gather_quotas tag bundle.now labs.now quotas.now (length scratch.old) (length out.old))) out.old out.new marks.old marks.new result }
 {
-    match tag_table::load(tags) {
-        Loading::Refused(fault) => refused_tags(fault),
-        Loading::Loaded => gather_let_in(tags, bundle, labs, quotas, scratch, out, marks),
-    }
+    tag_table::load(tags)?;
+    gather_let_in(tags, bundle, labs, quotas, scratch, out, marks)
 }
