@@ -5,7 +5,7 @@ use mathlib.Core.Bool.{Bool, true, false, true≢false, ◌&&◌}
 use mathlib.Core.List.{List, [], ◌∷◌, ◌++◌}
 use native.Mathlib.Omega.{arith}
 use native.Mathlib.Numerals.{add-one}
-use native.Mathlib.Nat.{lt_of_lt_of_le, lt_of_le_of_lt, add-mul, mul_assoc, mul_comm, mul-one, one-mul, mul-suc, pow-suc}
+use native.Mathlib.Nat.{lt_of_lt_of_le, lt_of_le_of_lt, add-mul, mul_assoc, mul_comm, mul-one, one-mul, mul-suc, pow-suc, lt_of_mul-lt-mul_right}
 use lib.Dec.{eqb, lit≤}
 use lib.ListN.{length, get_or, set, drop, length-append, length-set}
 use lib.Seq.{drop-drop, drop_at}
@@ -122,6 +122,28 @@ module _ (v : ℕ) where
         go : (n : ℕ) → 1 ≤ n → power ≡ 10 ^ n → n ≤ length (decimal v) → n ≡ length (decimal v)
         go zero s e l = absurd (omega arith)
         go (suc n) s e l = omega (arith, l, at_most n v (rw e at h) (within w.small))
+
+-- ---- one digit
+
+-- the power was subtracted `digit` times, and rest is left
+pub record Taking (v power rest digit : ℕ) : Type 0 where
+  pub all : v ≡ digit * power + rest
+  pub most : v < 10 * power
+  pub few : digit ≤ 9
+
+pub taken_none : (v power : ℕ) → v < 10 * power → Taking v power v 0
+taken_none v power h = record { all = omega arith; most = h; few = omega arith }
+
+module _ (v power rest digit : ℕ) (w : Taking v power rest digit) where
+  pub taken_next : power ≤ rest → Taking v power (rest - power) (digit + 1)
+  taken_next h =
+      let all : v ≡ (digit + 1) * power + (rest - power) = omega (arith, w.all, add-mul digit 1 power, one-mul power, h) in
+      let less : (digit + 1) * power < 10 * power = omega (arith, all, w.most) in
+      let few = lt_of_mul-lt-mul_right power less in
+      record { all = all; most = w.most; few = omega (arith, few) }
+
+  pub taken-all : rest < power → Subtracted v power (record { digit = digit; rest = rest })
+  taken-all h = record { all = w.all; left = h; few = w.few }
 
 -- ---- a number begun
 

@@ -75,15 +75,19 @@ pub fn decimal_len(v: u64) -> usize
     n
 }
 
-// How often a power of ten fits into v: at most nine times, since v is below ten times the power.
+// Subtracts a power of ten as often as it fits: at most nine times, since v is below ten times the power. The requirements name this form
+// (docs/ARCHITECTURE.md), which is faster than a division (docs/BENCHMARKS.md); what counts is the rest, so it is no `for`.
 fn digit_of(v: u64, power: u64) -> Digit
     requires { v < 10 * power }
     ensures { Subtracted v power result }
 {
-    Digit {
-        digit: v / power,
-        rest: v % power,
+    let mut rest = v;
+    let mut digit = 0;
+    while power <= rest {
+        rest = rest - power;
+        digit += 1;
     }
+    Digit { digit, rest }
 }
 
 // Writes the digits of v at the powers below number `from`, down to number `to`, and leaves out what stands before its first digit.
