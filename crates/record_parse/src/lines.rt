@@ -1,5 +1,7 @@
 // A reader for each kind of line whose body has numbers. Each gets the line, its end trimmed, and where the body starts, and hands
 // the part from there, then the part after each comma, on to the field readers.
+// A field that is refused ends the reading there: `let .. else` takes each answer apart, as the requirements name it (docs/ARCHITECTURE.md,
+// "Forms of code that the requirements name"), and so no `?` stands in its place.
 ghost use Rattle.std.specs.Prelude.{◌≡◌, ◌≤◌, length, drop};
 ghost use Rattle.model.specs.Line.{read_body, read_one};
 ghost use Rattle.model.specs.declared.Kind.TheVariants as Kd;

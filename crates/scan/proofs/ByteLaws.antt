@@ -61,14 +61,14 @@ module _ (s : Bytes) (n : ℕ) (within : n ≤ length s) (left : trimmed (take n
   trim_more r h e f = sym (trim_snoc (take (n - 1) s) (get_or s (n - 1) 0) true (sym e ∙ f)) ∙ ap trimmed (sym (last h)) ∙ left
 
 -- sameness of bytes
-same-cons : (x y : ℕ) (a b : Bytes) → same_bytes (x ∷ a) (y ∷ b) ≡ (eqb x y && same_bytes a b)
+pub same-cons : (x y : ℕ) (a b : Bytes) (d : Bool) → eqb x y ≡ d → same_bytes (x ∷ a) (y ∷ b) ≡ cond d (same_bytes a b) false
 unfolding compare_bytes
-same-cons x y a b = go (compare x y)
+same-cons x y a b d e = go (compare x y) e
   where
-    go : (o : Ordering) → compare_is_eq (lex o (compare_bytes a b)) ≡ (compare_is_eq o && compare_is_eq (compare_bytes a b))
-    go Ordering.lt = refl
-    go Ordering.eq = refl
-    go Ordering.gt = refl
+    go : (o : Ordering) → compare_is_eq o ≡ d → compare_is_eq (lex o (compare_bytes a b)) ≡ cond d (compare_is_eq (compare_bytes a b)) false
+    go Ordering.lt e = rw (← e)
+    go Ordering.eq e = rw (← e)
+    go Ordering.gt e = rw (← e)
 
 -- as the library compares
 pub same-slices : (a b : Bytes) → pointwise nat_eq a b ≡ same_bytes a b
@@ -76,7 +76,11 @@ unfolding compare_bytes
 same-slices [] [] = refl
 same-slices [] (y ∷ b) = refl
 same-slices (x ∷ a) [] = refl
-same-slices (x ∷ a) (y ∷ b) = rw (same-slices a b) (sym (same-cons x y a b))
+same-slices (x ∷ a) (y ∷ b) = rw (same-slices a b) (go (eqb x y) refl)
+  where
+    go : (d : Bool) → eqb x y ≡ d → (d && same_bytes a b) ≡ same_bytes (x ∷ a) (y ∷ b)
+    go true e = sym (same-cons x y a b true e)
+    go false e = sym (same-cons x y a b false e)
 
 -- and a part of the first against the second
 pub same-swapped : (a b : Bytes) → pointwise nat_eq b a ≡ same_bytes a b

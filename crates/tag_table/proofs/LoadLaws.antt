@@ -1,34 +1,30 @@
 -- A table loaded: 21 before 22. Assumes nothing.
-use Prim.Native.Nat.{ℕ, ◌<◌}
-use mathlib.Core.Path.{◌≡◌, refl, sym, ap, ◌∙◌}
-use mathlib.Core.Bool.{Bool, true, false, ◌&&◌}
+use mathlib.Core.Path.{◌≡◌, sym, ◌∙◌}
+use mathlib.Core.Bool.{Bool, true, false}
 use mathlib.Core.List.{[], ◌∷◌}
 use native.Mathlib.Omega.{arith}
-use lib.ListN.{length}
 use Rattle.model.specs.declared.Fault.TheVariants.{MalformedTags, EqualTags}
-use Rattle.model.specs.declared.Kind.{Kind}
 use Rattle.model.specs.Bytes.{Bytes}
-use Rattle.model.specs.Answer.{accepted, refuse}
 use Rattle.model.specs.Tags.{all_kinds, differ}
 use Rattle.model.specs.TagTable.{lent_tag, well_formed_tags, load_tags, tags_of, are_tags}
 use Rattle.model.proofs.TagTableLaws.{table-length}
 use Rattle.tag_table.specs.Loading.{LoadedTags, LoadedAs}
-use Rattle.tag_table.specs.declared.Loading.TheVariants.{Loaded, Refused}
+use Rattle.std.specs.Prelude.{Err}
 
 module _ (table : Bytes) (w : Bool) (well : w ≡ well_formed_tags table) where
   pub load_well : w ≡ true → well_formed_tags table ≡ true
   load_well t = sym well ∙ t
 
-  pub load_malformed : w ≡ false → LoadedAs table (Refused MalformedTags)
+  pub load_malformed : w ≡ false → LoadedAs table (Err MalformedTags)
   unfolding load_tags
   load_malformed f = rw (← well, f)
 
   module _ (yes : w ≡ true) (d : Bool) (different : d ≡ differ (lent_tag table) all_kinds) where
-    pub load_equal : d ≡ false → LoadedAs table (Refused EqualTags)
+    pub load_equal : d ≡ false → LoadedAs table (Err EqualTags)
     unfolding load_tags
     load_equal f = rw (← well, yes, ← different, f)
 
-    pub load_all : d ≡ true → LoadedAs table Loaded
+    pub load_all : d ≡ true → LoadedTags table
     unfolding load_tags tags_of are_tags
     load_all t = go table (sym well ∙ yes) (sym different ∙ t)
       where
