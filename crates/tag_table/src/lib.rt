@@ -1,19 +1,21 @@
-// The thirteen tags (SPEC 2.2): a lent table is checked, a tag's kind is told, and a kind's tag is written. Inside the library an empty
-// slice stands for the default tags, and any other is a table that was checked.
+// The thirteen tags (SPEC 2.2): a lent table is checked, a tag's kind is told, and a kind's tag is written.
 #![tactic(auto)]
 
 ghost use Rattle.std.specs.Prelude.{◌≡◌, true, [], ◌≤◌, ◌<◌, length};
 ghost use Rattle.model.specs.Bytes.{before, same_bytes};
 ghost use Rattle.model.specs.Tags.{default_tag};
-ghost use Rattle.model.specs.TagTable.{place_of, tag_length, tag_at, lent_tag, well_formed_tags, tags_of, are_tags};
+ghost use Rattle.model.specs.TagTable.{place_of, tag_length, tag_at, lent_tag, well_formed_tags};
 ghost use Rattle.format.specs.Put.{over};
 ghost use Rattle.tag_table.specs.Kinds.{body_at, ends_at, TaggedAs, FoundIn};
 ghost use Rattle.tag_table.specs.Loading.{LoadedAs};
+ghost use Rattle.tag_table.specs.Tags.{tag_of};
 
 mod default;
 mod rules;
+mod tags;
 
 use model::{Fault, Kind};
+pub use tags::Tags;
 
 // The kind that a line's tag has, and where the line's body starts.
 #[derive(Clone, Copy)]
@@ -165,37 +167,44 @@ fn lent_kind(tags: &[u8], s: &[u8]) -> Option<Tagged>
     search_kind(tags, s)
 }
 
+impl Tags<'_> {
+    // The default tags.
+    pub fn defaults() -> Self
+        ensures { tag_of result ≡ default_tag }
+    {
+        Tags { table: b"" }
+    }
+}
+
 // Tells the kind of a line's tag, and where the line's body starts.
 #[tactic(auto, using(crate::proofs::DefaultLaws::default_found, crate::proofs::SlotLaws::lent_well, crate::proofs::KindLaws::lent_found))]
-pub fn kind_of(tags: &[u8], s: &[u8]) -> Option<Tagged>
-    requires { are_tags tags.now ≡ true }
-    ensures { FoundIn (tags_of tags.now) s.now result }
+pub fn kind_of(tags: Tags, s: &[u8]) -> Option<Tagged>
+    ensures { FoundIn (tag_of tags.entry) s.now result }
 {
-    if tags.len() == 0 {
+    if tags.table.len() == 0 {
         return default::kind_of(s);
     }
-    lent_kind(tags, s)
+    lent_kind(tags.table, s)
 }
 
 // The length of a kind's tag.
-pub fn tag_len(tags: &[u8], kind: Kind) -> usize
-    requires { are_tags tags.now ≡ true }
-    ensures { (result ≡ length (tags_of tags.now kind)) × (result ≤ 16) }
+pub fn tag_len(tags: Tags, kind: Kind) -> usize
+    ensures { (result ≡ length (tag_of tags.entry kind)) × (result ≤ 16) }
 {
-    if tags.len() == 0 {
+    if tags.table.len() == 0 {
         return default::tag_len(kind);
     }
-    let tag = tag_at(tags, place_of(kind));
+    let tag = tag_at(tags.table, place_of(kind));
     tag.len()
 }
 
 // Writes a kind's tag at the front of out.
-pub fn put_tag(tags: &[u8], kind: Kind, out: &mut [u8]) -> usize
-    requires { (are_tags tags.now ≡ true) × (length (tags_of tags.now kind) ≤ length out.old) }
-    ensures { (result ≡ length (tags_of tags.now kind)) × (out.new ≡ over (tags_of tags.now kind) out.old) }
+pub fn put_tag(tags: Tags, kind: Kind, out: &mut [u8]) -> usize
+    requires { length (tag_of tags kind) ≤ length out.old }
+    ensures { (result ≡ length (tag_of tags.entry kind)) × (out.new ≡ over (tag_of tags.entry kind) out.old) }
 {
-    if tags.len() != 0 {
-        return format::put_bytes(tag_at(tags, place_of(kind)), out);
+    if tags.table.len() != 0 {
+        return format::put_bytes(tag_at(tags.table, place_of(kind)), out);
     }
     default::put_tag(kind, out)
 }
@@ -203,8 +212,8 @@ pub fn put_tag(tags: &[u8], kind: Kind, out: &mut [u8]) -> usize
 // Checks a table that a caller lends: "a slice that is not 221 long or breaks a rule on a single tag with 21, and two equal tags with 22,
 // in that order".
 #[tactic(auto, using(crate::proofs::LoadLaws::load_well, crate::proofs::LoadLaws::load_all, crate::proofs::LoadLaws::load_equal, crate::proofs::LoadLaws::load_malformed))]
-pub fn load(table: &[u8]) -> Result<(), Fault>
-    ensures { LoadedAs table.now result }
+pub fn load(table: &[u8]) -> Result<Tags, Fault>
+    ensures { LoadedAs table.entry.now result }
 {
     if !rules::is_well_formed(table) {
         return Err(Fault::MalformedTags);
@@ -212,5 +221,5 @@ pub fn load(table: &[u8]) -> Result<(), Fault>
     if !rules::all_differ(table) {
         return Err(Fault::EqualTags);
     }
-    Ok(())
+    Ok(Tags { table })
 }
