@@ -7,12 +7,13 @@ ghost use Rattle.model_bounds.specs.Bounds.{hit_bounds};
 
 use model::Refusal;
 use model_bounds::Bounds;
+use tag_table::Tags;
 
 // The hit numbers of the least counts and of the greatest. Both texts must hold the same keys, and no least count may be above its greatest.
 pub fn hit_bounds(least: &[u8], greatest: &[u8], scratch: &mut [u64]) -> Result<Bounds, Refusal>
     ensures { result ≡ call_answer (hit_bounds default_tag least.now greatest.now (length scratch.old)) }
 {
-    hit_bounds::find_bounds(b"", least, greatest, scratch)
+    hit_bounds::find_bounds(Tags::defaults(), least, greatest, scratch)
 }
 
 // The same under the tags of a lent table.
@@ -24,6 +25,6 @@ pub fn hit_bounds_tagged(
 ) -> Result<Bounds, Refusal>
     ensures { result ≡ call_answer (tagged tags.now (λ tag. hit_bounds tag least.now greatest.now (length scratch.old))) }
 {
-    tag_table::load(tags)?;
+    let tags = tag_table::load(tags)?;
     hit_bounds::find_bounds(tags, least, greatest, scratch)
 }

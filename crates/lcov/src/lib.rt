@@ -19,7 +19,7 @@ ghost use Rattle.model.specs.Answer.{accepted};
 ghost use Rattle.model.specs.declared.Kind.{Kind};
 ghost use Rattle.model.specs.Bytes.{Bytes};
 ghost use Rattle.model.specs.Tags.{default_tag};
-ghost use Rattle.model.specs.TagTable.{load_tags, tagged, tags_of, are_tags};
+ghost use Rattle.model.specs.TagTable.{load_tags, tagged};
 ghost use Rattle.model.specs.Calls.{WriteCall};
 ghost use Rattle.model.specs.Gather.{entry_limit};
 ghost use Rattle.model.specs.Gather.{gather as gatherOf};
@@ -29,6 +29,7 @@ ghost use Rattle.line_num_pairs.specs.Pairs.{ranges_in};
 ghost use Rattle.joined_table.specs.Gathering.{seen_bundle, HeldBundle};
 ghost use Rattle.lcov.specs.Printed.{printed_by};
 ghost use Rattle.lcov.specs.Demand.{GatherCall, ReadCall, GatherTagged, ReadTagged, AcceptsAndWrites};
+ghost use Rattle.tag_table.specs.Tags.{tag_of};
 
 pub use bounds::{hit_bounds, hit_bounds_tagged};
 pub use compare::{Ordering, compare_bytes, compare_paths};
@@ -46,6 +47,7 @@ pub use page::{totals, totals_tagged};
 pub use quotas::{gather_quotas, gather_quotas_tagged};
 pub use record_parse::read_number;
 use report_parser::TextRead;
+use tag_table::Tags;
 pub use revisions::{gather_revisions, gather_revisions_tagged};
 
 // The fixed numbers of model/specs/Limits.antt that code outside needs too: `words_per_entry`, and the scratch and the output of the program
@@ -58,15 +60,14 @@ pub const PROGRAM_OUTPUT: usize = 65_536;
 
 // What was gathered of a bundle printed: the joined report, or why there is none.
 fn print_joined(
-    tags: &[u8],
+    tags: Tags,
     bundle: &[u8],
     scratch: &mut [u64],
     got: Result<usize, Refusal>,
     out: &mut [u8],
 ) -> Result<usize, Refusal>
-    requires tags_value { are_tags tags.now ≡ true }
     requires held_bundle { HeldBundle bundle.now scratch.old (entry_limit (length scratch.old)) got }
-    ensures { WriteCall (printed_by (print_report (tags_of tags.now)) (seen_bundle bundle.now scratch.old (entry_limit (length scratch.old)) got) (length out.old)) out.old out.new result }
+    ensures { WriteCall (printed_by (print_report (tag_of tags.entry)) (seen_bundle bundle.now scratch.old (entry_limit (length scratch.old)) got) (length out.old)) out.old out.new result }
 {
     let n = got?;
     let limit = scratch_layout::entry_limit(scratch.len());
@@ -77,23 +78,21 @@ fn print_joined(
 
 // The texts of a bundle gathered in one of the two modes, the joined report printed.
 fn gather(
-    tags: &[u8],
+    tags: Tags,
     bundle: &[u8],
     scratch: &mut [u64],
     out: &mut [u8],
     mode: Mode,
 ) -> Result<usize, Refusal>
-    requires { are_tags tags.now ≡ true }
-    ensures { WriteCall (gatherOf (tags_of tags.now) mode bundle.now (length scratch.old) (length out.old)) out.old out.new result }
+    ensures { WriteCall (gatherOf (tag_of tags.entry) mode bundle.now (length scratch.old) (length out.old)) out.old out.new result }
 {
     let got = joined_table::gather_bundle(tags, bundle, scratch, mode);
     print_joined(tags, bundle, scratch, got, out)
 }
 
 // One text read, its report printed.
-fn read(tags: &[u8], text: &[u8], scratch: &mut [u64], out: &mut [u8]) -> Result<usize, Refusal>
-    requires { are_tags tags.now ≡ true }
-    ensures { ReadCall (tags_of tags.now) text.now (length scratch.old) out.old out.new result }
+fn read(tags: Tags, text: &[u8], scratch: &mut [u64], out: &mut [u8]) -> Result<usize, Refusal>
+    ensures { ReadCall (tag_of tags.entry) text.now (length scratch.old) out.old out.new result }
 {
     let limit = scratch_layout::entry_limit(scratch.len());
     let index = scratch_layout::index_at(limit);
@@ -105,7 +104,7 @@ fn read(tags: &[u8], text: &[u8], scratch: &mut [u64], out: &mut [u8]) -> Result
 
 // One text read, its report filtered by the used pairs of a slice of ranges and printed.
 fn filter(
-    tags: &[u8],
+    tags: Tags,
     text: &[u8],
     pairs: &[[u32; 2]],
     used: usize,
@@ -113,8 +112,7 @@ fn filter(
     scratch: &mut [u64],
     out: &mut [u8],
 ) -> Result<usize, Refusal>
-    requires { are_tags tags.now ≡ true }
-    ensures { WriteCall (filter_text (tags_of tags.now) bound text.now (ranges_in pairs.now) used (length scratch.old) (length out.old)) out.old out.new result }
+    ensures { WriteCall (filter_text (tag_of tags.entry) bound text.now (ranges_in pairs.now) used (length scratch.old) (length out.old)) out.old out.new result }
 {
     if !line_num_pairs::is_well_formed(pairs, used) {
         return Err(Refusal::from(Fault::MalformedRanges));
@@ -135,7 +133,7 @@ pub fn gather_checked(bundle: &[u8], scratch: &mut [u64], out: &mut [u8]) -> Res
     ensures call { GatherCall default_tag bundle.now (length scratch.old) out.old out.new result }
     ensures demand { AcceptsAndWrites default_tag bundle.now (length scratch.old) out.old out.new result }
 {
-    gather(b"", bundle, scratch, out, Mode::Checked)
+    gather(Tags::defaults(), bundle, scratch, out, Mode::Checked)
 }
 
 // The same under the tags of a lent table.
@@ -148,7 +146,7 @@ pub fn gather_checked_tagged(
     ensures call { GatherTagged tags.now bundle.now (length scratch.old) out.old out.new result }
     ensures demand { (tag : Kind → Bytes) → load_tags tags.now ≡ accepted tag → AcceptsAndWrites tag bundle.now (length scratch.old) out.old out.new result }
 {
-    tag_table::load(tags)?;
+    let tags = tag_table::load(tags)?;
     gather(tags, bundle, scratch, out, Mode::Checked)
 }
 
@@ -156,7 +154,7 @@ pub fn gather_checked_tagged(
 pub fn gather_lossy(bundle: &[u8], scratch: &mut [u64], out: &mut [u8]) -> Result<usize, Refusal>
     ensures { WriteCall (gatherOf default_tag Lossy bundle.now (length scratch.old) (length out.old)) out.old out.new result }
 {
-    gather(b"", bundle, scratch, out, Mode::Lossy)
+    gather(Tags::defaults(), bundle, scratch, out, Mode::Lossy)
 }
 
 // The same under the tags of a lent table.
@@ -168,7 +166,7 @@ pub fn gather_lossy_tagged(
 ) -> Result<usize, Refusal>
     ensures { WriteCall (tagged tags.now (λ tag. gatherOf tag Lossy bundle.now (length scratch.old) (length out.old))) out.old out.new result }
 {
-    tag_table::load(tags)?;
+    let tags = tag_table::load(tags)?;
     gather(tags, bundle, scratch, out, Mode::Lossy)
 }
 
@@ -176,7 +174,7 @@ pub fn gather_lossy_tagged(
 pub fn read_text(text: &[u8], scratch: &mut [u64], out: &mut [u8]) -> Result<usize, Refusal>
     ensures { ReadCall default_tag text.now (length scratch.old) out.old out.new result }
 {
-    read(b"", text, scratch, out)
+    read(Tags::defaults(), text, scratch, out)
 }
 
 // The same under the tags of a lent table.
@@ -188,7 +186,7 @@ pub fn read_text_tagged(
 ) -> Result<usize, Refusal>
     ensures { ReadTagged tags.now text.now (length scratch.old) out.old out.new result }
 {
-    tag_table::load(tags)?;
+    let tags = tag_table::load(tags)?;
     read(tags, text, scratch, out)
 }
 
@@ -202,7 +200,7 @@ pub fn filter_text(
 ) -> Result<usize, Refusal>
     ensures { WriteCall (filter_text default_tag NextStart text.now (ranges_in pairs.now) used (length scratch.old) (length out.old)) out.old out.new result }
 {
-    filter(b"", text, pairs, used, Bound::NextStart, scratch, out)
+    filter(Tags::defaults(), text, pairs, used, Bound::NextStart, scratch, out)
 }
 
 // The same under the tags of a lent table.
@@ -216,7 +214,7 @@ pub fn filter_text_tagged(
 ) -> Result<usize, Refusal>
     ensures { WriteCall (tagged tags.now (λ tag. filter_text tag NextStart text.now (ranges_in pairs.now) used (length scratch.old) (length out.old))) out.old out.new result }
 {
-    tag_table::load(tags)?;
+    let tags = tag_table::load(tags)?;
     filter(tags, text, pairs, used, Bound::NextStart, scratch, out)
 }
 
@@ -230,7 +228,7 @@ pub fn filter_text_distinct_starts(
 ) -> Result<usize, Refusal>
     ensures { WriteCall (filter_text default_tag GreaterStart text.now (ranges_in pairs.now) used (length scratch.old) (length out.old)) out.old out.new result }
 {
-    filter(b"", text, pairs, used, Bound::GreaterStart, scratch, out)
+    filter(Tags::defaults(), text, pairs, used, Bound::GreaterStart, scratch, out)
 }
 
 // The same under the tags of a lent table.
@@ -244,6 +242,6 @@ pub fn filter_text_distinct_starts_tagged(
 ) -> Result<usize, Refusal>
     ensures { WriteCall (tagged tags.now (λ tag. filter_text tag GreaterStart text.now (ranges_in pairs.now) used (length scratch.old) (length out.old))) out.old out.new result }
 {
-    tag_table::load(tags)?;
+    let tags = tag_table::load(tags)?;
     filter(tags, text, pairs, used, Bound::GreaterStart, scratch, out)
 }

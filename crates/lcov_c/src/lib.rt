@@ -6,7 +6,7 @@ ghost use Rattle.model.specs.declared.Bound.TheVariants.{NextStart, GreaterStart
 ghost use Rattle.model.specs.declared.Mode.TheVariants.{Checked, Lossy};
 ghost use Rattle.model.specs.Limits.{program_words};
 ghost use Rattle.model.specs.Tags.{default_tag};
-ghost use Rattle.model.specs.TagTable.{tagged, tags_of, are_tags};
+ghost use Rattle.model.specs.TagTable.{tagged};
 ghost use Rattle.model.specs.Parts.{lent_line};
 ghost use Rattle.model.specs.Calls.{WriteCall};
 ghost use Rattle.model.specs.Number.{read_field};
@@ -22,9 +22,11 @@ ghost use Rattle.lcov_c_words.specs.Words.{record_words, counted_words, held_wor
 ghost use Rattle.model.specs.Ranges.{half_open, insert_call, query_call};
 ghost use Rattle.line_num_pairs.specs.Pairs.{pair, ranges_in};
 ghost use Rattle.lcov_c.specs.Exports.{Stored, printed_line, AnswerStored, RangeInserted, range_words, order_number};
+ghost use Rattle.tag_table.specs.Tags.{tag_of};
 
 use model::Refusal;
 use std::cmp::Ordering;
+use tag_table::Tags;
 
 const SCRATCH_WORDS: usize = lcov::PROGRAM_WORDS;
 
@@ -48,9 +50,8 @@ pub extern "C" fn lcov_read_line_tagged(tags: &[u8], line: &[u8], answer: &mut [
 
 // Reads a line and prints its record, with byte 10 after it.
 #[inline]
-fn print_read(tags: &[u8], line: &[u8], out: &mut [u8]) -> Result<usize, Refusal>
-    requires { are_tags tags.now ≡ true }
-    ensures { WriteCall (printed_line (tags_of tags.now) line.now (length out.old)) out.old out.new result }
+fn print_read(tags: Tags, line: &[u8], out: &mut [u8]) -> Result<usize, Refusal>
+    ensures { WriteCall (printed_line (tag_of tags.entry) line.now (length out.old)) out.old out.new result }
 {
     let made = record_parse::read_line(tags, line)?;
     record_display::print_line(tags, line, made, out)
@@ -60,7 +61,7 @@ fn print_read(tags: &[u8], line: &[u8], out: &mut [u8]) -> Result<usize, Refusal
 fn print_read_tagged(tags: &[u8], line: &[u8], out: &mut [u8]) -> Result<usize, Refusal>
     ensures { WriteCall (tagged tags.now (λ tag. printed_line tag line.now (length out.old))) out.old out.new result }
 {
-    tag_table::load(tags)?;
+    let tags = tag_table::load(tags)?;
     print_read(tags, line, out)
 }
 
@@ -70,7 +71,7 @@ fn print_read_tagged(tags: &[u8], line: &[u8], out: &mut [u8]) -> Result<usize, 
 pub extern "C" fn lcov_print_line(line: &[u8], out: &mut [u8], answer: &mut [u64]) -> u32
     ensures { AnswerStored (printed_line default_tag line.now (length out.old)) answer.old answer.new out.old out.new result }
 {
-    let got = print_read(b"", line, out);
+    let got = print_read(Tags::defaults(), line, out);
     lcov_c_words::store_answer(got, answer)
 }
 
