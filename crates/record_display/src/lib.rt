@@ -39,7 +39,12 @@ pub fn line_len(tags: &[u8], text: &[u8], record: Record) -> usize
 }
 
 // Prints a record, whose text parts lie in text, with byte 10 after it.
-pub fn print_line(tags: &[u8], text: &[u8], record: Record, out: &mut [u8]) -> Result<usize, Refusal>
+pub fn print_line(
+    tags: &[u8],
+    text: &[u8],
+    record: Record,
+    out: &mut [u8],
+) -> Result<usize, Refusal>
     requires { are_tags tags.now ≡ true }
     ensures { WriteCall (print_line (tags_of tags.now) text.now «record» (length out.old)) out.old out.new result }
 {

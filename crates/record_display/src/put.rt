@@ -27,27 +27,24 @@ fn numbers_len(numbers: [u64; 4], count: usize) -> usize
     ensures { (result ≡ length (separated 58 (number_texts numbers count))) × (result ≤ 84) }
 {
     let mut n = 0;
-    let mut i = 0;
-    while i < count {
+    for i in 0..count {
         n = n + 1 + format::decimal_len(numbers[i]);
-        i += 1;
     }
     n
 }
 
 // Writes the first count numbers as fields at the front of out.
+#[tactic(auto, using(crate::proofs::FieldLaws::putting_start, crate::proofs::FieldLaws::putting_at, crate::proofs::FieldLaws::putting_more))]
 fn put_numbers(numbers: [u64; 4], count: usize, out: &mut [u8]) -> usize
     requires { (count ≤ 4) × (length (separated 58 (number_texts numbers count)) ≤ length out.old) }
     ensures { (result ≡ length (separated 58 (number_texts numbers count))) × (out.new ≡ over (separated 58 (number_texts numbers count)) out.old) }
 {
     let mut at = 0;
     let mut sep = b':';
-    let mut i = 0;
-    while i < count {
+    for i in 0..count {
         let n = format::put_number(sep, numbers[i], &mut out[at..]);
         at = at + n;
         sep = b',';
-        i += 1;
     }
     at
 }
