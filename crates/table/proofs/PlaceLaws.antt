@@ -113,10 +113,6 @@ swapped_along f' g' a b c d along τ = record {
   above = λ k p q. along k k q (τ.above k p q);
 }
 
-pub swapped_as : {A : Type 0} {f g : ℕ → A} {used lo hi hi' mid end end' : ℕ} → BlocksSwapped f g used lo hi mid end → hi ≡ hi' → end ≡ end'
-    → BlocksSwapped f g used lo hi' mid end'
-swapped_as τ e d = rw (e, d) at τ
-
 -- ---- two blocks that change places
 
 -- the place k has what the place m had
