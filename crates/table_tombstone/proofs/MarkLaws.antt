@@ -138,5 +138,5 @@ module _ {f g : ℕ → Row} {used lo i : ℕ} (β : Marking f g used lo i) (l :
           (λ x. rw x here)
           (λ x. by-test (is_live (f k)) (λ t. let z : true ≡ false = sym (first i k l (omega arith) q t) ∙ here in cc) (λ t. t))
 
-  pub marked_all : {hi : ℕ} → i ≡ hi → hi ≤ used → MarkedDeleted f g used lo hi (i - lo)
-  marked_all m n = marked (omega arith) n (λ k p q. absurd (omega arith))
+  pub marked_all : {hi : ℕ} → i ≡ hi → hi ≤ used → MarkedDeleted f g used lo hi (hi - lo)
+  marked_all m n = rw (← m) (marked (omega arith) (omega arith) (λ k p q. absurd (omega arith)))
