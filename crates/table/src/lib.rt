@@ -24,7 +24,7 @@ pub const TAG_WORD: usize = 4;
 // | function | name, offset            | name, length    | start, end line | calls | end line   |
 // | branch   | line                    | block           | branch          | taken | taken      |
 // | line     | line                    | checksum, offset| checksum, length| runs  | checksum   |
-#[derive(Clone, Copy)]
+#[derive(Clone, Copy, Default)]
 pub struct Row {
     pub test: u64,
     pub test_len: u64,

@@ -148,15 +148,12 @@ fn item_row(tag: u64, k1: u64, k2: u64, k3: u64, count: u64) -> Row
     ensures { result ≡ item_row tag k1 k2 k3 count }
 {
     Row {
-        test: 0,
-        test_len: 0,
-        path: 0,
-        path_len: 0,
-        tag: tag,
-        k1: k1,
-        k2: k2,
-        k3: k3,
-        count: count,
+        tag,
+        k1,
+        k2,
+        k3,
+        count,
+        ..Row::default()
     }
 }
 
@@ -262,13 +259,6 @@ fn lower_bound_item(
     lo
 }
 
-// The position of a key, or its insert position.
-#[derive(Clone, Copy)]
-pub enum Found {
-    At(usize),
-    Insert(usize),
-}
-
 // Whether the i-th of the n items from place `at` on has the key.
 fn has_key(
     text: &[u8],
@@ -290,7 +280,7 @@ fn has_key(
     compare::is_equal(compare_items(text, key, here))
 }
 
-// The key's place among the n items from place `at` on. Position `hint` is tried first. Most texts are sorted, so that the key comes after
+// The key's place among the n items from place `at` on: its position, or as an error its insert position. Position `hint` is tried first. Most texts are sorted, so that the key comes after
 // the last or is the last: tried next.
 pub fn find_item(
     text: &[u8],
@@ -301,56 +291,44 @@ pub fn find_item(
     n: usize,
     hint: usize,
     key: Row,
-) -> Found
+) -> Result<usize, usize>
     requires { SortedItems text.now words.now index used at n × ItemInBounds text.now key }
     ensures { FoundPlace text.now words.now index at n (item_of text.now key) result }
 {
     if has_key(text, words, index, used, at, n, hint, key) {
-        return Found::At(hint);
+        return Ok(hint);
     }
     if n == 0 {
-        return Found::Insert(0);
+        return Err(0);
     }
     let last = table::get(words, index, used, at + (n - 1));
     if comes_before(text, last, key) {
-        return Found::Insert(n);
+        return Err(n);
     }
     if compare::is_equal(compare_items(text, key, last)) {
-        return Found::At(n - 1);
+        return Ok(n - 1);
     }
     let i = lower_bound_item(text, words, index, used, at, n - 1, key);
     let here = table::get(words, index, used, at + i);
     if compare::is_equal(compare_items(text, key, here)) {
-        return Found::At(i);
+        return Ok(i);
     }
-    Found::Insert(i)
+    Err(i)
 }
 
-// What two rows of one key make, or that their counts do not add.
-#[derive(Clone, Copy)]
-pub enum Combined {
-    One(Row),
-    Overflow,
-}
-
-// FNDA adds to a function's count; any other row takes the place of the earlier one.
-pub fn combine(old: Row, row: Row, accumulate: bool) -> Combined
+// What two rows of one key make, none where their counts do not add: FNDA adds to a function's count, any other row takes the place of the
+// earlier one.
+pub fn combine(old: Row, row: Row, accumulate: bool) -> Option<Row>
     requires { Adds accumulate row }
     ensures item { (text : List ℕ) → seen_one text result ≡ combine_of accumulate (item_of text old) (item_of text row) }
     ensures inner { (text : List ℕ) → ItemRow text old → ItemRow text row → InnerOne text result }
 {
     if !accumulate {
-        return Combined::One(row);
+        return Some(row);
     }
     if old.tag / 2 != FUNCTION {
-        return Combined::One(row);
+        return Some(row);
     }
-    let a = old.count;
-    let b = row.count;
-    if u64::MAX - a < b {
-        return Combined::Overflow;
-    }
-    let mut both = old;
-    both.count = a + b;
-    Combined::One(both)
+    let count = old.count.checked_add(row.count)?;
+    Some(Row { count, ..old })
 }
