@@ -27,7 +27,7 @@ ghost use Rattle.line_num_pairs.specs.Pairs.{ranges_in};
 ghost use Rattle.filter.specs.Keeping.{chosen, keeps, Ahead, Behind, Chosen};
 ghost use Rattle.filter.specs.Filtered.{filtered_from, Holding, functions_left, KeptRows, SectionPrintable, kept_lines};
 
-use model::{Bound, EndLine, WriteAnswer};
+use model::{Bound, Refusal};
 use print_report::{KindRanges, Printed};
 use table::Row;
 
@@ -135,8 +135,8 @@ fn end_of(row: Row, reckoned: u32) -> u32
     ensures { (text : List ℕ) → result ≡ end_or reckoned (end_of (item_of text row)) }
 {
     match table_item::end_line(row) {
-        EndLine::Given(line) => line,
-        EndLine::Absent => reckoned,
+        Some(line) => line,
+        None => reckoned,
     }
 }
 
@@ -476,7 +476,7 @@ pub fn print_filtered(
     n: usize,
     spare: usize,
     out: &mut [u8],
-) -> WriteAnswer
+) -> Result<usize, Refusal>
     requires tags_value { are_tags tags.now ≡ true }
     requires table { Table text.now words.old index used n × (n ≤ max_entries) × (well_formed_ranges (ranges_in pairs.now) count ≡ true) }
     requires used_bound { (index + used ≤ spare) × (spare + n + n ≤ length words.old) }
@@ -492,5 +492,5 @@ pub fn print_filtered(
     let len = filter_sections(
         tags, text, words, pairs, count, bound, index, used, n, spare, out, true,
     );
-    WriteAnswer::Written(len)
+    Ok(len)
 }

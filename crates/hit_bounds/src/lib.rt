@@ -18,8 +18,8 @@ ghost use Rattle.report_parser.specs.Reader.{TextRead};
 ghost use Rattle.scratch_layout.specs.Layout.{index_at, base_at, ScratchRoom};
 ghost use Rattle.hit_bounds.specs.Pairs.{same_branch, HitsBelow, with_hit, Kept, ReadRest, bounds_behind};
 
-use model::Fault;
-use model_bounds::{BoundsAnswer, Hits};
+use model::{Fault, Refusal};
+use model_bounds::{Result<Bounds, Refusal>, Hits};
 use report_parser::TextAnswer;
 use table::Row;
 
@@ -38,7 +38,7 @@ fn same_parts(a: &[u8], s: u64, n: u64, b: &[u8], t: u64, m: u64) -> bool
     let p = s as usize;
     let q = t as usize;
     let order = compare::compare_bytes(&a[p..p + (n as usize)], &b[q..q + (m as usize)]);
-    compare::is_equal(order)
+    order.is_eq()
 }
 
 // Whether a part of one text and a part of another are the same path.
@@ -49,7 +49,7 @@ fn same_paths(a: &[u8], s: u64, n: u64, b: &[u8], t: u64, m: u64) -> bool
     let p = s as usize;
     let q = t as usize;
     let order = compare::compare_paths(&a[p..p + (n as usize)], &b[q..q + (m as usize)]);
-    compare::is_equal(order)
+    order.is_eq()
 }
 
 // Whether two rows are in the same section.
@@ -230,7 +230,7 @@ fn compare_tables(
     high: &[u64],
     h: Rows,
     index: usize,
-) -> BoundsAnswer
+) -> Result<Bounds, Refusal>
     requires { Kept least.now low.now index l × Kept greatest.now high.now index h }
     ensures { result ≡ bounds_answer (bounds (entries_at least.now low.now index l.kept) (entries_at greatest.now high.now index h.kept)) }
 {
@@ -243,9 +243,9 @@ fn compare_tables(
                 greatest: greatest_hits,
             };
         }
-        return BoundsAnswer::Refused(refusal::unplaced(Fault::LeastAboveGreatest));
+        return Err(Refusal::from(Fault::LeastAboveGreatest));
     }
-    BoundsAnswer::Refused(refusal::unplaced(Fault::DifferentKeys))
+    Err(Refusal::from(Fault::DifferentKeys))
 }
 
 // The two tables of one scratch, compared.
@@ -256,7 +256,7 @@ fn compare_halves(
     h: Rows,
     scratch: &[u64],
     limit: usize,
-) -> BoundsAnswer
+) -> Result<Bounds, Refusal>
     requires { ScratchRoom scratch.now limit × Kept least.now (take (base_at limit) scratch.now) (index_at limit) l × Kept greatest.now (drop (base_at limit) scratch.now) (index_at limit) h }
     ensures { result ≡ bounds_answer (bounds (entries_at least.now (take (base_at limit) scratch.now) (index_at limit) l.kept) (entries_at greatest.now (drop (base_at limit) scratch.now) (index_at limit) h.kept)) }
 {
@@ -303,13 +303,13 @@ fn find_behind(
     greatest: &[u8],
     scratch: &mut [u64],
     limit: usize,
-) -> BoundsAnswer
+) -> Result<Bounds, Refusal>
     requires tags_value { are_tags tags.now ≡ true }
     requires scratch_room { ScratchRoom scratch.old limit × Kept least.now (take (base_at limit) scratch.old) (index_at limit) l }
     ensures { result ≡ bounds_answer (bounds_behind (tags_of tags.now) (entries_at least.now (take (base_at limit) scratch.old) (index_at limit) l.kept) greatest.now limit) }
 {
     match read_rest(tags, greatest, scratch, limit) {
-        TextAnswer::Refused(refusal) => BoundsAnswer::Refused(joined_table::in_text(1, refusal)),
+        TextAnswer::Refused(refusal) => Err(joined_table::in_text(1, refusal)),
         TextAnswer::Read { kept, used } => {
             let h = Rows { used, kept };
             compare_halves(least, l, greatest, h, scratch, limit)
@@ -318,13 +318,13 @@ fn find_behind(
 }
 
 // The bounds of the hit numbers of a run whose counts are known by two texts. E is for each text by itself.
-pub fn find_bounds(tags: &[u8], least: &[u8], greatest: &[u8], scratch: &mut [u64]) -> BoundsAnswer
+pub fn find_bounds(tags: &[u8], least: &[u8], greatest: &[u8], scratch: &mut [u64]) -> Result<Bounds, Refusal>
     requires { are_tags tags.now ≡ true }
     ensures { result ≡ bounds_answer (hit_bounds (tags_of tags.now) least.now greatest.now (length scratch.old)) }
 {
     let limit = scratch_layout::entry_limit(scratch.len());
     match read_front(tags, least, scratch, limit) {
-        TextAnswer::Refused(refusal) => BoundsAnswer::Refused(joined_table::in_text(0, refusal)),
+        TextAnswer::Refused(refusal) => Err(joined_table::in_text(0, refusal)),
         TextAnswer::Read { kept, used } => {
             let l = Rows { used, kept };
             find_behind(tags, least, l, greatest, scratch, limit)

@@ -43,5 +43,5 @@ pub fn gather_highest(tags: &[u8], bundle: &[u8], scratch: &mut [u64]) -> Gather
         let body = bundle_revisions::body_at(bundle);
         return joined_table::gather_marked(tags, bundle, body, &marks, scratch, Mode::Checked);
     }
-    Gathered::Refused(refusal::unplaced(Fault::MalformedBundle))
+    Gathered::Refused(Refusal::from(Fault::MalformedBundle))
 }

@@ -98,7 +98,7 @@ fn gather_behind(
             let index = scratch_layout::index_at(limit);
             match merge::merge(bundle, scratch, base, index, limit, n, used, kept, mode) {
                 Joined::Entries(joined) => Gathered::Entries(joined),
-                Joined::Refused(fault) => Gathered::Refused(in_text(i, refusal::unplaced(fault))),
+                Joined::Refused(fault) => Gathered::Refused(in_text(i, Refusal::from(fault))),
             }
         }
     }
@@ -196,5 +196,5 @@ pub fn gather_bundle(tags: &[u8], bundle: &[u8], scratch: &mut [u64], mode: Mode
         let body = bundle::body_at(bundle);
         return gather_marked(tags, bundle, body, b"", scratch, mode);
     }
-    Gathered::Refused(refusal::unplaced(Fault::MalformedBundle))
+    Gathered::Refused(Refusal::from(Fault::MalformedBundle))
 }

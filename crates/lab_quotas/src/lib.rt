@@ -143,7 +143,7 @@ fn mark_words(mark: Mark) -> [u64; MARK_WORDS]
         Mark::OverQuota(entries) => [1, entries as u64, 0, 0, 0],
         Mark::RefusedLab(refusal) => {
             let fault = refusal.fault;
-            let number = refusal::number_of(fault);
+            let number = u32::from(fault);
             [
                 2,
                 number as u64,
@@ -266,7 +266,7 @@ pub fn gather_labs(
             }
             return gather_marked_labs(tags, bundle, labs, quotas, scratch, marks);
         }
-        return Gathered::Refused(refusal::unplaced(Fault::MalformedLabs));
+        return Gathered::Refused(Refusal::from(Fault::MalformedLabs));
     }
-    Gathered::Refused(refusal::unplaced(Fault::MalformedBundle))
+    Gathered::Refused(Refusal::from(Fault::MalformedBundle))
 }

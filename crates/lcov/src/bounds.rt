@@ -8,7 +8,7 @@ use model_bounds::BoundsAnswer;
 use tag_table::Loading;
 
 // The hit numbers of the least counts and of the greatest. Both texts must hold the same keys, and no least count may be above its greatest.
-pub fn hit_bounds(least: &[u8], greatest: &[u8], scratch: &mut [u64]) -> BoundsAnswer
+pub fn hit_bounds(least: &[u8], greatest: &[u8], scratch: &mut [u64]) -> Result<Bounds, Refusal>
     ensures { result ≡ bounds_answer (hit_bounds default_tag least.now greatest.now (length scratch.old)) }
 {
     hit_bounds::find_bounds(b"", least, greatest, scratch)
@@ -20,11 +20,11 @@ pub fn hit_bounds_tagged(
     least: &[u8],
     greatest: &[u8],
     scratch: &mut [u64],
-) -> BoundsAnswer
+) -> Result<Bounds, Refusal>
     ensures { result ≡ bounds_answer (tagged tags.now (λ tag. hit_bounds tag least.now greatest.now (length scratch.old))) }
 {
     match tag_table::load(tags) {
-        Loading::Refused(fault) => BoundsAnswer::Refused(refusal::unplaced(fault)),
+        Loading::Refused(fault) => Err(Refusal::from(fault)),
         Loading::Loaded => hit_bounds::find_bounds(tags, least, greatest, scratch),
     }
 }

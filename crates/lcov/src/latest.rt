@@ -6,11 +6,11 @@ ghost use Rattle.model.specs.TagTable.{tagged, tags_of, are_tags};
 ghost use Rattle.text_choice.specs.Windows.{gather_windows};
 
 use crate::refused_tags;
-use model::WriteAnswer;
+use model::Refusal;
 use tag_table::Loading;
 
 // For each text a line `hit/found` over the lines of the checked gather of that text and the up to width − 1 before it.
-pub fn windows(bundle: &[u8], width: u32, scratch: &mut [u64], out: &mut [u8]) -> WriteAnswer
+pub fn windows(bundle: &[u8], width: u32, scratch: &mut [u64], out: &mut [u8]) -> Result<usize, Refusal>
     ensures { WriteCall (gather_windows default_tag bundle.now width (length scratch.old) (length out.old)) out.old out.new result }
 {
     window_lines::print_windows(b"", bundle, width as usize, scratch, out)
@@ -23,7 +23,7 @@ pub fn windows_tagged(
     width: u32,
     scratch: &mut [u64],
     out: &mut [u8],
-) -> WriteAnswer
+) -> Result<usize, Refusal>
     ensures { WriteCall (tagged tags.now (λ tag. gather_windows tag bundle.now width (length scratch.old) (length out.old))) out.old out.new result }
 {
     match tag_table::load(tags) {

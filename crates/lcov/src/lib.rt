@@ -31,7 +31,7 @@ ghost use Rattle.lcov.specs.Printed.{printed_by};
 ghost use Rattle.lcov.specs.Demand.{GatherCall, ReadCall, GatherTagged, ReadTagged, AcceptsAndWrites, refused_tags};
 
 pub use bounds::{hit_bounds, hit_bounds_tagged};
-pub use compare::{Order, compare_bytes, compare_paths};
+pub use compare::{Ordering, compare_bytes, compare_paths};
 use joined_table::Gathered;
 pub use latest::{windows, windows_tagged};
 pub use line_num::{
@@ -42,7 +42,7 @@ pub use lines::{
     line_len, print_line, print_line_data, print_line_data_tagged, print_line_tagged, read_line,
     read_line_tagged, read_record, read_record_tagged,
 };
-use model::{Bound, Fault, Mode, WriteAnswer};
+use model::{Bound, Fault, Mode, Refusal};
 pub use page::{totals, totals_tagged};
 pub use quotas::{gather_quotas, gather_quotas_tagged};
 pub use record_parse::read_number;
@@ -65,13 +65,13 @@ fn print_joined(
     scratch: &mut [u64],
     got: Gathered,
     out: &mut [u8],
-) -> WriteAnswer
+) -> Result<usize, Refusal>
     requires tags_value { are_tags tags.now ≡ true }
     requires held_bundle { HeldBundle bundle.now scratch.old (entry_limit (length scratch.old)) got }
     ensures { WriteCall (printed_by (print_report (tags_of tags.now)) (seen_bundle bundle.now scratch.old (entry_limit (length scratch.old)) got) (length out.old)) out.old out.new result }
 {
     match got {
-        Gathered::Refused(refusal) => WriteAnswer::Refused(refusal),
+        Gathered::Refused(refusal) => Err(refusal),
         Gathered::Entries(n) => {
             let limit = scratch_layout::entry_limit(scratch.len());
             let index = scratch_layout::index_at(limit);
@@ -88,7 +88,7 @@ fn gather(
     scratch: &mut [u64],
     out: &mut [u8],
     mode: Mode,
-) -> WriteAnswer
+) -> Result<usize, Refusal>
     requires { are_tags tags.now ≡ true }
     ensures { WriteCall (gatherOf (tags_of tags.now) mode bundle.now (length scratch.old) (length out.old)) out.old out.new result }
 {
@@ -97,14 +97,14 @@ fn gather(
 }
 
 // One text read, its report printed.
-fn read(tags: &[u8], text: &[u8], scratch: &mut [u64], out: &mut [u8]) -> WriteAnswer
+fn read(tags: &[u8], text: &[u8], scratch: &mut [u64], out: &mut [u8]) -> Result<usize, Refusal>
     requires { are_tags tags.now ≡ true }
     ensures { ReadCall (tags_of tags.now) text.now (length scratch.old) out.old out.new result }
 {
     let limit = scratch_layout::entry_limit(scratch.len());
     let index = scratch_layout::index_at(limit);
     match report_parser::read_lines(tags, text, 0, scratch, index, limit) {
-        TextAnswer::Refused(refusal) => WriteAnswer::Refused(refusal),
+        TextAnswer::Refused(refusal) => Err(refusal),
         TextAnswer::Read { kept, used } => {
             let spare = scratch_layout::spare_at(limit);
             print_report::print_report(tags, text, scratch, index, used, kept, spare, out)
@@ -121,7 +121,7 @@ fn filter(
     bound: Bound,
     scratch: &mut [u64],
     out: &mut [u8],
-) -> WriteAnswer
+) -> Result<usize, Refusal>
     requires { are_tags tags.now ≡ true }
     ensures { WriteCall (filter_text (tags_of tags.now) bound text.now (ranges_in pairs.now) used (length scratch.old) (length out.old)) out.old out.new result }
 {
@@ -130,7 +130,7 @@ fn filter(
         let index = scratch_layout::index_at(limit);
         match report_parser::read_lines(tags, text, 0, scratch, index, limit) {
             TextAnswer::Refused(refusal) => {
-                return WriteAnswer::Refused(refusal);
+                return Err(refusal);
             }
             TextAnswer::Read { kept, used: rows } => {
                 let spare = scratch_layout::spare_at(limit);
@@ -140,19 +140,19 @@ fn filter(
             }
         }
     }
-    WriteAnswer::Refused(refusal::unplaced(Fault::MalformedRanges))
+    Err(Refusal::from(Fault::MalformedRanges))
 }
 
 // A table of tags that does not load is refused before anything else is looked at.
-fn refused_tags(fault: Fault) -> WriteAnswer
+fn refused_tags(fault: Fault) -> Result<usize, Refusal>
     ensures { result ≡ refused_tags fault }
 {
-    WriteAnswer::Refused(refusal::unplaced(fault))
+    Err(Refusal::from(fault))
 }
 
 // The checked gather (`Report::merge`): given start lines and checksums must agree. The last promise is demand 3's for this call; the whole
 // of it, for this call, `read_text` and their forms with a table of tags, is `Demand3Tables` in specs/Demand.antt.
-pub fn gather_checked(bundle: &[u8], scratch: &mut [u64], out: &mut [u8]) -> WriteAnswer
+pub fn gather_checked(bundle: &[u8], scratch: &mut [u64], out: &mut [u8]) -> Result<usize, Refusal>
     ensures call { GatherCall default_tag bundle.now (length scratch.old) out.old out.new result }
     ensures demand { AcceptsAndWrites default_tag bundle.now (length scratch.old) out.old out.new result }
 {
@@ -165,7 +165,7 @@ pub fn gather_checked_tagged(
     bundle: &[u8],
     scratch: &mut [u64],
     out: &mut [u8],
-) -> WriteAnswer
+) -> Result<usize, Refusal>
     ensures call { GatherTagged tags.now bundle.now (length scratch.old) out.old out.new result }
     ensures demand { (tag : Kind → Bytes) → load_tags tags.now ≡ accepted tag → AcceptsAndWrites tag bundle.now (length scratch.old) out.old out.new result }
 {
@@ -176,7 +176,7 @@ pub fn gather_checked_tagged(
 }
 
 // The lossy gather (`merge_lossy`): "the later given start line or checksum wins".
-pub fn gather_lossy(bundle: &[u8], scratch: &mut [u64], out: &mut [u8]) -> WriteAnswer
+pub fn gather_lossy(bundle: &[u8], scratch: &mut [u64], out: &mut [u8]) -> Result<usize, Refusal>
     ensures { WriteCall (gatherOf default_tag Lossy bundle.now (length scratch.old) (length out.old)) out.old out.new result }
 {
     gather(b"", bundle, scratch, out, Mode::Lossy)
@@ -188,7 +188,7 @@ pub fn gather_lossy_tagged(
     bundle: &[u8],
     scratch: &mut [u64],
     out: &mut [u8],
-) -> WriteAnswer
+) -> Result<usize, Refusal>
     ensures { WriteCall (tagged tags.now (λ tag. gatherOf tag Lossy bundle.now (length scratch.old) (length out.old))) out.old out.new result }
 {
     match tag_table::load(tags) {
@@ -198,7 +198,7 @@ pub fn gather_lossy_tagged(
 }
 
 // One text read, its report printed.
-pub fn read_text(text: &[u8], scratch: &mut [u64], out: &mut [u8]) -> WriteAnswer
+pub fn read_text(text: &[u8], scratch: &mut [u64], out: &mut [u8]) -> Result<usize, Refusal>
     ensures { ReadCall default_tag text.now (length scratch.old) out.old out.new result }
 {
     read(b"", text, scratch, out)
@@ -210,7 +210,7 @@ pub fn read_text_tagged(
     text: &[u8],
     scratch: &mut [u64],
     out: &mut [u8],
-) -> WriteAnswer
+) -> Result<usize, Refusal>
     ensures { ReadTagged tags.now text.now (length scratch.old) out.old out.new result }
 {
     match tag_table::load(tags) {
@@ -226,7 +226,7 @@ pub fn filter_text(
     used: usize,
     scratch: &mut [u64],
     out: &mut [u8],
-) -> WriteAnswer
+) -> Result<usize, Refusal>
     ensures { WriteCall (filter_text default_tag NextStart text.now (ranges_in pairs.now) used (length scratch.old) (length out.old)) out.old out.new result }
 {
     filter(b"", text, pairs, used, Bound::NextStart, scratch, out)
@@ -240,7 +240,7 @@ pub fn filter_text_tagged(
     used: usize,
     scratch: &mut [u64],
     out: &mut [u8],
-) -> WriteAnswer
+) -> Result<usize, Refusal>
     ensures { WriteCall (tagged tags.now (λ tag. filter_text tag NextStart text.now (ranges_in pairs.now) used (length scratch.old) (length out.old))) out.old out.new result }
 {
     match tag_table::load(tags) {
@@ -256,7 +256,7 @@ pub fn filter_text_distinct_starts(
     used: usize,
     scratch: &mut [u64],
     out: &mut [u8],
-) -> WriteAnswer
+) -> Result<usize, Refusal>
     ensures { WriteCall (filter_text default_tag GreaterStart text.now (ranges_in pairs.now) used (length scratch.old) (length out.old)) out.old out.new result }
 {
     filter(b"", text, pairs, used, Bound::GreaterStart, scratch, out)
@@ -270,7 +270,7 @@ pub fn filter_text_distinct_starts_tagged(
     used: usize,
     scratch: &mut [u64],
     out: &mut [u8],
-) -> WriteAnswer
+) -> Result<usize, Refusal>
     ensures { WriteCall (tagged tags.now (λ tag. filter_text tag GreaterStart text.now (ranges_in pairs.now) used (length scratch.old) (length out.old))) out.old out.new result }
 {
     match tag_table::load(tags) {

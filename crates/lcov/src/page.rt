@@ -11,16 +11,16 @@ ghost use Rattle.lcov.specs.Printed.{printed_by};
 
 use crate::refused_tags;
 use joined_table::Gathered;
-use model::{Mode, WriteAnswer};
+use model::{Mode, Refusal};
 use tag_table::Loading;
 
 // The page of what was gathered of a bundle, or why there is none.
-fn print_page(bundle: &[u8], scratch: &[u64], got: Gathered, out: &mut [u8]) -> WriteAnswer
+fn print_page(bundle: &[u8], scratch: &[u64], got: Gathered, out: &mut [u8]) -> Result<usize, Refusal>
     requires { HeldBundle bundle.now scratch.now (entry_limit (length scratch.now)) got }
     ensures { WriteCall (printed_by page (seen_bundle bundle.now scratch.now (entry_limit (length scratch.now)) got) (length out.old)) out.old out.new result }
 {
     match got {
-        Gathered::Refused(refusal) => WriteAnswer::Refused(refusal),
+        Gathered::Refused(refusal) => Err(refusal),
         Gathered::Entries(n) => {
             let limit = scratch_layout::entry_limit(scratch.len());
             let index = scratch_layout::index_at(limit);
@@ -30,7 +30,7 @@ fn print_page(bundle: &[u8], scratch: &[u64], got: Gathered, out: &mut [u8]) -> 
 }
 
 // The texts of a bundle gathered, checked, and the page of the joined report written.
-fn write_page(tags: &[u8], bundle: &[u8], scratch: &mut [u64], out: &mut [u8]) -> WriteAnswer
+fn write_page(tags: &[u8], bundle: &[u8], scratch: &mut [u64], out: &mut [u8]) -> Result<usize, Refusal>
     requires { are_tags tags.now ≡ true }
     ensures { WriteCall (totalsPage (tags_of tags.now) bundle.now (length scratch.old) (length out.old)) out.old out.new result }
 {
@@ -39,14 +39,14 @@ fn write_page(tags: &[u8], bundle: &[u8], scratch: &mut [u64], out: &mut [u8]) -
 }
 
 // Gathers a bundle, checked, and writes the page of totals: for each section how many functions, branches and lines were hit and found.
-pub fn totals(bundle: &[u8], scratch: &mut [u64], out: &mut [u8]) -> WriteAnswer
+pub fn totals(bundle: &[u8], scratch: &mut [u64], out: &mut [u8]) -> Result<usize, Refusal>
     ensures { WriteCall (totalsPage default_tag bundle.now (length scratch.old) (length out.old)) out.old out.new result }
 {
     write_page(b"", bundle, scratch, out)
 }
 
 // The same under the tags of a lent table.
-pub fn totals_tagged(tags: &[u8], bundle: &[u8], scratch: &mut [u64], out: &mut [u8]) -> WriteAnswer
+pub fn totals_tagged(tags: &[u8], bundle: &[u8], scratch: &mut [u64], out: &mut [u8]) -> Result<usize, Refusal>
     ensures { WriteCall (tagged tags.now (λ tag. totalsPage tag bundle.now (length scratch.old) (length out.old))) out.old out.new result }
 {
     match tag_table::load(tags) {

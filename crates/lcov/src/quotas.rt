@@ -7,7 +7,7 @@ ghost use Rattle.text_choice.specs.Quotas.{gather_quotas};
 ghost use Rattle.lcov.specs.Quotas.{QuotasCall};
 
 use crate::{print_joined, refused_tags};
-use model::WriteAnswer;
+use model::Refusal;
 use tag_table::Loading;
 
 // The labs marked, and the joint report printed.
@@ -19,7 +19,7 @@ fn gather_let_in(
     scratch: &mut [u64],
     out: &mut [u8],
     marks: &mut [u64],
-) -> WriteAnswer
+) -> Result<usize, Refusal>
     requires { are_tags tags.now ≡ true }
     ensures { QuotasCall (gather_quotas (tags_of tags.now) bundle.now labs.now quotas.now (length scratch.old) (length out.old)) out.old out.new marks.old marks.new result }
 {
@@ -36,7 +36,7 @@ pub fn gather_quotas(
     scratch: &mut [u64],
     out: &mut [u8],
     marks: &mut [u64],
-) -> WriteAnswer
+) -> Result<usize, Refusal>
     ensures { QuotasCall (gather_quotas default_tag bundle.now labs.now quotas.now (length scratch.old) (length out.old)) out.old out.new marks.old marks.new result }
 {
     gather_let_in(b"", bundle, labs, quotas, scratch, out, marks)
@@ -51,7 +51,7 @@ pub fn gather_quotas_tagged(
     scratch: &mut [u64],
     out: &mut [u8],
     marks: &mut [u64],
-) -> WriteAnswer
+) -> Result<usize, Refusal>
     ensures { QuotasCall (tagged tags.now (λ tag. gather_quotas tag bundle.now labs.now quotas.now (length scratch.old) (length out.old))) out.old out.new marks.old marks.new result }
 {
     match tag_table::load(tags) {

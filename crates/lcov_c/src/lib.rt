@@ -23,7 +23,7 @@ ghost use Rattle.line_num_pairs.specs.Pairs.{pair, ranges_in};
 ghost use Rattle.lcov_c.specs.Exports.{ReadLine, ReadNumber, printed_line, AnswerStored, RangeInserted, Queried, BoundsStored, range_words, order_number};
 
 use compare::Order;
-use model::{LineAnswer, WriteAnswer};
+use model::{Record, Refusal};
 use tag_table::Loading;
 
 const SCRATCH_WORDS: usize = lcov::PROGRAM_WORDS;
@@ -55,7 +55,7 @@ fn print_read(tags: &[u8], line: &[u8], out: &mut [u8], answer: &mut [u64]) -> u
     ensures { AnswerStored (printed_line (tags_of tags.now) line.now (length out.old)) answer.old answer.new out.old out.new result }
 {
     let got = record_parse::read_line(tags, line);
-    let LineAnswer::Read(made) = got else {
+    let Ok(made) = got else {
         lcov_c_words::put_words(lcov_c_words::line_words(got), answer);
         return lcov_c_words::line_number(got);
     };
@@ -71,7 +71,7 @@ pub extern "C" fn lcov_print_line(line: &[u8], out: &mut [u8], answer: &mut [u64
     ensures { AnswerStored (printed_line default_tag line.now (length out.old)) answer.old answer.new out.old out.new result }
 {
     let got = record_parse::read_line(b"", line);
-    let LineAnswer::Read(made) = got else {
+    let Ok(made) = got else {
         lcov_c_words::put_words(lcov_c_words::line_words(got), answer);
         return lcov_c_words::line_number(got);
     };
@@ -92,8 +92,8 @@ pub extern "C" fn lcov_print_line_tagged(
 {
     match tag_table::load(tags) {
         Loading::Refused(fault) => {
-            let refusal = refusal::unplaced(fault);
-            lcov_c_words::store_answer(WriteAnswer::Refused(refusal), answer)
+            let refusal = Refusal::from(fault);
+            lcov_c_words::store_answer(Err(refusal), answer)
         }
         Loading::Loaded => print_read(tags, line, out, answer),
     }
@@ -481,8 +481,8 @@ pub extern "C" fn lcov_compare_paths(a: &[u8], b: &[u8]) -> u32
 {
     let order = compare::compare_paths(a, b);
     match order {
-        Order::Less => 0,
-        Order::Equal => 1,
-        Order::Greater => 2,
+        Ordering::Less => 0,
+        Ordering::Equal => 1,
+        Ordering::Greater => 2,
     }
 }

@@ -5,17 +5,14 @@ ghost use Rattle.std.specs.Prelude.{◌≡◌, length};
 ghost use Rattle.model.specs.Answer.{number_of};
 ghost use Rattle.lcov_c_words.specs.Words.{function_words, branch_words, line_data_words, record_words, refusal_words, line_words, line_number, counted_words, counted_number, write_words, write_number, insert_words, insert_number, held_word, query_words, query_number, bounds_words, bounds_number, with_prefix};
 
-use model::{
-    Checksum, EndLine, InsertAnswer, LineAnswer, NumberAnswer, Part, QueryAnswer, Record, Refusal,
-    Taken, WriteAnswer,
-};
+use model::{Counted, Part, Record, Refusal};
 use model_bounds::BoundsAnswer;
 
-fn function_words(start: u32, end: EndLine, name: Part) -> [u64; 8]
+fn function_words(start: u32, end: Option<u32>, name: Part) -> [u64; 8]
     ensures { result ≡ function_words start end name }
 {
     match end {
-        EndLine::Given(line) => [
+        Some(line) => [
             3,
             start as u64,
             line as u64,
@@ -25,7 +22,7 @@ fn function_words(start: u32, end: EndLine, name: Part) -> [u64; 8]
             name.start as u64,
             name.len as u64,
         ],
-        EndLine::Absent => [
+        None => [
             3,
             start as u64,
             0,
@@ -38,20 +35,20 @@ fn function_words(start: u32, end: EndLine, name: Part) -> [u64; 8]
     }
 }
 
-fn branch_words(line: u32, block: u32, branch: u32, taken: Taken) -> [u64; 8]
+fn branch_words(line: u32, block: u32, branch: u32, taken: Option<u64>) -> [u64; 8]
     ensures { result ≡ branch_words line block branch taken }
 {
     match taken {
-        Taken::Given(count) => [7, line as u64, block as u64, branch as u64, count, 1, 0, 0],
-        Taken::Absent => [7, line as u64, block as u64, branch as u64, 0, 0, 0, 0],
+        Some(count) => [7, line as u64, block as u64, branch as u64, count, 1, 0, 0],
+        None => [7, line as u64, block as u64, branch as u64, 0, 0, 0, 0],
     }
 }
 
-fn line_data_words(line: u32, count: u64, checksum: Checksum) -> [u64; 8]
+fn line_data_words(line: u32, count: u64, checksum: Option<Part>) -> [u64; 8]
     ensures { result ≡ line_data_words line count checksum }
 {
     match checksum {
-        Checksum::Given(part) => [
+        Some(part) => [
             10,
             line as u64,
             count,
@@ -61,7 +58,7 @@ fn line_data_words(line: u32, count: u64, checksum: Checksum) -> [u64; 8]
             part.start as u64,
             part.len as u64,
         ],
-        Checksum::Absent => [10, line as u64, count, 0, 0, 0, 0, 0],
+        None => [10, line as u64, count, 0, 0, 0, 0, 0],
     }
 }
 
@@ -122,37 +119,37 @@ fn refusal_number(refusal: Refusal) -> u32
     ensures { result ≡ number_of refusal.fault }
 {
     let fault = refusal.fault;
-    refusal::number_of(fault)
+    u32::from(fault)
 }
 
-pub fn line_words(answer: LineAnswer) -> [u64; 8]
+pub fn line_words(answer: Result<Record, Refusal>) -> [u64; 8]
     ensures { result ≡ line_words answer }
 {
     match answer {
-        LineAnswer::Read(record) => record_words(record),
-        LineAnswer::Refused(refusal) => refusal_words(refusal),
+        Ok(record) => record_words(record),
+        Err(refusal) => refusal_words(refusal),
     }
 }
 
-pub fn line_number(answer: LineAnswer) -> u32
+pub fn line_number(answer: Result<Record, Refusal>) -> u32
     ensures { result ≡ line_number answer }
 {
     match answer {
-        LineAnswer::Read(_record) => 0,
-        LineAnswer::Refused(refusal) => refusal_number(refusal),
+        Ok(_record) => 0,
+        Err(refusal) => refusal_number(refusal),
     }
 }
 
-pub fn counted_words(answer: NumberAnswer) -> [u64; 8]
+pub fn counted_words(answer: Result<Counted, Refusal>) -> [u64; 8]
     ensures { result ≡ counted_words answer }
 {
     match answer {
         NumberAnswer::Read { value, digits } => [value, digits as u64, 0, 0, 0, 0, 0, 0],
-        NumberAnswer::Refused(refusal) => refusal_words(refusal),
+        Err(refusal) => refusal_words(refusal),
     }
 }
 
-pub fn counted_number(answer: NumberAnswer) -> u32
+pub fn counted_number(answer: Result<Counted, Refusal>) -> u32
     ensures { result ≡ counted_number answer }
 {
     match answer {
@@ -160,43 +157,43 @@ pub fn counted_number(answer: NumberAnswer) -> u32
             value: _value,
             digits: _,
         } => 0,
-        NumberAnswer::Refused(refusal) => refusal_number(refusal),
+        Err(refusal) => refusal_number(refusal),
     }
 }
 
-pub fn write_words(answer: WriteAnswer) -> [u64; 8]
+pub fn write_words(answer: Result<usize, Refusal>) -> [u64; 8]
     ensures { result ≡ write_words answer }
 {
     match answer {
-        WriteAnswer::Written(n) => [n as u64, 0, 0, 0, 0, 0, 0, 0],
-        WriteAnswer::Refused(refusal) => refusal_words(refusal),
+        Ok(n) => [n as u64, 0, 0, 0, 0, 0, 0, 0],
+        Err(refusal) => refusal_words(refusal),
     }
 }
 
-pub fn write_number(answer: WriteAnswer) -> u32
+pub fn write_number(answer: Result<usize, Refusal>) -> u32
     ensures { result ≡ write_number answer }
 {
     match answer {
-        WriteAnswer::Written(_n) => 0,
-        WriteAnswer::Refused(refusal) => refusal_number(refusal),
+        Ok(_n) => 0,
+        Err(refusal) => refusal_number(refusal),
     }
 }
 
-pub fn insert_words(answer: InsertAnswer) -> [u64; 8]
+pub fn insert_words(answer: Result<usize, Refusal>) -> [u64; 8]
     ensures { result ≡ insert_words answer }
 {
     match answer {
-        InsertAnswer::Used(n) => [n as u64, 0, 0, 0, 0, 0, 0, 0],
-        InsertAnswer::Refused(refusal) => refusal_words(refusal),
+        Ok(n) => [n as u64, 0, 0, 0, 0, 0, 0, 0],
+        Err(refusal) => refusal_words(refusal),
     }
 }
 
-pub fn insert_number(answer: InsertAnswer) -> u32
+pub fn insert_number(answer: Result<usize, Refusal>) -> u32
     ensures { result ≡ insert_number answer }
 {
     match answer {
-        InsertAnswer::Used(_n) => 0,
-        InsertAnswer::Refused(refusal) => refusal_number(refusal),
+        Ok(_n) => 0,
+        Err(refusal) => refusal_number(refusal),
     }
 }
 
@@ -209,25 +206,25 @@ fn held_word(held: bool) -> u64
     0
 }
 
-pub fn query_words(answer: QueryAnswer) -> [u64; 8]
+pub fn query_words(answer: Result<bool, Refusal>) -> [u64; 8]
     ensures { result ≡ query_words answer }
 {
     match answer {
-        QueryAnswer::Holds(held) => [held_word(held), 0, 0, 0, 0, 0, 0, 0],
-        QueryAnswer::Refused(refusal) => refusal_words(refusal),
+        Ok(held) => [held_word(held), 0, 0, 0, 0, 0, 0, 0],
+        Err(refusal) => refusal_words(refusal),
     }
 }
 
-pub fn query_number(answer: QueryAnswer) -> u32
+pub fn query_number(answer: Result<bool, Refusal>) -> u32
     ensures { result ≡ query_number answer }
 {
     match answer {
-        QueryAnswer::Holds(_held) => 0,
-        QueryAnswer::Refused(refusal) => refusal_number(refusal),
+        Ok(_held) => 0,
+        Err(refusal) => refusal_number(refusal),
     }
 }
 
-pub fn bounds_words(answer: BoundsAnswer) -> [u64; 8]
+pub fn bounds_words(answer: Result<Bounds, Refusal>) -> [u64; 8]
     ensures { result ≡ bounds_words answer }
 {
     match answer {
@@ -241,11 +238,11 @@ pub fn bounds_words(answer: BoundsAnswer) -> [u64; 8]
             0,
             0,
         ],
-        BoundsAnswer::Refused(refusal) => refusal_words(refusal),
+        Err(refusal) => refusal_words(refusal),
     }
 }
 
-pub fn bounds_number(answer: BoundsAnswer) -> u32
+pub fn bounds_number(answer: Result<Bounds, Refusal>) -> u32
     ensures { result ≡ bounds_number answer }
 {
     match answer {
@@ -253,7 +250,7 @@ pub fn bounds_number(answer: BoundsAnswer) -> u32
             least: _least,
             greatest: _,
         } => 0,
-        BoundsAnswer::Refused(refusal) => refusal_number(refusal),
+        Err(refusal) => refusal_number(refusal),
     }
 }
 
@@ -272,7 +269,7 @@ pub fn put_words(words: [u64; 8], slice: &mut [u64])
 }
 
 // Hands a writing call's answer back: its words into the slice, where that holds them, and its number.
-pub fn store_answer(answer: WriteAnswer, slice: &mut [u64]) -> u32
+pub fn store_answer(answer: Result<usize, Refusal>, slice: &mut [u64]) -> u32
     ensures number { result ≡ write_number answer }
     ensures words { slice.new ≡ with_prefix (write_words answer) slice.old }
 {

@@ -19,7 +19,7 @@ ghost use Rattle.print_sort.specs.Sorting.{items_by};
 ghost use Rattle.print_rows.specs.Emit.{RoomFor, Emitted, Printable};
 ghost use Rattle.print_report.specs.Printing.{printed_from, PrintableTable, UnchangedBefore, IsKindRange, AreKindRanges, function_lines, FunctionRows, branch_lines, line_lines, GroupRows, SectionPrinted, RequiredLength};
 
-use model::{Fault, Refusal, WriteAnswer};
+use model::{Fault, Refusal};
 
 // The end of the range of rows of a kind that starts at position `from`.
 fn kind_end(words: &[u64], index: usize, used: usize, n: usize, from: usize, kind: u64) -> usize
@@ -246,10 +246,10 @@ fn print_sections(
 }
 
 // Refusal 14.
-pub fn too_short(needed: usize) -> WriteAnswer
+pub fn too_short(needed: usize) -> Result<usize, Refusal>
     ensures { result ≡ write_answer (refuse_length needed) }
 {
-    WriteAnswer::Refused(Refusal {
+    Err(Refusal {
         fault: Fault::OutputTooShort,
         text: 0,
         line: 0,
@@ -291,7 +291,7 @@ pub fn print_report(
     n: usize,
     spare: usize,
     out: &mut [u8],
-) -> WriteAnswer
+) -> Result<usize, Refusal>
     requires tags_value { are_tags tags.now ≡ true }
     requires table { Table text.now words.old index used n × (n ≤ max_entries) }
     requires used_bound { (index + used ≤ spare) × (spare + n + n ≤ length words.old) }
@@ -303,5 +303,5 @@ pub fn print_report(
         return too_short(needed);
     }
     let len = print_sections(tags, text, words, index, used, n, spare, out, true);
-    WriteAnswer::Written(len)
+    Ok(len)
 }

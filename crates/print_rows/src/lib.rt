@@ -10,14 +10,14 @@ ghost use Rattle.model.specs.Limits.{u32_max, u64_max};
 ghost use Rattle.model.specs.Record.{test_name, source_file, end_of_record};
 ghost use Rattle.model.specs.TagTable.{tags_of, are_tags};
 ghost use Rattle.model.specs.Report.{extent_of};
-ghost use Rattle.model.specs.Parts.{end_in, record_in};
+ghost use Rattle.model.specs.Parts.{given_in, record_in};
 ghost use Rattle.model.specs.Printing.{start_record, data_record, group, hits, print_records};
 ghost use Rattle.model.specs.Valid.{ItemFits};
 ghost use Rattle.table_item.specs.Items.{part, start_key, item_of, ItemInBounds};
 ghost use Rattle.record_display.specs.Lines.{line_in, counted};
-ghost use Rattle.print_rows.specs.Emit.{end_len, RoomFor, Emitted, Numbered, Printable, numbered_item, pass_records, found_of, hit_of, lent_part, lent_taken, lent_checksum, hit_one};
+ghost use Rattle.print_rows.specs.Emit.{end_len, RoomFor, Emitted, Numbered, Printable, numbered_item, pass_records, found_of, hit_of, lent_part, lent_given, lent_checksum, hit_one};
 
-use model::{Checksum, EndLine, Kind, Part, Record, Taken, WriteAnswer};
+use model::{Kind, Part, Record, Refusal};
 use table::Row;
 
 // The place behind n bytes, held at 2^64 − 1.
@@ -57,7 +57,7 @@ fn emit_record(
 {
     if write {
         let wrote = record_display::print_line(tags, text, record, &mut out[at..]);
-        let WriteAnswer::Written(n) = wrote else {
+        let Ok(n) = wrote else {
             return at;
         };
         return at + n;
@@ -66,12 +66,12 @@ fn emit_record(
 }
 
 // The length of an end line and the comma before it.
-fn end_len(end: EndLine) -> usize
-    ensures { (result ≡ end_len (end_in end)) × (result ≤ 21) }
+fn end_len(end: Option<u32>) -> usize
+    ensures { (result ≡ end_len (given_in end)) × (result ≤ 21) }
 {
     match end {
-        EndLine::Given(line) => 1 + format::decimal_len(line as u64),
-        EndLine::Absent => 0,
+        Some(line) => 1 + format::decimal_len(line as u64),
+        None => 0,
     }
 }
 
@@ -118,22 +118,22 @@ fn part_of(start: u64, len: u64) -> Part
     }
 }
 
-fn taken_of(row: Row) -> Taken
-    ensures { result ≡ lent_taken (row.tag % 2) row.count }
+fn taken_of(row: Row) -> Option<u64>
+    ensures { result ≡ lent_given (row.tag % 2) row.count }
 {
     if row.tag % 2 == 0 {
-        return Taken::Absent;
+        return None;
     }
-    Taken::Given(row.count)
+    Some(row.count)
 }
 
-fn checksum_of(row: Row) -> Checksum
+fn checksum_of(row: Row) -> Option<Part>
     ensures { result ≡ lent_checksum (row.tag % 2) row.k2 row.k3 }
 {
     if row.tag % 2 == 0 {
-        return Checksum::Absent;
+        return None;
     }
-    Checksum::Given(part_of(row.k2, row.k3))
+    Some(part_of(row.k2, row.k3))
 }
 
 // FNDA, BRDA or DA, as a record.
@@ -210,7 +210,7 @@ fn emit_line_data(tags: &[u8], line: u32, count: u64, out: &mut [u8], at: usize)
     ensures { Emitted true out.old out.new at (line_in (tags_of tags.now) [] (counted line count)) result }
 {
     let wrote = record_display::print_line_data(tags, line, count, &mut out[at..]);
-    let WriteAnswer::Written(n) = wrote else {
+    let Ok(n) = wrote else {
         return at;
     };
     at + n

@@ -7,7 +7,7 @@ ghost use Rattle.format.specs.Put.{over};
 ghost use Rattle.program_io.specs.Cases.{u16_at, case_end};
 ghost use Rattle.program_io.specs.Refused.{refused_line, max_refused, places};
 
-use model::{QueryAnswer, Refusal};
+use model::Refusal;
 
 // The most bytes of standard input that a bundle may have: `program_input` in model/specs/Limits.antt.
 pub const MAX_INPUT: usize = 65_536;
@@ -55,7 +55,7 @@ pub fn put_refusal(refusal: Refusal, out: &mut [u8]) -> usize
     ensures { (result ≡ length (refused_line «refusal»)) × (out.new ≡ over (refused_line «refusal») out.old) }
 {
     let fault = refusal.fault;
-    let number = refusal::number_of(fault) as u64;
+    let number = u32::from(fault) as u64;
     let head = format::put_bytes(b"refused", out);
     let n = put_places(
         number,
@@ -103,15 +103,15 @@ pub fn show_range(start: u32, end: u32) {
     write_first(&out, len);
 }
 
-pub fn show_query(answer: QueryAnswer) {
+pub fn show_query(answer: Result<bool, Refusal>) {
     match answer {
-        QueryAnswer::Holds(held) => {
+        Ok(held) => {
             if held {
                 io::write_all(1, b"held\n");
             } else {
                 io::write_all(1, b"not held\n");
             }
         }
-        QueryAnswer::Refused(refusal) => show_refusal(refusal),
+        Err(refusal) => show_refusal(refusal),
     }
 }

@@ -11,7 +11,7 @@ ghost use Rattle.record_display.specs.Lines.{line_in, counted};
 mod fields;
 mod put;
 
-use model::{Checksum, Fault, Record, Refusal, WriteAnswer};
+use model::{Fault, Part, Record, Refusal};
 
 fn refusal(fault: Fault, needed: u64) -> Refusal
     ensures { result ≡ needed_at fault needed }
@@ -39,7 +39,7 @@ pub fn line_len(tags: &[u8], text: &[u8], record: Record) -> usize
 }
 
 // Prints a record, whose text parts lie in text, with byte 10 after it.
-pub fn print_line(tags: &[u8], text: &[u8], record: Record, out: &mut [u8]) -> WriteAnswer
+pub fn print_line(tags: &[u8], text: &[u8], record: Record, out: &mut [u8]) -> Result<usize, Refusal>
     requires { are_tags tags.now ≡ true }
     ensures { WriteCall (print_line (tags_of tags.now) text.now «record» (length out.old)) out.old out.new result }
 {
@@ -48,28 +48,28 @@ pub fn print_line(tags: &[u8], text: &[u8], record: Record, out: &mut [u8]) -> W
     if fields::is_inside(last, text.len()) {
         if put::fits(tags, fields, out.len()) {
             let n = put::put_line(tags, fields, text, out);
-            return WriteAnswer::Written(n);
+            return Ok(n);
         }
         let needed = put::line_len(tags, fields);
-        return WriteAnswer::Refused(refusal(Fault::OutputTooShort, needed as u64));
+        return Err(refusal(Fault::OutputTooShort, needed as u64));
     }
-    WriteAnswer::Refused(refusal(Fault::PartOutside, 0))
+    Err(refusal(Fault::PartOutside, 0))
 }
 
 // Prints a line's record with no checksum, as `print_line` does, and makes no record of it where the output surely holds it: most lines of a
 // report are such.
-pub fn print_line_data(tags: &[u8], line: u32, count: u64, out: &mut [u8]) -> WriteAnswer
+pub fn print_line_data(tags: &[u8], line: u32, count: u64, out: &mut [u8]) -> Result<usize, Refusal>
     requires { are_tags tags.now ≡ true }
     ensures { WriteCall (print_line (tags_of tags.now) [] (counted line count) (length out.old)) out.old out.new result }
 {
     if put::MAX_HEAD <= out.len() {
         let n = put::put_line_data(tags, line as u64, count, out);
-        return WriteAnswer::Written(n);
+        return Ok(n);
     }
     let record = Record::LineData {
         line,
         count,
-        checksum: Checksum::Absent,
+        checksum: None,
     };
     print_line(tags, b"", record, out)
 }

@@ -1,4 +1,7 @@
 -- The fields of a body, left to right: each starts at a position of the line. Assumes nothing.
+use Rattle.std.specs.Prelude.{Result, Some, None}
+use Rattle.model.specs.declared.Record.{Record as LentRecord}
+use Rattle.model.specs.declared.Refusal.{Refusal}
 use Prim.Native.Nat.{ℕ, zero, suc, ◌+◌, ◌-◌, ◌*◌, ◌^◌, ◌≤◌, ◌<◌}
 use mathlib.Core.Path.{◌≡◌, refl, sym, ap, ◌∙◌}
 use mathlib.Core.List.{[], ◌∷◌}
@@ -18,8 +21,6 @@ use borrow.Author.Tests.{lt-ltb}
 use Rattle.ordmap.proofs.Results.{impossible}
 use Rattle.model.specs.declared.Fault.{Fault}
 use Rattle.model.specs.declared.Part.{Part}
-use Rattle.model.specs.declared.Checksum.TheVariants as Ck
-use Rattle.model.specs.declared.LineAnswer.{LineAnswer}
 use Rattle.model.specs.Bytes.{Bytes, ascii, comma, same_bytes, before, after}
 use Rattle.model.specs.Answer.{Answer, accepted, refused, refuse_field}
 use Rattle.model.specs.Number.{read_number}
@@ -169,15 +170,15 @@ module _ {body line : Bytes} {k at max : ℕ} (here : FieldAt body line k at) {g
 -- ---- a checksum, or "-"
 
 module _ (start : ℕ) (rest : Bytes) (d : Bool) (is : d ≡ same_bytes rest (ascii "-")) where
-  pub checksum_dash : d ≡ true → Ck.Absent ≡ checksum_from start rest
+  pub checksum_dash : d ≡ true → None ≡ checksum_from start rest
   checksum_dash e = rw (← is, e)
 
-  pub checksum-text : (p : Part) → d ≡ false → p ≡ part_from start rest → Ck.Given p ≡ checksum_from start rest
+  pub checksum-text : (p : Part) → d ≡ false → p ≡ part_from start rest → Some p ≡ checksum_from start rest
   checksum-text p e q = rw (← is, e, q)
 
 -- ---- a number's refusal, known by its variant
 
-pub refusal_of_lem : (got number : Field) (field : ℕ) (r : LineAnswer) → got ≡ number → r ≡ number_refusal field number → r ≡ number_refusal field got
+pub refusal_of_lem : (got number : Field) (field : ℕ) (r : Result LentRecord Refusal) → got ≡ number → r ≡ number_refusal field number → r ≡ number_refusal field got
 refusal_of_lem got number field r e q = rw e q
 
 -- ---- a number, its next field as a position of the line

@@ -5,7 +5,7 @@ ghost use Rattle.model.specs.Line.{begins_with_end};
 ghost use Rattle.scan_digits.specs.Word.{ShortRead};
 ghost use Rattle.record_parse.specs.Fields.{refused_at, number_refusal, NumberField, part_from, checksum_from};
 
-use model::{Checksum, Fault, LineAnswer, Part, Refusal};
+use model::{Fault, Part, Record, Refusal};
 use scan::Number;
 use scan_digits::Short;
 
@@ -17,10 +17,10 @@ pub(crate) enum Field {
     Fault(Fault),
 }
 
-pub(crate) fn refused(fault: Fault, field: u32) -> LineAnswer
+pub(crate) fn refused(fault: Fault, field: u32) -> Result<Record, Refusal>
     ensures { result ≡ refused_at fault field }
 {
-    LineAnswer::Refused(Refusal {
+    Err(Refusal {
         fault,
         text: 0,
         line: 0,
@@ -31,7 +31,7 @@ pub(crate) fn refused(fault: Fault, field: u32) -> LineAnswer
 
 // Why a number is not what its field asks for: its own fault; it is the last field, and one must follow; one follows, and it must
 // be the last.
-pub(crate) fn number_refusal(got: Field, field: u32) -> LineAnswer
+pub(crate) fn number_refusal(got: Field, field: u32) -> Result<Record, Refusal>
     requires { field ≤ 4 }
     ensures { result ≡ number_refusal field got }
 {
@@ -116,11 +116,11 @@ pub(crate) fn text_field(start: usize, rest: &[u8]) -> Part
 }
 
 // A checksum, which is a text; "-" means none.
-pub(crate) fn checksum_field(start: usize, rest: &[u8]) -> Checksum
+pub(crate) fn checksum_field(start: usize, rest: &[u8]) -> Option<Part>
     ensures { result ≡ checksum_from start rest.now }
 {
     if scan::equal(rest, b"-") {
-        return Checksum::Absent;
+        return None;
     }
-    Checksum::Given(text_field(start, rest))
+    Some(text_field(start, rest))
 }

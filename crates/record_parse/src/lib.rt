@@ -6,7 +6,7 @@ ghost use Rattle.model.specs.TagTable.{tags_of, are_tags};
 ghost use Rattle.model.specs.Line.{read_body};
 ghost use Rattle.model.specs.Parts.{lent_record, lent_line};
 ghost use Rattle.model.specs.Number.{read_field};
-ghost use Rattle.model.specs.Calls.{LineCall, NumberCall};
+ghost use Rattle.model.specs.Calls.{ValueCall};
 ghost use Rattle.record_parse.specs.Answers.{Answers};
 ghost use Rattle.record_parse.specs.Lines.{TotalOf};
 
@@ -15,7 +15,7 @@ mod lines;
 
 use fields::{refused, text_field};
 use lines::Total;
-use model::{Fault, Kind, LineAnswer, NumberAnswer, Record, Refusal};
+use model::{Counted, Fault, Kind, Record, Refusal};
 use scan::Number;
 use tag_table::Found;
 
@@ -34,7 +34,7 @@ fn total_of(kind: Kind) -> Total
 }
 
 // The body of a line of this kind, which starts at a position.
-fn read_body(kind: Kind, line: &[u8], at: usize) -> LineAnswer
+fn read_body(kind: Kind, line: &[u8], at: usize) -> Result<Record, Refusal>
     requires { at ≤ length line.now }
     ensures { Answers line.now result (read_body kind (drop at line.now)) }
 {
@@ -43,17 +43,17 @@ fn read_body(kind: Kind, line: &[u8], at: usize) -> LineAnswer
         Kind::BranchData => lines::read_branch_data(line, at),
         Kind::FunctionData => lines::read_function_data(line, at),
         Kind::FunctionName => lines::read_function_name(line, at),
-        Kind::TestName => LineAnswer::Read(Record::TestName(text_field(at, &line[at..]))),
-        Kind::SourceFile => LineAnswer::Read(Record::SourceFile(text_field(at, &line[at..]))),
-        Kind::EndOfRecord => LineAnswer::Read(Record::EndOfRecord),
+        Kind::TestName => Ok(Record::TestName(text_field(at, &line[at..]))),
+        Kind::SourceFile => Ok(Record::SourceFile(text_field(at, &line[at..]))),
+        Kind::EndOfRecord => Ok(Record::EndOfRecord),
         _ => lines::read_total(total_of(kind), line, at),
     }
 }
 
 // Reads a line; its refusal has no line number yet.
-pub fn read_record(tags: &[u8], line: &[u8]) -> LineAnswer
+pub fn read_record(tags: &[u8], line: &[u8]) -> Result<Record, Refusal>
     requires { are_tags tags.now ≡ true }
-    ensures { LineCall (lent_record (tags_of tags.now) line.now) result }
+    ensures { ValueCall (lent_record (tags_of tags.now) line.now) result }
 {
     let s = scan::trim(line);
     match tag_table::kind_of(tags, s) {
@@ -63,16 +63,16 @@ pub fn read_record(tags: &[u8], line: &[u8]) -> LineAnswer
 }
 
 // Reads a lone line, which is line 1.
-pub fn read_line(tags: &[u8], line: &[u8]) -> LineAnswer
+pub fn read_line(tags: &[u8], line: &[u8]) -> Result<Record, Refusal>
     requires { are_tags tags.now ≡ true }
-    ensures { LineCall (lent_line (tags_of tags.now) line.now) result }
+    ensures { ValueCall (lent_line (tags_of tags.now) line.now) result }
 {
     let got = read_record(tags, line);
     match got {
-        LineAnswer::Read(record) => LineAnswer::Read(record),
-        LineAnswer::Refused(r) => {
+        Ok(record) => Ok(record),
+        Err(r) => {
             let fault = r.fault;
-            LineAnswer::Refused(Refusal {
+            Err(Refusal {
                 fault,
                 text: r.text,
                 line: 1,
@@ -84,11 +84,11 @@ pub fn read_line(tags: &[u8], line: &[u8]) -> LineAnswer
 }
 
 // Reads one number field, a number up to max: its value, and how many digits were read. A refusal has no place.
-pub fn read_number(field: &[u8], max: u64) -> NumberAnswer
-    ensures { NumberCall (read_field max field.now) result }
+pub fn read_number(field: &[u8], max: u64) -> Result<Counted, Refusal>
+    ensures { ValueCall (read_field max field.now) result }
 {
     if scan::starts_with(field, b",") {
-        return NumberAnswer::Refused(refusal::unplaced(Fault::InvalidDigit));
+        return Err(Refusal::from(Fault::InvalidDigit));
     }
     let got = scan::read_number(field, max);
     match got {
@@ -96,7 +96,7 @@ pub fn read_number(field: &[u8], max: u64) -> NumberAnswer
         Number::More {
             value: _value,
             digits: _,
-        } => NumberAnswer::Refused(refusal::unplaced(Fault::InvalidDigit)),
-        Number::Fault(fault) => NumberAnswer::Refused(refusal::unplaced(fault)),
+        } => Err(Refusal::from(Fault::InvalidDigit)),
+        Number::Fault(fault) => Err(Refusal::from(fault)),
     }
 }

@@ -11,7 +11,7 @@ use super::fields::{
     Field, begins_with_end, checksum_field, long_field, number_field, number_refusal, refused,
     text_field,
 };
-use model::{Checksum, EndLine, Fault, LineAnswer, Record, Taken};
+use model::{Fault, Part, Record, Refusal};
 use scan_digits::Short;
 
 const MAX_U32: u64 = 4294967295;
@@ -19,7 +19,7 @@ const MAX_U32: u64 = 4294967295;
 const MAX_U64: u64 = 18446744073709551615;
 
 // The end of an FN body that has an end line: that line, which must not be below the start line, and a name.
-fn read_end(line: &[u8], at: usize, start: u32) -> LineAnswer
+fn read_end(line: &[u8], at: usize, start: u32) -> Result<Record, Refusal>
     requires { at ≤ length line.now }
     ensures { EndRead start line.now at result }
 {
@@ -33,12 +33,12 @@ fn read_end(line: &[u8], at: usize, start: u32) -> LineAnswer
         return refused(Fault::EndBeforeStart, 0);
     }
     let name = text_field(next, &line[next..]);
-    let end = EndLine::Given(last);
-    LineAnswer::Read(Record::FunctionName { start, end, name })
+    let end = Some(last);
+    Ok(Record::FunctionName { start, end, name })
 }
 
 // What follows FN's start line: an end line and a name, or a name.
-fn read_function(line: &[u8], at: usize, start: u32) -> LineAnswer
+fn read_function(line: &[u8], at: usize, start: u32) -> Result<Record, Refusal>
     requires { at ≤ length line.now }
     ensures { FunctionRead start line.now at result }
 {
@@ -46,12 +46,12 @@ fn read_function(line: &[u8], at: usize, start: u32) -> LineAnswer
         return read_end(line, at, start);
     }
     let name = text_field(at, &line[at..]);
-    let end = EndLine::Absent;
-    LineAnswer::Read(Record::FunctionName { start, end, name })
+    let end = None;
+    Ok(Record::FunctionName { start, end, name })
 }
 
 // FN: a start line, perhaps an end line, and a name.
-pub(crate) fn read_function_name(line: &[u8], at: usize) -> LineAnswer
+pub(crate) fn read_function_name(line: &[u8], at: usize) -> Result<Record, Refusal>
     requires { at ≤ length line.now }
     ensures { Answers line.now result (read_body Kd.FunctionName (drop at line.now)) }
 {
@@ -64,7 +64,7 @@ pub(crate) fn read_function_name(line: &[u8], at: usize) -> LineAnswer
 }
 
 // FNDA: a count and a name.
-pub(crate) fn read_function_data(line: &[u8], at: usize) -> LineAnswer
+pub(crate) fn read_function_data(line: &[u8], at: usize) -> Result<Record, Refusal>
     requires { at ≤ length line.now }
     ensures { Answers line.now result (read_body Kd.FunctionData (drop at line.now)) }
 {
@@ -78,11 +78,11 @@ pub(crate) fn read_function_data(line: &[u8], at: usize) -> LineAnswer
         return number_refusal(first, 1);
     };
     let name = text_field(rest, &line[rest..]);
-    LineAnswer::Read(Record::FunctionData { count, name })
+    Ok(Record::FunctionData { count, name })
 }
 
 // The end of a BRDA body: a taken count, which `short` has already if it is short, or "-" for none.
-fn read_taken(line: u32, block: u32, branch: u32, short: Short, rest: &[u8]) -> LineAnswer
+fn read_taken(line: u32, block: u32, branch: u32, short: Short, rest: &[u8]) -> Result<Record, Refusal>
     requires { ShortRead rest.now short }
     ensures { TakenRead line block branch rest.now result }
 {
@@ -91,8 +91,8 @@ fn read_taken(line: u32, block: u32, branch: u32, short: Short, rest: &[u8]) -> 
         digits: _,
     } = short
     {
-        let taken = Taken::Given(count);
-        return LineAnswer::Read(Record::BranchData {
+        let taken = Some(count);
+        return Ok(Record::BranchData {
             line,
             block,
             branch,
@@ -100,8 +100,8 @@ fn read_taken(line: u32, block: u32, branch: u32, short: Short, rest: &[u8]) -> 
         });
     }
     if scan::equal(rest, b"-") {
-        let taken = Taken::Absent;
-        return LineAnswer::Read(Record::BranchData {
+        let taken = None;
+        return Ok(Record::BranchData {
             line,
             block,
             branch,
@@ -115,8 +115,8 @@ fn read_taken(line: u32, block: u32, branch: u32, short: Short, rest: &[u8]) -> 
     let Field::Last(count) = fourth else {
         return number_refusal(fourth, 4);
     };
-    let taken = Taken::Given(count);
-    LineAnswer::Read(Record::BranchData {
+    let taken = Some(count);
+    Ok(Record::BranchData {
         line,
         block,
         branch,
@@ -125,7 +125,7 @@ fn read_taken(line: u32, block: u32, branch: u32, short: Short, rest: &[u8]) -> 
 }
 
 // BRDA: line, block, branch and a taken count.
-pub(crate) fn read_branch_data(line: &[u8], at: usize) -> LineAnswer
+pub(crate) fn read_branch_data(line: &[u8], at: usize) -> Result<Record, Refusal>
     requires { at ≤ length line.now }
     ensures { Answers line.now result (read_body Kd.BranchData (drop at line.now)) }
 {
@@ -163,7 +163,7 @@ pub(crate) fn read_branch_data(line: &[u8], at: usize) -> LineAnswer
 }
 
 // DA: a line number, a count and perhaps a checksum.
-pub(crate) fn read_line_data(line: &[u8], at: usize) -> LineAnswer
+pub(crate) fn read_line_data(line: &[u8], at: usize) -> Result<Record, Refusal>
     requires { at ≤ length line.now }
     ensures { Answers line.now result (read_body Kd.LineData (drop at line.now)) }
 {
@@ -176,14 +176,14 @@ pub(crate) fn read_line_data(line: &[u8], at: usize) -> LineAnswer
     let short = scan_digits::short_number(line, &line[next..]);
     let second = number_field(next, &line[next..], short, MAX_U64);
     match second {
-        Field::Last(count) => LineAnswer::Read(Record::LineData {
+        Field::Last(count) => Ok(Record::LineData {
             line: number,
             count,
-            checksum: Checksum::Absent,
+            checksum: None,
         }),
         Field::More { value: count, next } => {
             let checksum = checksum_field(next, &line[next..]);
-            LineAnswer::Read(Record::LineData {
+            Ok(Record::LineData {
                 line: number,
                 count,
                 checksum,
@@ -219,7 +219,7 @@ fn total_record(kind: Total, n: u32) -> Record
 }
 
 // FNF, FNH, BRF, BRH, LF, LH: one number.
-pub(crate) fn read_total(kind: Total, line: &[u8], at: usize) -> LineAnswer
+pub(crate) fn read_total(kind: Total, line: &[u8], at: usize) -> Result<Record, Refusal>
     requires { at ≤ length line.now }
     ensures { Answers line.now result (read_one (count_made kind) (drop at line.now)) }
 {
@@ -228,5 +228,5 @@ pub(crate) fn read_total(kind: Total, line: &[u8], at: usize) -> LineAnswer
     let Field::Last(value) = first else {
         return number_refusal(first, 1);
     };
-    LineAnswer::Read(total_record(kind, value as u32))
+    Ok(total_record(kind, value as u32))
 }

@@ -9,7 +9,7 @@ ghost use Rattle.model.specs.TagTable.{tags_of, are_tags};
 ghost use Rattle.section.specs.Reading.{SectionRoom, HoldsState};
 ghost use Rattle.report_parser.specs.Reader.{at_line, fault_at, LineRefuses, StepRefuses, RefusedLine, RefusedStep, LineDone, TextFinished, TextRead};
 
-use model::{Fault, LineAnswer, Refusal};
+use model::{Fault, Record, Refusal};
 use section::{State, Step};
 
 // The state after a line and where the next line starts, or why the text is refused.
@@ -53,13 +53,13 @@ fn at_line(line: u64, refusal: Refusal) -> Refusal
 }
 
 // A line that is refused ends the reading there. No caller hands over a record that was read.
-fn refused_line(got: LineAnswer, number: u64) -> LineStep
+fn refused_line(got: Result<Record, Refusal>, number: u64) -> LineStep
     requires { LineRefuses got }
     ensures { RefusedLine number got result }
 {
     match got {
-        LineAnswer::Refused(refusal) => LineStep::Refused(at_line(number, refusal)),
-        LineAnswer::Read(_made) => LineStep::Refused(fault_at(number, Fault::UnknownRecord)),
+        Err(refusal) => LineStep::Refused(at_line(number, refusal)),
+        Ok(_made) => LineStep::Refused(fault_at(number, Fault::UnknownRecord)),
     }
 }
 
@@ -91,7 +91,7 @@ fn read_line_at(
 {
     let len = scan_line::first_line_len(&text[at..]);
     let got = record_parse::read_record(tags, &text[at..at + len]);
-    let LineAnswer::Read(made) = got else {
+    let Ok(made) = got else {
         return refused_line(got, number);
     };
     let done = effect::step(text, words, index, limit, state, made, at, len);

@@ -62,7 +62,7 @@ fn position_of(
     }
     if 0 < j {
         let before = table::get(words, index, used, main + (j - 1));
-        if compare::is_equal(compare_sections(text, entry, before)) {
+        if compare_sections(text, entry, before).is_eq() {
             return words[spare + (j - 1)] as usize;
         }
     }
@@ -92,7 +92,7 @@ fn section_rest(
         return 0;
     }
     let last = table::get(words, index, used, kept.main + (j + n));
-    if compare::is_equal(compare_sections(text, first, last)) {
+    if compare_sections(text, first, last).is_eq() {
         return n;
     }
     0
@@ -342,7 +342,7 @@ fn with_known_test(
     }
     let first = table::get(words, index, used, 0);
     let tests = table_item::compare_parts(text, first.test, first.test_len, key.test, key.test_len);
-    if compare::is_equal(tests) {
+    if tests.is_eq() {
         let mut known = key;
         known.test = first.test;
         known.test_len = first.test_len;

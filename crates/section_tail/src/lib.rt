@@ -288,7 +288,7 @@ fn joins(text: &[u8], last: Row, row: Row, accumulate: bool) -> bool
     if last.k2 != row.k2 {
         return false;
     }
-    compare::is_equal(compare_items(text, row, last))
+    compare_items(text, row, last).is_eq()
 }
 
 // Upserts a row where the tail is empty; position `hint` is tried first.

@@ -117,6 +117,10 @@ pub before_as : (text ws : List ℕ) (index at k : ℕ) (e : Item) {x : Row} {r 
     → Before (item_from text ws index at) e k ≡ b
 before_as text ws index at k e f g t = rw f at (sym g ∙ t)
 
+pub equal_as : (text ws : List ℕ) (index at k : ℕ) (e : Item) {x : Row} {r b : Bool} → x ≡ row ws index (at + k) → r ≡ compare_is_eq (compare_items e (item_of text x)) → r ≡ b
+    → compare_is_eq (compare_items e (item_from text ws index at k)) ≡ b
+equal_as text ws index at k e f g t = rw f at (sym g ∙ t)
+
 -- ---- the answers of the search
 
 -- the answer as a match has it

@@ -15,17 +15,17 @@ ghost use Rattle.table_item.specs.Items.{part};
 ghost use Rattle.table_section.specs.Sections.{key_of, NamesInBounds, rows_from, SectionsFrom, is_past, PastRow, IsEqualRange};
 ghost use Rattle.table_section.specs.Splice.{with_section, SectionSet, HeaderRow, Spliced};
 
-use compare::Order;
+use std::cmp::Ordering;
 use table::Row;
 
 // Compares two parts of the text as paths. Equal parts at one offset are not read.
-fn compare_path_parts(text: &[u8], a: u64, n: u64, b: u64, m: u64) -> Order
+fn compare_path_parts(text: &[u8], a: u64, n: u64, b: u64, m: u64) -> Ordering
     requires { (a + n ≤ length text.now) × (b + m ≤ length text.now) }
     ensures { order_of result ≡ compare_paths (components (part text.now a n)) (components (part text.now b m)) }
 {
     if a == b {
         if n == m {
-            return Order::Equal;
+            return Ordering::Equal;
         }
     }
     let p = a as usize;
@@ -34,25 +34,25 @@ fn compare_path_parts(text: &[u8], a: u64, n: u64, b: u64, m: u64) -> Order
 }
 
 // Compares by test name, then by path.
-pub fn compare_sections(text: &[u8], x: Row, y: Row) -> Order
+pub fn compare_sections(text: &[u8], x: Row, y: Row) -> Ordering
     requires { NamesInBounds text.now x × NamesInBounds text.now y }
     ensures { order_of result ≡ compare_sections (key_of text.now x) (key_of text.now y) }
 {
     let tests = table_item::compare_parts(text, x.test, x.test_len, y.test, y.test_len);
-    if compare::is_equal(tests) {
+    if tests.is_eq() {
         return compare_path_parts(text, x.path, x.path_len, y.path, y.path_len);
     }
     tests
 }
 
 // A key is past an entry that is less, and past one that is equal if `equal`.
-fn is_past(order: Order, equal: bool) -> bool
+fn is_past(order: Ordering, equal: bool) -> bool
     ensures { result ≡ is_past equal (order_of order) }
 {
     match order {
-        Order::Less => false,
-        Order::Equal => equal,
-        Order::Greater => true,
+        Ordering::Less => false,
+        Ordering::Equal => equal,
+        Ordering::Greater => true,
     }
 }
 
@@ -145,7 +145,7 @@ fn has_key(
         return false;
     }
     let other = table::get(words, index, used, at + i);
-    compare::is_equal(compare_sections(text, key, other))
+    compare_sections(text, key, other).is_eq()
 }
 
 // The equal range of a key among the n entries from position `at` on. It tries the last entry first, since most texts have their
@@ -170,7 +170,7 @@ pub fn equal_range(
         return EqualRange { lo: n, hi: n };
     }
     let first = table::get(words, index, used, at);
-    if compare::is_less(compare_sections(text, key, first)) {
+    if compare_sections(text, key, first).is_lt() {
         return EqualRange { lo: 0, hi: 0 };
     }
     let lo = partition_point(text, words, index, used, at, n, 0, n, key, false);

@@ -6,7 +6,7 @@
 ghost use Rattle.std.specs.Prelude.{◌+◌, ◌*◌, ◌≤◌, ◌≡◌, length};
 
 use line_num::Inserted;
-use model::{InsertAnswer, Range};
+use model::{Range, Refusal};
 
 const LIST: usize = line_num::LIST;
 
@@ -54,11 +54,11 @@ fn show_inserted(inserted: Inserted) {
     let answer = inserted.answer;
     let list = inserted.list;
     match answer {
-        InsertAnswer::Used(n) => {
+        Ok(n) => {
             program_io::show_number(n as u64);
             show_list(list);
         }
-        InsertAnswer::Refused(refusal) => program_io::show_refusal(refusal),
+        Err(refusal) => program_io::show_refusal(refusal),
     }
 }
 

@@ -5,7 +5,7 @@
 
 ghost use Rattle.std.specs.Prelude.{◌+◌, ◌≤◌, length};
 
-use model::{LineAnswer, Record, WriteAnswer};
+use model::{Record, Refusal};
 
 const MAX_INPUT: usize = 131072;
 
@@ -13,7 +13,7 @@ const MAX_INPUT: usize = 131072;
 fn show_record(line: &[u8], record: Record) {
     let mut out = io::large_buffer();
     let wrote = lcov::print_line(line, record, &mut out);
-    let WriteAnswer::Written(n) = wrote else {
+    let Ok(n) = wrote else {
         io::write_all(1, b"no room\n");
         return;
     };
@@ -23,8 +23,8 @@ fn show_record(line: &[u8], record: Record) {
 fn show(line: &[u8]) {
     let got = lcov::read_line(line);
     match got {
-        LineAnswer::Read(record) => show_record(line, record),
-        LineAnswer::Refused(refusal) => program_io::show_refusal(refusal),
+        Ok(record) => show_record(line, record),
+        Err(refusal) => program_io::show_refusal(refusal),
     }
 }
 

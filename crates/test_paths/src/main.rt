@@ -4,11 +4,11 @@
 
 use compare::Order;
 
-fn sign(order: Order) -> u8 {
+fn sign(order: Ordering) -> u8 {
     match order {
-        Order::Less => b'<',
-        Order::Equal => b'=',
-        Order::Greater => b'>',
+        Ordering::Less => b'<',
+        Ordering::Equal => b'=',
+        Ordering::Greater => b'>',
     }
 }
 

@@ -2,7 +2,7 @@
 // gives: 15, 17 and 18.
 #![tactic(auto)]
 
-use model::{InsertAnswer, Part, Record, WriteAnswer};
+use model::{Part, Record, Refusal};
 
 // All pairs of the slice, those past the used ones too.
 fn show_pairs(pairs: &[[u32; 2]]) {
@@ -18,12 +18,12 @@ fn show_pairs(pairs: &[[u32; 2]]) {
 // Answers the number of pairs used afterwards.
 fn insert(pairs: &mut [[u32; 2]], used: usize, start: u32, end: u32) -> usize {
     match line_num_pairs::insert(pairs, used, start, end) {
-        InsertAnswer::Used(n) => {
+        Ok(n) => {
             program_io::show_number(n as u64);
             show_pairs(pairs);
             n
         }
-        InsertAnswer::Refused(refusal) => {
+        Err(refusal) => {
             program_io::show_refusal(refusal);
             used
         }
@@ -56,10 +56,10 @@ fn case_j() {
     query(&none, used, 5, 5);
 }
 
-fn show_written(answer: WriteAnswer, out: &[u8]) {
+fn show_written(answer: Result<usize, Refusal>, out: &[u8]) {
     match answer {
-        WriteAnswer::Written(n) => program_io::write_first(out, n),
-        WriteAnswer::Refused(refusal) => program_io::show_refusal(refusal),
+        Ok(n) => program_io::write_first(out, n),
+        Err(refusal) => program_io::show_refusal(refusal),
     }
 }
 

@@ -6,7 +6,7 @@
 ghost use Rattle.std.specs.Prelude.{◌≡◌, ◌*◌, min};
 ghost use Rattle.model.specs.Limits.{words_per_entry, program_words};
 
-use model::WriteAnswer;
+use model::Refusal;
 
 const MAX_INPUT: usize = 131072;
 
@@ -30,8 +30,8 @@ fn show(text: &[u8], entries: usize) {
     let mut out = [0u8; MAX_OUTPUT];
     let words = words_for(entries);
     match lcov::read_text(text, &mut scratch[..words], &mut out) {
-        WriteAnswer::Written(n) => program_io::write_first(&out, n),
-        WriteAnswer::Refused(refusal) => program_io::show_refusal(refusal),
+        Ok(n) => program_io::write_first(&out, n),
+        Err(refusal) => program_io::show_refusal(refusal),
     }
 }
 

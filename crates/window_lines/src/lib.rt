@@ -15,7 +15,7 @@ ghost use Rattle.text_choice.specs.Windows.{is_width, is_in_window, window_texts
 ghost use Rattle.window_lines.specs.Lines.{max_line, ratio_line, line_of, LinesPut};
 
 use joined_table::Gathered;
-use model::{Fault, Mode, Refusal, WriteAnswer};
+use model::{Fault, Mode, Refusal};
 use model_totals::Ratio;
 
 const MAX_TEXTS: usize = bundle::MAX_TEXTS;
@@ -109,7 +109,7 @@ fn put_lines(
     width: usize,
     scratch: &mut [u64],
     out: &mut [u8],
-) -> WriteAnswer
+) -> Result<usize, Refusal>
     requires tags_value { are_tags tags.now ≡ true }
     requires bundle_value { (well_formed bundle.now ≡ true) × (is_width width ≡ true) × (max_texts * max_line ≤ length out.old) }
     ensures { LinesPut (gather_windows (tags_of tags.now) bundle.now width (length scratch.old)) out.new result }
@@ -120,7 +120,7 @@ fn put_lines(
     while i < n {
         match count_window(tags, bundle, width, i, scratch) {
             Window::Refused(refusal) => {
-                return WriteAnswer::Refused(refusal);
+                return Err(refusal);
             }
             Window::Lines(lines) => {
                 let len = put_line(lines, &mut out[at..]);
@@ -129,18 +129,18 @@ fn put_lines(
         }
         i += 1;
     }
-    WriteAnswer::Written(at)
+    Ok(at)
 }
 
 // Bytes written to the output; one that is too short stays.
-fn write_bytes(bytes: &[u8], out: &mut [u8]) -> WriteAnswer
+fn write_bytes(bytes: &[u8], out: &mut [u8]) -> Result<usize, Refusal>
     ensures { WriteCall (written (length out.old) bytes.now) out.old out.new result }
 {
     if out.len() < bytes.len() {
         return print_report::too_short(bytes.len());
     }
     let len = format::put_bytes(bytes, out);
-    WriteAnswer::Written(len)
+    Ok(len)
 }
 
 // The lines of all windows of a width that is 1 to 16, of a bundle that is well formed.
@@ -150,15 +150,15 @@ fn write_lines(
     width: usize,
     scratch: &mut [u64],
     out: &mut [u8],
-) -> WriteAnswer
+) -> Result<usize, Refusal>
     requires tags_value { are_tags tags.now ≡ true }
     requires bundle_value { (well_formed bundle.now ≡ true) × (is_width width ≡ true) }
     ensures { WriteCall (gather_windows (tags_of tags.now) bundle.now width (length scratch.old) (length out.old)) out.old out.new result }
 {
     let mut lines = [0u8; MAX_LINES];
     match put_lines(tags, bundle, width, scratch, &mut lines) {
-        WriteAnswer::Refused(refusal) => WriteAnswer::Refused(refusal),
-        WriteAnswer::Written(len) => write_bytes(&lines[..len], out),
+        Err(refusal) => Err(refusal),
+        Ok(len) => write_bytes(&lines[..len], out),
     }
 }
 
@@ -169,7 +169,7 @@ pub fn print_windows(
     width: usize,
     scratch: &mut [u64],
     out: &mut [u8],
-) -> WriteAnswer
+) -> Result<usize, Refusal>
     requires { are_tags tags.now ≡ true }
     ensures { WriteCall (gather_windows (tags_of tags.now) bundle.now width (length scratch.old) (length out.old)) out.old out.new result }
 {
@@ -177,7 +177,7 @@ pub fn print_windows(
         if is_width(width) {
             return write_lines(tags, bundle, width, scratch, out);
         }
-        return WriteAnswer::Refused(refusal::unplaced(Fault::WidthOutside));
+        return Err(Refusal::from(Fault::WidthOutside));
     }
-    WriteAnswer::Refused(refusal::unplaced(Fault::MalformedBundle))
+    Err(Refusal::from(Fault::MalformedBundle))
 }
