@@ -238,6 +238,7 @@ fn lower_bound_item(
 {
     let mut lo = 0;
     let mut hi = n;
+    // A `while`: it halves a range, and counts nothing.
     while lo < hi {
         let mid = lo + (hi - lo) / 2;
         let other = table::get(words, index, used, at + mid);
