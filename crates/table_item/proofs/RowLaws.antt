@@ -19,9 +19,6 @@ use Rattle.table_item.proofs.CountLaws.{function-item}
 use Rattle.table_item.specs.Combining.{no_extent, is_calls}
 use Rattle.table_item.specs.Items.{part, kind_of, function_kind, by_kind, if_given, line_numbers, extent_tag, extent_word, extent_in, start_key, function_in, part_in, item_of, PartInside, checksum_part, ChecksumInside, item_row, Makes}
 
-pub word-is : (start : ℕ) (a b : LentOption ℕ) (n : ℕ) → a ≡ b → n ≡ extent_word start b → n ≡ extent_word start a
-word-is start a b n e h = rw e h
-
 module _ (p : Part) (start : ℕ) (small : start < line_numbers) where
   start-made : (end : LentOption ℕ)
       → Makes (item_row (extent_tag end) p.start p.len (extent_word start end) 0) (λ text. function_item (function_of (part_in text p) (some (extent_at start (given_in end))) 0)) (λ text. PartInside text p)

@@ -1,5 +1,5 @@
 -- The loop of `mark_deleted`: the rows from lo up to i were live and are now deleted. Assumes nothing.
-use mathlib.Core.Path.{◌≡◌, refl, sym, ap, ◌∙◌}
+use mathlib.Core.Path.{◌≡◌, sym, ap, ◌∙◌}
 use mathlib.Core.Logic.{◌≢◌}
 use mathlib.Core.Bool.{true, false}
 use mathlib.Core.List.{List, ◌++◌, append-nil}
@@ -79,14 +79,6 @@ pub record Marking (f g : ℕ → Row) (used lo i : ℕ) : Type 0 where
   pub there : (k : ℕ) → lo ≤ k → k < i → g k ≡ deleted_row (f k)
   pub below : Unchanged f g 0 lo
   pub above : Unchanged f g i used
-
-pub marking_none : (f : ℕ → Row) (used lo : ℕ) → Marking f f used lo lo
-marking_none f used lo = record {
-  lived = λ k l h. absurd (omega arith);
-  there = λ k l h. absurd (omega arith);
-  below = λ k l h. refl;
-  above = λ k l h. refl;
-}
 
 module _ {f g : ℕ → Row} {used lo i : ℕ} (β : Marking f g used lo i) (l : lo ≤ i) where
   -- one more live row
