@@ -94,7 +94,7 @@ fn put_hint(words: &mut [u64], from: usize, size: usize, hash: u64, i: usize)
     let mut slot = first_slot(hash, size);
     for _probe in 0..MAX_PROBES {
         if words[from + slot] == 0 {
-            words[from + slot] = std::num::wrapping_add_u64(hash % HALF * HALF, (i as u64) + 1);
+            words[from + slot] = (hash % HALF * HALF).wrapping_add(i as u64 + 1);
             return;
         }
         slot = next_slot(slot, size);
@@ -135,7 +135,7 @@ fn find_slot(text: &[u8], words: &[u64], from: usize, size: usize, row: Row) -> 
             return usize::MAX;
         }
         if hint / HALF == hash % HALF {
-            return std::num::wrapping_sub_u64(hint % HALF, 1) as usize;
+            return (hint % HALF).wrapping_sub(1) as usize;
         }
         slot = next_slot(slot, size);
     }

@@ -15,15 +15,6 @@ by-lt a b f g = elim (dec_lt a b) [ yes e ↦ f e | no n ↦ g (omega arith) ]
 
 -- ---- a block that is moved
 
--- nothing comes past nothing
-pub moved_none : {A : Type 0} {f : ℕ → A} {used to from n : ℕ} → to ≡ from → RowsMoved f f used to from n
-moved_none {A} {f} {used} {to} {from} {n} e = record {
-  below = λ k l h. refl;
-  there = λ k m l h q. let z : k ≡ m = omega arith in rw z;
-  up = λ k m l h q. absurd (omega arith);
-  above = λ k l h. refl;
-}
-
 -- a move of one reading of the positions is a move of every reading that agrees with it
 pub moved_along : {A B : Type 0} {f g : ℕ → A} (f' g' : ℕ → B) {used to from n : ℕ} → to ≤ from → from + n ≤ used
     → ((k m : ℕ) → m < used → g k ≡ f m → g' k ≡ f' m) → RowsMoved f g used to from n → RowsMoved f' g' used to from n
