@@ -1,8 +1,8 @@
 -- The rows of FN, FNDA, BRDA and DA are items. Assumes nothing.
-use Rattle.std.specs.Prelude.{Option, Some, None}
+use Rattle.std.specs.Prelude.{Option as LentOption, Some, None}
 use mathlib.Core.Path.{◌≡◌, refl, sym, ap, ap₂, ◌∙◌}
 use mathlib.Core.Logic.{◌≢◌}
-use mathlib.Core.Bool.{Bool, true, false}
+use mathlib.Core.Bool.{true, false}
 use mathlib.Core.Option.{Option, none, some}
 use lib.Dec.{eqb, compare_is_eq}
 use Prim.Native.Nat.compare
@@ -19,11 +19,8 @@ use Rattle.table_item.proofs.CountLaws.{function-item}
 use Rattle.table_item.specs.Combining.{no_extent, is_calls}
 use Rattle.table_item.specs.Items.{part, kind_of, function_kind, by_kind, if_given, line_numbers, extent_tag, extent_word, extent_in, start_key, function_in, part_in, item_of, PartInside, checksum_part, ChecksumInside, item_row, Makes}
 
-pub word-is : (start : ℕ) (a b : Option ℕ) (n : ℕ) → a ≡ b → n ≡ extent_word start b → n ≡ extent_word start a
-word-is start a b n e h = rw e h
-
 module _ (p : Part) (start : ℕ) (small : start < line_numbers) where
-  start-made : (end : Option ℕ)
+  start-made : (end : LentOption ℕ)
       → Makes (item_row (extent_tag end) p.start p.len (extent_word start end) 0) (λ text. function_item (function_of (part_in text p) (some (extent_at start (given_in end))) 0)) (λ text. PartInside text p)
   unfolding item_of given_in
   start-made (Some line) =
@@ -35,7 +32,7 @@ module _ (p : Part) (start : ℕ) (small : start < line_numbers) where
       }
   start-made None = rw add-one (record { is = λ text. refl; inner = λ text i. omega arith })
 
-  pub start-row-made : {r : Row} {tag word : ℕ} (end : Option ℕ) → tag ≡ extent_tag end → word ≡ extent_word start end → r ≡ item_row tag p.start p.len word 0
+  pub start-row-made : {r : Row} {tag word : ℕ} (end : LentOption ℕ) → tag ≡ extent_tag end → word ≡ extent_word start end → r ≡ item_row tag p.start p.len word 0
       → Makes r (λ text. function_item (function_of (part_in text p) (some (extent_at start (given_in end))) 0)) (λ text. PartInside text p)
   start-row-made end e f q = rw (q, e, f) (start-made end)
 
@@ -174,7 +171,7 @@ pub calls-made : {r : Row} (p : Part) (count : ℕ) → r ≡ item_row 2 p.start
 unfolding item_of
 calls-made p count e = rw e (record { is = λ text. refl; inner = λ text h. omega arith })
 
-module _ (line block branch : ℕ) {r : Row} {taken : Option ℕ} where
+module _ (line block branch : ℕ) {r : Row} {taken : LentOption ℕ} where
   pub taken_made : (count : ℕ) → taken ≡ Some count → r ≡ item_row 5 line block branch count
       → Makes r (λ text. branch_item line block branch (given_in taken)) (λ text. Unit {0})
   unfolding item_of given_in
@@ -185,7 +182,7 @@ module _ (line block branch : ℕ) {r : Row} {taken : Option ℕ} where
   unfolding item_of given_in
   untaken_made f e = rw (e, f) (record { is = λ text. refl; inner = λ text h. omega arith })
 
-module _ (line count : ℕ) {r : Row} {checksum : Option Part} where
+module _ (line count : ℕ) {r : Row} {checksum : LentOption Part} where
   pub checksum-made : (p : Part) → checksum ≡ Some p → r ≡ item_row 7 line p.start p.len count
       → Makes r (λ text. line_item line count (checksum_part text checksum)) (λ text. ChecksumInside text checksum)
   unfolding item_of

@@ -17,8 +17,8 @@ ghost use Rattle.table_item.specs.Items.{part, extent_tag, extent_word, start_ke
 ghost use Rattle.table_item.specs.SortedItems.{item_from, SortedItems, FoundPlace};
 ghost use Rattle.table_item.specs.Combining.{Adds, combine_of, seen_one, InnerOne, is_calls};
 
-use compare::Order;
 use model::Part;
+use std::cmp::Ordering;
 use table::Row;
 
 // The kinds of a row; a section's header row is the first. The tag is twice the kind, plus one where the end line,
@@ -148,15 +148,12 @@ fn item_row(tag: u64, k1: u64, k2: u64, k3: u64, count: u64) -> Row
     ensures { result ≡ item_row tag k1 k2 k3 count }
 {
     Row {
-        test: 0,
-        test_len: 0,
-        path: 0,
-        path_len: 0,
-        tag: tag,
-        k1: k1,
-        k2: k2,
-        k3: k3,
-        count: count,
+        tag,
+        k1,
+        k2,
+        k3,
+        count,
+        ..Row::default()
     }
 }
 
@@ -165,10 +162,8 @@ pub fn compare_parts(text: &[u8], a: u64, n: u64, b: u64, m: u64) -> Ordering
     requires { (a + n ≤ length text.now) × (b + m ≤ length text.now) }
     ensures { order_of result ≡ compare_bytes (part text.now a n) (part text.now b m) }
 {
-    if a == b {
-        if n == m {
-            return Ordering::Equal;
-        }
+    if a == b && n == m {
+        return Ordering::Equal;
     }
     let p = a as usize;
     let q = b as usize;
@@ -219,15 +214,11 @@ pub fn comes_before(text: &[u8], x: Row, y: Row) -> bool
     requires { ItemInBounds text.now x × ItemInBounds text.now y }
     ensures { result ≡ is_less (compare_items (item_of text.now x) (item_of text.now y)) }
 {
-    if x.tag / 2 == LINE {
-        if y.tag / 2 == LINE {
-            return x.k1 < y.k1;
-        }
+    if x.tag / 2 == LINE && y.tag / 2 == LINE {
+        return x.k1 < y.k1;
     }
-    if x.tag / 2 == BRANCH {
-        if y.tag / 2 == BRANCH {
-            return branch_before(x, y);
-        }
+    if x.tag / 2 == BRANCH && y.tag / 2 == BRANCH {
+        return branch_before(x, y);
     }
     compare_items(text, x, y).is_lt()
 }
@@ -247,6 +238,7 @@ fn lower_bound_item(
 {
     let mut lo = 0;
     let mut hi = n;
+    // A `while`: it halves a range, and counts nothing.
     while lo < hi {
         let mid = lo + (hi - lo) / 2;
         let other = table::get(words, index, used, at + mid);
@@ -257,13 +249,6 @@ fn lower_bound_item(
         }
     }
     lo
-}
-
-// The position of a key, or its insert position.
-#[derive(Clone, Copy)]
-pub enum Found {
-    At(usize),
-    Insert(usize),
 }
 
 // Whether the i-th of the n items from place `at` on has the key.
@@ -287,8 +272,8 @@ fn has_key(
     compare_items(text, key, here).is_eq()
 }
 
-// The key's place among the n items from place `at` on. Position `hint` is tried first. Most texts are sorted, so that the key comes after
-// the last or is the last: tried next.
+// The key's place among the n items from place `at` on: its position, or as an error its insert position. Position `hint` is tried first.
+// Most texts are sorted, so that the key comes after the last or is the last: tried next.
 pub fn find_item(
     text: &[u8],
     words: &[u64],
@@ -298,56 +283,44 @@ pub fn find_item(
     n: usize,
     hint: usize,
     key: Row,
-) -> Found
+) -> Result<usize, usize>
     requires { SortedItems text.now words.now index used at n × ItemInBounds text.now key }
     ensures { FoundPlace text.now words.now index at n (item_of text.now key) result }
 {
     if has_key(text, words, index, used, at, n, hint, key) {
-        return Found::At(hint);
+        return Ok(hint);
     }
     if n == 0 {
-        return Found::Insert(0);
+        return Err(0);
     }
     let last = table::get(words, index, used, at + (n - 1));
     if comes_before(text, last, key) {
-        return Found::Insert(n);
+        return Err(n);
     }
     if compare_items(text, key, last).is_eq() {
-        return Found::At(n - 1);
+        return Ok(n - 1);
     }
     let i = lower_bound_item(text, words, index, used, at, n - 1, key);
     let here = table::get(words, index, used, at + i);
     if compare_items(text, key, here).is_eq() {
-        return Found::At(i);
+        return Ok(i);
     }
-    Found::Insert(i)
+    Err(i)
 }
 
-// What two rows of one key make, or that their counts do not add.
-#[derive(Clone, Copy)]
-pub enum Combined {
-    One(Row),
-    Overflow,
-}
-
-// FNDA adds to a function's count; any other row takes the place of the earlier one.
-pub fn combine(old: Row, row: Row, accumulate: bool) -> Combined
+// What two rows of one key make, none where their counts do not add: FNDA adds to a function's count, any other row takes the place of the
+// earlier one.
+pub fn combine(old: Row, row: Row, accumulate: bool) -> Option<Row>
     requires { Adds accumulate row }
     ensures item { (text : List ℕ) → seen_one text result ≡ combine_of accumulate (item_of text old) (item_of text row) }
     ensures inner { (text : List ℕ) → ItemRow text old → ItemRow text row → InnerOne text result }
 {
     if !accumulate {
-        return Combined::One(row);
+        return Some(row);
     }
     if old.tag / 2 != FUNCTION {
-        return Combined::One(row);
+        return Some(row);
     }
-    let a = old.count;
-    let b = row.count;
-    if u64::MAX - a < b {
-        return Combined::Overflow;
-    }
-    let mut both = old;
-    both.count = a + b;
-    Combined::One(both)
+    let count = old.count.checked_add(row.count)?;
+    Some(Row { count, ..old })
 }
