@@ -13,7 +13,6 @@ ghost use Rattle.section.specs.Reading.{SectionRoom};
 ghost use Rattle.scratch_layout.specs.Layout.{index_at, ScratchRoom};
 ghost use Rattle.joined_table.specs.Gathering.{in_text_of, joined_at, JoinedTable, ReadOne, ReadBehind, marked_texts, GatheredAs, BundleGathered};
 
-use merge::Joined;
 use model::{Fault, Mode, Refusal};
 use report_parser::TextAnswer;
 
@@ -30,13 +29,6 @@ pub fn in_text(i: usize, refusal: Refusal) -> Refusal
         field: refusal.field,
         needed: refusal.needed,
     }
-}
-
-// How many entries are joined, or why there are none.
-#[derive(Clone, Copy)]
-pub enum Gathered {
-    Entries(usize),
-    Refused(Refusal),
 }
 
 // Reads the i-th text where it lies in the bundle.
@@ -86,19 +78,19 @@ fn gather_behind(
     n: usize,
     i: usize,
     mode: Mode,
-) -> Gathered
+) -> Result<usize, Refusal>
     requires tags_value { are_tags tags.now ≡ true }
     requires texts_inside { TextsInside bundle.now body × (i < text_count bundle.now) × ScratchRoom scratch.old limit × JoinedTable bundle.now scratch.old limit n }
     ensures { GatheredAs (in_text i (gather_text (tags_of tags.now) mode limit (text_from body bundle.now i).bytes (joined_at bundle.now scratch.old limit n))) bundle.now scratch.new limit result }
 {
     match read_behind(tags, bundle, body, scratch, limit, i) {
-        TextAnswer::Refused(refusal) => Gathered::Refused(in_text(i, refusal)),
+        TextAnswer::Refused(refusal) => Err(in_text(i, refusal)),
         TextAnswer::Read { kept, used } => {
             let base = scratch_layout::base_at(limit);
             let index = scratch_layout::index_at(limit);
             match merge::merge(bundle, scratch, base, index, limit, n, used, kept, mode) {
-                Joined::Entries(joined) => Gathered::Entries(joined),
-                Joined::Refused(fault) => Gathered::Refused(in_text(i, Refusal::from(fault))),
+                Ok(joined) => Ok(joined),
+                Err(fault) => Err(in_text(i, Refusal::from(fault))),
             }
         }
     }
@@ -116,7 +108,7 @@ fn gather_text(
     n: usize,
     i: usize,
     mode: Mode,
-) -> Gathered
+) -> Result<usize, Refusal>
     requires tags_value { are_tags tags.now ≡ true }
     requires texts_inside { TextsInside bundle.now body × (i < text_count bundle.now) × ScratchRoom scratch.old limit × JoinedTable bundle.now scratch.old limit n }
     ensures { GatheredAs (in_text i (gather_text (tags_of tags.now) mode limit (text_from body bundle.now i).bytes (joined_at bundle.now scratch.old limit n))) bundle.now scratch.new limit result }
@@ -125,11 +117,11 @@ fn gather_text(
         let base = scratch_layout::base_at(limit);
         match read_one(tags, bundle, body, &mut scratch[..base], limit, i) {
             TextAnswer::Refused(refusal) => {
-                return Gathered::Refused(in_text(i, refusal));
+                return Err(in_text(i, refusal));
             }
             TextAnswer::Read { kept, used } => {
                 if kept == used {
-                    return Gathered::Entries(kept);
+                    return Ok(kept);
                 }
                 return gather_behind(tags, bundle, body, scratch, limit, 0, i, mode);
             }
@@ -147,7 +139,7 @@ fn gather_texts(
     scratch: &mut [u64],
     limit: usize,
     mode: Mode,
-) -> Gathered
+) -> Result<usize, Refusal>
     requires tags_value { are_tags tags.now ≡ true }
     requires texts_inside { TextsInside bundle.now body × ScratchRoom scratch.old limit }
     ensures { GatheredAs (gather_texts (tags_of tags.now) mode limit (marked_texts body marks.now bundle.now) []) bundle.now scratch.new limit result }
@@ -155,18 +147,12 @@ fn gather_texts(
     let count = bundle::text_count(bundle);
     let mut n = 0;
     let mut i = bundle::next_marked(marks, count, 0);
+    // moves to the next text that is marked
     while i < count {
-        match gather_text(tags, bundle, body, scratch, limit, n, i, mode) {
-            Gathered::Refused(refusal) => {
-                return Gathered::Refused(refusal);
-            }
-            Gathered::Entries(joined) => {
-                n = joined;
-            }
-        }
+        n = gather_text(tags, bundle, body, scratch, limit, n, i, mode)?;
         i = bundle::next_marked(marks, count, i + 1);
     }
-    Gathered::Entries(n)
+    Ok(n)
 }
 
 // The marked texts of a bundle whose text bytes begin at `body`; the scratch says how many entries there may be. Refusals name a text by its
@@ -178,7 +164,7 @@ pub fn gather_marked(
     marks: &[u8],
     scratch: &mut [u64],
     mode: Mode,
-) -> Gathered
+) -> Result<usize, Refusal>
     requires tags_value { are_tags tags.now ≡ true }
     requires texts_inside { TextsInside bundle.now body }
     ensures { BundleGathered (gather_texts (tags_of tags.now) mode (entry_limit (length scratch.old)) (marked_texts body marks.now bundle.now) []) bundle.now scratch.new (entry_limit (length scratch.old)) result }
@@ -188,7 +174,12 @@ pub fn gather_marked(
 }
 
 // All texts of a bundle that is well formed.
-pub fn gather_bundle(tags: &[u8], bundle: &[u8], scratch: &mut [u64], mode: Mode) -> Gathered
+pub fn gather_bundle(
+    tags: &[u8],
+    bundle: &[u8],
+    scratch: &mut [u64],
+    mode: Mode,
+) -> Result<usize, Refusal>
     requires { are_tags tags.now ≡ true }
     ensures { BundleGathered (gather_bundle (tags_of tags.now) mode bundle.now (length scratch.old)) bundle.now scratch.new (entry_limit (length scratch.old)) result }
 {
@@ -196,5 +187,5 @@ pub fn gather_bundle(tags: &[u8], bundle: &[u8], scratch: &mut [u64], mode: Mode
         let body = bundle::body_at(bundle);
         return gather_marked(tags, bundle, body, b"", scratch, mode);
     }
-    Gathered::Refused(Refusal::from(Fault::MalformedBundle))
+    Err(Refusal::from(Fault::MalformedBundle))
 }

@@ -26,16 +26,6 @@ fn max_digits(v: u64) -> u64
     20
 }
 
-// A sum, held at 2^64 − 1.
-fn saturating_add(a: u64, b: u64) -> u64
-    ensures { result ≡ min (a + b) u64_max }
-{
-    if u64::MAX - a < b {
-        return u64::MAX;
-    }
-    a + b
-}
-
 // What FN and FNDA have besides two names, at most: their tags, three numbers and what is between them.
 fn function_width(tags: &[u8]) -> u64
     requires { are_tags tags.now ≡ true }
@@ -92,16 +82,21 @@ fn max_line_len(widths: Widths, row: Row) -> u64
     let kind = row.tag / 2;
     if table_item::BRANCH < kind {
         let numbers = widths.line + max_digits(row.k1) + max_digits(row.count);
-        return saturating_add(row.k3, numbers);
+        return row.k3.saturating_add(numbers);
     }
     if kind == table_item::BRANCH {
         let place = max_digits(row.k1) + max_digits(row.k2) + max_digits(row.k3);
         return widths.branch + place + max_digits(row.count);
     }
     if kind == table_item::FUNCTION {
-        return saturating_add(saturating_add(row.k2, row.k2), widths.function);
+        return row
+            .k2
+            .saturating_add(row.k2)
+            .saturating_add(widths.function);
     }
-    saturating_add(saturating_add(row.test_len, row.path_len), widths.section)
+    row.test_len
+        .saturating_add(row.path_len)
+        .saturating_add(widths.section)
 }
 
 // Whether all used rows print at most `room` bytes, in memory order, which is faster than index order. Every used row
@@ -113,14 +108,12 @@ fn all_fit(tags: &[u8], words: &[u64], index: usize, used: usize, room: usize) -
 {
     let widths = widths_of(tags);
     let mut left = room as u64;
-    let mut j = 0;
-    while j < used {
+    for j in 0..used {
         let most = max_line_len(widths, table::read_row(words, j));
-        if left < most {
+        let Some(rest) = left.checked_sub(most) else {
             return false;
-        }
-        left = left - most;
-        j += 1;
+        };
+        left = rest;
     }
     true
 }
@@ -133,14 +126,12 @@ fn first_fit(tags: &[u8], words: &[u64], index: usize, used: usize, n: usize, ro
 {
     let widths = widths_of(tags);
     let mut left = room as u64;
-    let mut i = 0;
-    while i < n {
+    for i in 0..n {
         let most = max_line_len(widths, table::get(words, index, used, i));
-        if left < most {
+        let Some(rest) = left.checked_sub(most) else {
             return false;
-        }
-        left = left - most;
-        i += 1;
+        };
+        left = rest;
     }
     true
 }

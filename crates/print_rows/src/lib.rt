@@ -20,16 +20,6 @@ ghost use Rattle.print_rows.specs.Emit.{end_len, RoomFor, Emitted, Numbered, Pri
 use model::{Kind, Part, Record, Refusal};
 use table::Row;
 
-// The place behind n bytes, held at 2^64 − 1.
-fn saturating_add(at: usize, n: usize) -> usize
-    ensures { result ≡ min (at + n) u64_max }
-{
-    if usize::MAX - at < n {
-        return usize::MAX;
-    }
-    at + n
-}
-
 // Bytes.
 pub fn emit_bytes(s: &[u8], out: &mut [u8], at: usize, write: bool) -> usize
     requires { RoomFor write out.old at s.now }
@@ -39,7 +29,7 @@ pub fn emit_bytes(s: &[u8], out: &mut [u8], at: usize, write: bool) -> usize
         let n = format::put_bytes(s, &mut out[at..]);
         return at + n;
     }
-    saturating_add(at, s.len())
+    at.saturating_add(s.len())
 }
 
 // One record's line. A record with a part outside text has none.
@@ -62,7 +52,7 @@ fn emit_record(
         };
         return at + n;
     }
-    saturating_add(at, record_display::line_len(tags, text, record))
+    at.saturating_add(record_display::line_len(tags, text, record))
 }
 
 // The length of an end line and the comma before it.
@@ -83,7 +73,7 @@ fn measure_start(tags: &[u8], row: Row, start: u64, at: usize) -> usize
 {
     let tag = tag_table::tag_len(tags, Kind::FunctionName);
     let numbers = 3 + tag + format::decimal_len(start) + end_len(table_item::end_line(row));
-    saturating_add(saturating_add(at, numbers), row.k2 as usize)
+    at.saturating_add(numbers).saturating_add(row.k2 as usize)
 }
 
 // FN, where a function has a start.
@@ -181,9 +171,11 @@ fn measure_data(tags: &[u8], row: Row, at: usize) -> usize
         let tag = tag_table::tag_len(tags, Kind::LineData);
         let numbers = 3 + tag + format::decimal_len(row.k1) + format::decimal_len(row.count);
         if row.tag % 2 == 0 {
-            return saturating_add(at, numbers);
+            return at.saturating_add(numbers);
         }
-        return saturating_add(saturating_add(at, numbers + 1), row.k3 as usize);
+        return at
+            .saturating_add(numbers + 1)
+            .saturating_add(row.k3 as usize);
     }
     if kind == table_item::BRANCH {
         let key = tag_table::tag_len(tags, Kind::BranchData)
@@ -191,14 +183,14 @@ fn measure_data(tags: &[u8], row: Row, at: usize) -> usize
             + format::decimal_len(row.k2)
             + format::decimal_len(row.k3);
         if row.tag % 2 == 0 {
-            return saturating_add(at, key + 6);
+            return at.saturating_add(key + 6);
         }
-        return saturating_add(at, key + 5 + format::decimal_len(row.count));
+        return at.saturating_add(key + 5 + format::decimal_len(row.count));
     }
     if kind == table_item::FUNCTION {
         let tag = tag_table::tag_len(tags, Kind::FunctionData);
         let number = 3 + tag + format::decimal_len(row.count);
-        return saturating_add(saturating_add(at, number), row.k2 as usize);
+        return at.saturating_add(number).saturating_add(row.k2 as usize);
     }
     at
 }
@@ -273,12 +265,10 @@ pub fn emit_rows(
     ensures { Emitted write out.old out.new at (print_records (tags_of tags.now) (concat_map (pass_records starts) (tabulate (numbered_item text.now words.now numbers) n))) result }
 {
     let mut end = at;
-    let mut i = 0;
-    while i < n {
+    for i in 0..n {
         let j = words[numbers + i] as usize;
         let row = table::read_row(words, j);
         end = emit_row(tags, text, row, starts, out, end, write);
-        i += 1;
     }
     end
 }
@@ -305,11 +295,9 @@ pub fn count_hits(words: &[u64], numbers: usize, n: usize) -> u32
     ensures { (text : List ℕ) → result ≡ hits (tabulate (numbered_item text words.now numbers) n) }
 {
     let mut hit = 0;
-    let mut i = 0;
-    while i < n {
+    for i in 0..n {
         let j = words[numbers + i] as usize;
-        hit = hit + hit_of(table::read_row(words, j));
-        i += 1;
+        hit += hit_of(table::read_row(words, j));
     }
     hit
 }
@@ -345,16 +333,6 @@ fn hit_record(kind: u64, n: u32) -> Record
 // How many rows are counted before they are printed.
 const BATCH: usize = 32;
 
-// The next batch of so many rows.
-fn batch_of(left: usize) -> usize
-    ensures { (result ≤ left) × (1 ≤ left → 1 ≤ result) }
-{
-    if left < BATCH {
-        return left;
-    }
-    BATCH
-}
-
 // Prints the data of the n rows whose numbers are at word `numbers` on, then how many were found and hit: "a loop that
 // carries the hit number". An empty group prints nothing. The rows are scattered in memory, so the hits of a batch are
 // counted first, in a short loop that lets many cache misses overlap.
@@ -381,9 +359,10 @@ pub fn emit_group(
     let mut end = at;
     let mut hit = 0;
     let mut i = 0;
+    // moves by a batch, and the last one is shorter
     while i < n {
-        let m = batch_of(n - i);
-        hit = hit + count_hits(words, numbers + i, m);
+        let m = (n - i).min(BATCH);
+        hit += count_hits(words, numbers + i, m);
         end = emit_rows(tags, text, words, numbers + i, m, false, out, end, write);
         i += m;
     }

@@ -76,18 +76,18 @@ rows l =
 
 -- ---- a batch
 
-abbrev batched : tie.After-batch_of-m invariant-loop decreases-loop → tie.At-loop-i invariant-loop decreases-loop
+abbrev batched : tie.After-min-m invariant-loop decreases-loop → tie.At-loop-i invariant-loop decreases-loop
 batched b = b.before.before
 
-within : (b : tie.After-batch_of-m invariant-loop decreases-loop) → (batched b).loop-i.i + b.batch_of-m.result ≤ (start (batched b)).args.n
-within b = omega (arith, b.batch_of-m.ensures.0, b.before.loop-i-test.true)
+within : (b : tie.After-min-m invariant-loop decreases-loop) → (batched b).loop-i.i + b.min-m.result ≤ (start (batched b)).args.n
+within b = omega (arith, b.min-m.ensures, b.before.loop-i-test.true)
 
 -- how many of the batch are hit
 hit-there : (h : tie.After-count_hits-hit invariant-loop decreases-loop) → let b = h.before in
-    h.count_hits-hit.result ≡ hits (tabulate (λ k. item (start (batched b)) ((batched b).loop-i.i + k)) b.batch_of-m.result)
+    h.count_hits-hit.result ≡ hits (tabulate (λ k. item (start (batched b)) ((batched b).loop-i.i + k)) b.min-m.result)
 hit-there h =
     let a = (start (batched h.before)).args in
-    h.count_hits-hit.ensures a.text.now ∙ ap hits (sym (part-items a.text.now a.words.now a.numbers (batched h.before).loop-i.i h.before.batch_of-m.result))
+    h.count_hits-hit.ensures a.text.now ∙ ap hits (sym (part-items a.text.now a.words.now a.numbers (batched h.before).loop-i.i h.before.min-m.result))
 
 -- ---- behind the rows
 
@@ -137,25 +137,25 @@ emit_group_spec =
     (λ c. omega arith)
     (λ c κs. search rules)
     (λ c. omega (arith, (start (batched c)).requires.1.0.numbered.words, c.before.loop-i-test.true))
-    (λ c κs. let l = batched c in (part-numbered (start l).requires.1.0.numbered l.loop-i.i c.batch_of-m.result (within c), omega (arith, within c, (start l).requires.1.1.0.2)))
+    (λ c κs. let l = batched c in (part-numbered (start l).requires.1.0.numbered l.loop-i.i c.min-m.result (within c), omega (arith, within c, (start l).requires.1.1.0.2)))
     (λ c. let l = batched c.before in
     let s = start l in
-    hits_fit (item s) l.loop-i.i c.before.batch_of-m.result s.args.n l.loop-i.hit c.count_hits-hit.result l.loop-i.invariant.1
-    (rw (hit-there c) (hits-most (λ k. item s (l.loop-i.i + k)) c.before.batch_of-m.result)) (within c.before) s.requires.1.1.0.2)
+    hits_fit (item s) l.loop-i.i c.before.min-m.result s.args.n l.loop-i.hit c.count_hits-hit.result l.loop-i.invariant.1
+    (rw (hit-there c) (hits-most (λ k. item s (l.loop-i.i + k)) c.before.min-m.result)) (within c.before) s.requires.1.1.0.2)
     (λ c. omega (arith, (start (batched c.before)).requires.1.0.numbered.words, c.before.before.loop-i-test.true))
     (λ c κs. let l = batched c.before.before in (
       (start l).requires.0,
       (
-        part-printable (start l).requires.1.0 l.loop-i.i c.before.before.batch_of-m.result (within c.before.before),
-        part_ready (rows l) _ _ l.loop-i.i l.loop-i.invariant.2 c.before.before.batch_of-m.result (within c.before.before),
+        part-printable (start l).requires.1.0 l.loop-i.i c.before.before.min-m.result (within c.before.before),
+        part_ready (rows l) _ _ l.loop-i.i l.loop-i.invariant.2 c.before.before.min-m.result (within c.before.before),
       ),
     ))
     (λ c. omega (arith, within c.before.before.before.before.before))
-    (λ c. omega (arith, within c.before.before.before.before.before, c.before.before.before.before.before.batch_of-m.ensures.1 (omega (arith, c.before.before.before.before.before.before.loop-i-test.true)), c.before.before.before.before.before.before.loop-i-test.true))
+    (λ c. omega (arith, within c.before.before.before.before.before, c.before.before.before.before.before.min-m.ensures, c.before.before.before.before.before.before.loop-i-test.true))
     (λ c. let l = batched c.before.before.before.before.before in (
       within c.before.before.before.before.before,
-      hits_more (item (start l)) l.loop-i.i c.before.before.before.before.before.batch_of-m.result l.loop-i.hit c.before.before.before.before.count_hits-hit.result l.loop-i.invariant.1 (hit-there c.before.before.before.before),
-      part-emitted (rows l) _ _ l.loop-i.i l.loop-i.invariant.2 c.before.before.before.before.before.batch_of-m.result (within c.before.before.before.before.before) c.before.before.emit_rows-end.ensures,
+      hits_more (item (start l)) l.loop-i.i c.before.before.before.before.before.min-m.result l.loop-i.hit c.before.before.before.before.count_hits-hit.result l.loop-i.invariant.1 (hit-there c.before.before.before.before),
+      part-emitted (rows l) _ _ l.loop-i.i l.loop-i.invariant.2 c.before.before.before.before.before.min-m.result (within c.before.before.before.before.before) c.before.before.emit_rows-end.ensures,
     ))
     (λ c. omega arith)
     (λ c κs. omega arith)
