@@ -66,10 +66,10 @@ abbrev hit : Start → Record
 hit s = hit_of s.args.kind (hits (tabulate (item s) s.args.n))
 
 abbrev all : Start → Bytes
-all s = lines (tags_of s.args.tags.now) (group (found_of s.args.kind) (hit_of s.args.kind) (tabulate (item s) s.args.n))
+all s = lines (tags_of s.args.tags.table.now) (group (found_of s.args.kind) (hit_of s.args.kind) (tabulate (item s) s.args.n))
 
 rows : (l : tie.At-loop-i invariant-loop decreases-loop) → let s = start l in
-    Rows (tags_of s.args.tags.now) data_record s.args.text.now s.args.words.now s.args.numbers s.args.n s.args.write s.args.out.now s.args.at (all s) (lines (tags_of s.args.tags.now) (found s ∷ hit s ∷ []))
+    Rows (tags_of s.args.tags.table.now) data_record s.args.text.now s.args.words.now s.args.numbers s.args.n s.args.write s.args.out.now s.args.at (all s) (lines (tags_of s.args.tags.table.now) (found s ∷ hit s ∷ []))
 rows l =
     let s = start l in
     record { rows = s.requires.1.0; is = group-is _ (found_of s.args.kind) (hit_of s.args.kind) (item s) s.args.n (omega arith); room = s.requires.1.1.1; few = omega arith }
@@ -95,24 +95,24 @@ abbrev loop : tie.After-found_record invariant-loop decreases-loop → tie.At-lo
 loop f = f.before.before
 
 room : (a : tie.After-loop-i invariant-loop decreases-loop) → let l = a.before in
-    RoomFor (start l).args.write l.loop-i.out l.loop-i.end (lines (tags_of (start l).args.tags.now) (found (start l) ∷ hit (start l) ∷ []))
+    RoomFor (start l).args.write l.loop-i.out l.loop-i.end (lines (tags_of (start l).args.tags.table.now) (found (start l) ∷ hit (start l) ∷ []))
 room a = rows_more (rows a.before) a.before.loop-i.out a.before.loop-i.end a.before.loop-i.i a.before.loop-i.invariant.2 a.before.loop-i.invariant.0 a.loop-i-test.false
 
 found-line : (f : tie.After-found_record invariant-loop decreases-loop) → let s = start (loop f) in
-    line_in (tags_of s.args.tags.now) s.args.text.now f.found_record.result ≡ lines (tags_of s.args.tags.now) (found s ∷ [])
+    line_in (tags_of s.args.tags.table.now) s.args.text.now f.found_record.result ≡ lines (tags_of s.args.tags.table.now) (found s ∷ [])
 found-line f = let s = start (loop f) in one_line _ s.args.text.now _ (found s) (f.found_record.ensures s.args.text.now)
 
 found-emitted : (e : tie.After-emit_record-found invariant-loop decreases-loop) → let l = loop e.before.before in
-    Emitted (start l).args.write l.loop-i.out e.emit_record-found.new.out l.loop-i.end (lines (tags_of (start l).args.tags.now) (found (start l) ∷ [])) e.emit_record-found.result
+    Emitted (start l).args.write l.loop-i.out e.emit_record-found.new.out l.loop-i.end (lines (tags_of (start l).args.tags.table.now) (found (start l) ∷ [])) e.emit_record-found.result
 found-emitted e = emitted_as _ _ _ (found-line e.before.before) e.emit_record-found.ensures
 
 hit-line : (h : tie.After-hit_record invariant-loop decreases-loop) → let s = start (loop h.before.before.before.before.before) in
-    line_in (tags_of s.args.tags.now) s.args.text.now h.hit_record.result ≡ lines (tags_of s.args.tags.now) (hit s ∷ [])
+    line_in (tags_of s.args.tags.table.now) s.args.text.now h.hit_record.result ≡ lines (tags_of s.args.tags.table.now) (hit s ∷ [])
 hit-line h =
     let l = loop h.before.before.before.before.before in
     let s = start l in
     one_line _ s.args.text.now _ (hit_of s.args.kind l.loop-i.hit) (h.hit_record.ensures s.args.text.now)
-    ∙ ap (λ (k : ℕ). lines (tags_of s.args.tags.now) (hit_of s.args.kind k ∷ [])) (hits_done (item s) l.loop-i.i s.args.n l.loop-i.hit l.loop-i.invariant.0 h.before.before.before.before.before.before.loop-i-test.false l.loop-i.invariant.1)
+    ∙ ap (λ (k : ℕ). lines (tags_of s.args.tags.table.now) (hit_of s.args.kind k ∷ [])) (hits_done (item s) l.loop-i.i s.args.n l.loop-i.hit l.loop-i.invariant.0 h.before.before.before.before.before.before.loop-i-test.false l.loop-i.invariant.1)
 
 few : (l : tie.At-loop-i invariant-loop decreases-loop) → length l.loop-i.out * 1 < 2 ^ 63
 few l = omega (arith, (rows l).few, rows_size (rows l) l.loop-i.out l.loop-i.end l.loop-i.i l.loop-i.invariant.2 l.loop-i.invariant.0)

@@ -26,13 +26,13 @@ start x = (marked (gathered (entries x))).before.before.before.before.before.bef
 
 held : (x : tie.After-index_at-index)
     → WindowHeld (start x).args.bundle.now (gathered (entries x)).gather_marked.new.scratch x.index_at-index.result (entries x).in-Entries.entries
-    (window_line (tags_of (start x).args.tags.now) (entry_limit (length (start x).args.scratch.now)) (window_texts (start x).args.width (start x).args.bundle.now (start x).args.i))
+    (window_line (tags_of (start x).args.tags.table.now) (entry_limit (length (start x).args.scratch.now)) (window_texts (start x).args.width (start x).args.bundle.now (start x).args.i))
 held x =
     let e = entries x in
     let g = gathered e in
     let m = marked g in
     let s = start x in
-    held_window (tags_of s.args.tags.now) s.args.bundle.now (length s.args.scratch.now) s.args.width s.args.i m.mark_window.new.marks _
+    held_window (tags_of s.args.tags.table.now) s.args.bundle.now (length s.args.scratch.now) s.args.width s.args.i m.mark_window.new.marks _
     g.before.before.before.body_at-body.ensures _ m.before.before.text_count-n.ensures m.mark_window.ensures _ _ g.gather_marked.ensures _ e.in-Entries.is (search rules) _
     x.before.entry_limit-limit.ensures _ x.index_at-index.ensures
 
