@@ -14,7 +14,7 @@ ghost use Rattle.model.specs.Printing.{start_record, data_record, group, hits, p
 ghost use Rattle.model.specs.Valid.{ItemFits};
 ghost use Rattle.table_item.specs.Items.{part, start_key, item_of, ItemInBounds};
 ghost use Rattle.record_display.specs.Lines.{line_in, counted};
-ghost use Rattle.print_rows.specs.Emit.{end_len, RoomFor, Emitted, Numbered, Printable, numbered_item, pass_records, found_of, hit_of, lent_part, lent_given, lent_checksum, hit_one};
+ghost use Rattle.print_rows.specs.Emit.{end_len, RoomFor, Emitted, Numbered, Printable, numbered_item, pass_records, found_of, hit_of, lent_part, lent_taken, lent_checksum, hit_one};
 ghost use Rattle.tag_table.specs.Tags.{tag_of};
 
 use model::{Kind, Part, Record, Refusal};
@@ -42,7 +42,7 @@ fn emit_record(
     at: usize,
     write: bool,
 ) -> usize
-    requires room_for { RoomFor write out.old at (line_in (tag_of tags) text.now «record») }
+    requires { RoomFor write out.old at (line_in (tag_of tags) text.now «record») }
     ensures { Emitted write out.old out.new at (line_in (tag_of tags.entry) text.now «record») result }
 {
     if write {
@@ -67,7 +67,7 @@ fn end_len(end: Option<u32>) -> usize
 
 // The offset behind the FN of a function that has a start line, computed from its row.
 fn measure_start(tags: Tags, row: Row, start: u64, at: usize) -> usize
-    requires by_index { (text : List ℕ) → start_key (extent_of (item_of text row)) ≡ suc start }
+    requires { (text : List ℕ) → start_key (extent_of (item_of text row)) ≡ suc start }
     ensures { (text : List ℕ) → ItemInBounds text row → result ≡ min (at + length (print_records (tag_of tags.entry) (start_record (item_of text row)))) u64_max }
 {
     let tag = tag_table::tag_len(tags, Kind::FunctionName);
@@ -107,7 +107,7 @@ fn part_of(start: u64, len: u64) -> Part
 }
 
 fn taken_of(row: Row) -> Option<u64>
-    ensures { result ≡ lent_given (row.tag % 2) row.count }
+    ensures { result ≡ lent_taken (row.tag % 2) row.count }
 {
     if row.tag % 2 == 0 {
         return None;
@@ -193,7 +193,7 @@ fn measure_data(tags: Tags, row: Row, at: usize) -> usize
 
 // DA of a line with no checksum, written with no record made.
 fn emit_line_data(tags: Tags, line: u32, count: u64, out: &mut [u8], at: usize) -> usize
-    requires room_for { RoomFor true out.old at (line_in (tag_of tags) [] (counted line count)) }
+    requires { RoomFor true out.old at (line_in (tag_of tags) [] (counted line count)) }
     ensures { Emitted true out.old out.new at (line_in (tag_of tags.entry) [] (counted line count)) result }
 {
     let wrote = record_display::print_line_data(tags, line, count, &mut out[at..]);
@@ -210,10 +210,8 @@ fn emit_data(tags: Tags, text: &[u8], row: Row, out: &mut [u8], at: usize, write
     ensures { Emitted write out.old out.new at (print_records (tag_of tags.entry) (data_record (item_of text.now row))) result }
 {
     if write {
-        if row.tag == table_item::LINE * 2 {
-            if tags.len() == 0 {
-                return emit_line_data(tags, row.k1 as u32, row.count, out, at);
-            }
+        if row.tag == table_item::LINE * 2 && tags.are_default() {
+            return emit_line_data(tags, row.k1 as u32, row.count, out, at);
         }
         return emit_item(tags, text, row, out, at, write);
     }
@@ -382,7 +380,7 @@ pub fn emit_head(
 
 // end_of_record.
 pub fn emit_end(tags: Tags, text: &[u8], out: &mut [u8], at: usize, write: bool) -> usize
-    requires room_for { RoomFor write out.old at (print_records (tag_of tags) (end_of_record ∷ [])) }
+    requires { RoomFor write out.old at (print_records (tag_of tags) (end_of_record ∷ [])) }
     ensures { Emitted write out.old out.new at (print_records (tag_of tags.entry) (end_of_record ∷ [])) result }
 {
     emit_record(tags, text, Record::EndOfRecord, out, at, write)

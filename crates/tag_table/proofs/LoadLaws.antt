@@ -3,6 +3,9 @@ use mathlib.Core.Path.{◌≡◌, refl, sym, ◌∙◌}
 use mathlib.Core.Bool.{Bool, true, false}
 use mathlib.Core.List.{[], ◌∷◌}
 use native.Mathlib.Omega.{arith}
+use lib.Dec.{eqb}
+use lib.ListN.{length}
+use Rattle.std.proofs.lemmas.Bool.{eqb-true}
 use Rattle.model.specs.declared.Fault.TheVariants.{MalformedTags, EqualTags}
 use Rattle.model.specs.Bytes.{Bytes}
 use Rattle.model.specs.Answer.{accepted}
@@ -38,3 +41,8 @@ module _ (table : Bytes) (w : Bool) (well : w ≡ well_formed_tags table) where
 pub no_table : (are_tags [] ≡ true) × (tags_of [] ≡ default_tag)
 unfolding tags_of are_tags
 no_table = (refl, refl)
+
+pub empty_table : (table : Bytes) → eqb (length table) 0 ≡ true → tags_of table ≡ default_tag
+unfolding tags_of
+empty_table [] e = refl
+empty_table (x ∷ xs) e = let z = eqb-true (length (x ∷ xs)) 0 e in absurd (omega (arith, z))

@@ -174,6 +174,13 @@ impl Tags<'_> {
     {
         Tags { table: b"" }
     }
+
+    // Whether these are the default tags.
+    pub fn are_default(self) -> bool
+        ensures { result ≡ true → tag_of self.entry ≡ default_tag }
+    {
+        self.table.len() == 0
+    }
 }
 
 // Tells the kind of a line's tag, and where the line's body starts.

@@ -44,7 +44,7 @@ use Rattle.print_rows.proofs.emit_group.Tie as tie
 
 abbrev invariant-loop : tie.invariant-loop-i
 invariant-loop tags text words kind numbers n out₀ at write end₀ hit₀ i₀ out end hit i =
-    (i ≤ n) × (hit ≡ hits (tabulate (numbered_item text words numbers) i)) × Emitted write out₀ out at (printed (tags_of tags) data_record (numbered_item text words numbers) i) end
+    (i ≤ n) × (hit ≡ hits (tabulate (numbered_item text words numbers) i)) × Emitted write out₀ out at (printed (tags_of tags.table.now) data_record (numbered_item text words numbers) i) end
 
 abbrev decreases-loop : tie.decreases-loop-i
 decreases-loop tags text words kind numbers n out₀ at write end₀ hit₀ i₀ out end hit i = n - i
@@ -53,7 +53,7 @@ abbrev Start : Type 0
 Start = tie.Start invariant-loop decreases-loop
 
 abbrev start : tie.At-loop-i invariant-loop decreases-loop → Start
-start l = l.before.before.before.before.before.before
+start l = l.before.before.before.before.before
 
 abbrev item : Start → ℕ → Item
 item s = numbered_item s.args.text.now s.args.words.now s.args.numbers
@@ -72,7 +72,7 @@ rows : (l : tie.At-loop-i invariant-loop decreases-loop) → let s = start l in
     Rows (tags_of s.args.tags.table.now) data_record s.args.text.now s.args.words.now s.args.numbers s.args.n s.args.write s.args.out.now s.args.at (all s) (lines (tags_of s.args.tags.table.now) (found s ∷ hit s ∷ []))
 rows l =
     let s = start l in
-    record { rows = s.requires.1.0; is = group-is _ (found_of s.args.kind) (hit_of s.args.kind) (item s) s.args.n (omega arith); room = s.requires.1.1.1; few = omega arith }
+    record { rows = s.requires.0; is = group-is _ (found_of s.args.kind) (hit_of s.args.kind) (item s) s.args.n (omega arith); room = s.requires.1.1; few = omega arith }
 
 -- ---- a batch
 
@@ -132,23 +132,20 @@ emit_group_spec =
     (tie.spec
     invariant-loop
     decreases-loop
-    (λ c. emitted_empty c.before.before.before.before.before.args.write c.before.before.before.before.before.args.out.now _ c.before.before.before.before.before.args.at (omega arith) (group-none _ (found_of c.before.before.before.before.before.args.kind) (hit_of c.before.before.before.before.before.args.kind) (item c.before.before.before.before.before) c.before.before.before.before.before.args.n (omega arith)))
-    (λ c. (omega arith, hits-start (item c.before.before.before.before.before), emitted_empty c.before.before.before.before.before.args.write c.before.before.before.before.before.args.out.now _ c.before.before.before.before.before.args.at (omega arith) (printed-start _ data_record (item c.before.before.before.before.before))))
+    (λ c. emitted_empty c.before.before.before.before.args.write c.before.before.before.before.args.out.now _ c.before.before.before.before.args.at (omega arith) (group-none _ (found_of c.before.before.before.before.args.kind) (hit_of c.before.before.before.before.args.kind) (item c.before.before.before.before) c.before.before.before.before.args.n (omega arith)))
+    (λ c. (omega arith, hits-start (item c.before.before.before.before), emitted_empty c.before.before.before.before.args.write c.before.before.before.before.args.out.now _ c.before.before.before.before.args.at (omega arith) (printed-start _ data_record (item c.before.before.before.before))))
     (λ c. omega arith)
     (λ c κs. search rules)
-    (λ c. omega (arith, (start (batched c)).requires.1.0.numbered.words, c.before.loop-i-test.true))
-    (λ c κs. let l = batched c in (part-numbered (start l).requires.1.0.numbered l.loop-i.i c.min-m.result (within c), omega (arith, within c, (start l).requires.1.1.0.2)))
+    (λ c. omega (arith, (start (batched c)).requires.0.numbered.words, c.before.loop-i-test.true))
+    (λ c κs. let l = batched c in (part-numbered (start l).requires.0.numbered l.loop-i.i c.min-m.result (within c), omega (arith, within c, (start l).requires.1.0.2)))
     (λ c. let l = batched c.before in
     let s = start l in
     hits_fit (item s) l.loop-i.i c.before.min-m.result s.args.n l.loop-i.hit c.count_hits-hit.result l.loop-i.invariant.1
-    (rw (hit-there c) (hits-most (λ k. item s (l.loop-i.i + k)) c.before.min-m.result)) (within c.before) s.requires.1.1.0.2)
-    (λ c. omega (arith, (start (batched c.before)).requires.1.0.numbered.words, c.before.before.loop-i-test.true))
+    (rw (hit-there c) (hits-most (λ k. item s (l.loop-i.i + k)) c.before.min-m.result)) (within c.before) s.requires.1.0.2)
+    (λ c. omega (arith, (start (batched c.before)).requires.0.numbered.words, c.before.before.loop-i-test.true))
     (λ c κs. let l = batched c.before.before in (
-      (start l).requires.0,
-      (
-        part-printable (start l).requires.1.0 l.loop-i.i c.before.before.min-m.result (within c.before.before),
-        part_ready (rows l) _ _ l.loop-i.i l.loop-i.invariant.2 c.before.before.min-m.result (within c.before.before),
-      ),
+      part-printable (start l).requires.0 l.loop-i.i c.before.before.min-m.result (within c.before.before),
+      part_ready (rows l) _ _ l.loop-i.i l.loop-i.invariant.2 c.before.before.min-m.result (within c.before.before),
     ))
     (λ c. omega (arith, within c.before.before.before.before.before))
     (λ c. omega (arith, within c.before.before.before.before.before, c.before.before.before.before.before.min-m.ensures, c.before.before.before.before.before.before.loop-i-test.true))
@@ -161,14 +158,12 @@ emit_group_spec =
     (λ c κs. omega arith)
     (λ c κs. let l = loop c.before in
     let s = start l in
-    (s.requires.0, room_as s.args.write l.loop-i.out l.loop-i.end _ _ (found-line c.before) (two_first _ s.args.write l.loop-i.out l.loop-i.end (found s) (hit s) (room c.before.before))))
+    room_as s.args.write l.loop-i.out l.loop-i.end _ _ (found-line c.before) (two_first _ s.args.write l.loop-i.out l.loop-i.end (found s) (hit s) (room c.before.before)))
     (λ c κs. omega arith)
     (λ c κs. let l = loop c.before.before.before.before.before.before in
-    let s = start l in (
-      s.requires.0,
-      room_as s.args.write c.before.before.before.before.emit_record-found.new.out c.before.before.before.before.emit_record-found.result _ _ (hit-line c.before)
-          (two_then _ s.args.write l.loop-i.out l.loop-i.end (found s) (hit s) (room c.before.before.before.before.before.before.before) (few l) (found-emitted c.before.before.before.before)),
-    ))
+    let s = start l in
+    room_as s.args.write c.before.before.before.before.emit_record-found.new.out c.before.before.before.before.emit_record-found.result _ _ (hit-line c.before)
+    (two_then _ s.args.write l.loop-i.out l.loop-i.end (found s) (hit s) (room c.before.before.before.before.before.before.before) (few l) (found-emitted c.before.before.before.before)))
     (λ c. let s = start (loop c.before.before.before.before.before.before.before.before.before) in
-    emitted_size s.requires.1.1.1 (group-emitted c.before.before))
+    emitted_size s.requires.1.1 (group-emitted c.before.before))
     (λ c. group-emitted c.before.before))
