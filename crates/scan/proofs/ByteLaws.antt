@@ -1,10 +1,7 @@
 -- Bytes searched, trimmed and compared, one by one. Assumes nothing.
-use Rattle.std.proofs.Common.{◌≡◌, ℕ, suc, ◌+◌, ◌-◌, ◌<◌, ◌≤◌, Bool, true, false, cond, ◌&&◌, eqb, List, [], ◌∷◌, ◌++◌, length, get_or, take, drop, sym, refl, ap, ◌∙◌, add-one, arith, drop_of_length-le, drop-cons, take-suc, eq-eqb, ne_eqb}
+use Rattle.std.proofs.Common.{◌≡◌, ℕ, suc, ◌+◌, ◌-◌, ◌<◌, ◌≤◌, Bool, true, false, cond, eqb, List, [], ◌∷◌, ◌++◌, length, get_or, take, drop, sym, refl, ap, ◌∙◌, add-one, arith, drop_of_length-le, drop-cons, take-suc, length-take, eq-eqb, ne_eqb}
 use Prim.Native.Nat.{Ordering, compare}
 use lib.Dec.{compare_is_eq}
-use lib.Pointwise.{pointwise}
-use Rattle.std.specs.Prelude.{nat_eq}
-use Rattle.std.proofs.lemmas.Cmp.{nat_list_eq_equiv}
 use Rattle.model.specs.Order.{lex}
 use Rattle.model.specs.Bytes.{Bytes, before, compare_bytes, same_bytes}
 use Rattle.model.specs.Line.{trimmed, before_trimmed}
@@ -61,6 +58,11 @@ module _ (s : Bytes) (n : ℕ) (within : n ≤ length s) (left : trimmed (take n
   trim_more r h e f = sym (trim_snoc (take (n - 1) s) (get_or s (n - 1) 0) true (sym e ∙ f)) ∙ ap trimmed (sym (last h)) ∙ left
 
 -- sameness of bytes
+lex_not : (o rest : Ordering) → compare_is_eq rest ≡ false → compare_is_eq (lex o rest) ≡ false
+lex_not Ordering.lt rest e = refl
+lex_not Ordering.eq rest e = e
+lex_not Ordering.gt rest e = refl
+
 pub same-cons : (x y : ℕ) (a b : Bytes) (d : Bool) → eqb x y ≡ d → same_bytes (x ∷ a) (y ∷ b) ≡ cond d (same_bytes a b) false
 unfolding compare_bytes
 same-cons x y a b d e = go (compare x y) e
@@ -70,18 +72,24 @@ same-cons x y a b d e = go (compare x y) e
     go Ordering.eq e = rw (← e)
     go Ordering.gt e = rw (← e)
 
--- as the library compares
-pub same-slices : (a b : Bytes) → pointwise nat_eq a b ≡ same_bytes a b
+pub same_length : (a b : Bytes) → (length a ≡ length b → ⊥) → false ≡ same_bytes a b
 unfolding compare_bytes
-same-slices [] [] = refl
-same-slices [] (y ∷ b) = refl
-same-slices (x ∷ a) [] = refl
-same-slices (x ∷ a) (y ∷ b) = rw (same-slices a b) (go (eqb x y) refl)
-  where
-    go : (d : Bool) → eqb x y ≡ d → (d && same_bytes a b) ≡ same_bytes (x ∷ a) (y ∷ b)
-    go true e = sym (same-cons x y a b true e)
-    go false e = sym (same-cons x y a b false e)
+same_length [] [] h = absurd (h refl)
+same_length [] (y ∷ b) h = refl
+same_length (x ∷ a) [] h = refl
+same_length (x ∷ a) (y ∷ b) h = sym (lex_not (compare x y) (compare_bytes a b) (sym (same_length a b (λ e. h (ap suc e)))))
 
--- and a part of the first against the second
-pub same-swapped : (a b : Bytes) → pointwise nat_eq b a ≡ same_bytes a b
-same-swapped a b = nat_list_eq_equiv.symm b a ∙ same-slices a b
+module _ (a b : Bytes) (i : ℕ) (long : length a ≡ length b) (left : same_bytes (drop i a) (drop i b) ≡ same_bytes a b) where
+  pub same_differ : i < length a → (get_or a i 0 ≡ get_or b i 0 → ⊥) → false ≡ same_bytes a b
+  same_differ h e = sym (same-cons _ _ _ _ false (ne_eqb _ _ e)) ∙ (rw (drop-next 0 a i h, drop-next 0 b i (omega arith)) at left)
+
+  pub same_next : i < length a → get_or a i 0 ≡ get_or b i 0 → same_bytes (drop (i + 1) a) (drop (i + 1) b) ≡ same_bytes a b
+  same_next h e = sym (same-cons _ _ _ _ true (eq-eqb _ _ e)) ∙ (rw (drop-next 0 a i h, drop-next 0 b i (omega arith)) at left)
+
+  pub same_end : length a ≤ i → true ≡ same_bytes a b
+  unfolding compare_bytes
+  same_end h = rw (drop-end a i h, drop-end b i (omega arith)) at left
+
+-- too short to start with t
+pub starts_short : (t s : Bytes) → length s < length t → false ≡ same_bytes (take (length t) s) t
+starts_short t s h = same_length (take (length t) s) t (λ e. let n = simp length-take at e in omega (arith, n))

@@ -29,17 +29,33 @@ pub fn find(s: &[u8], b: u8) -> usize
     s.len()
 }
 
+// No `a == b`: it calls the library's comparison where the first four bytes agree, and a line of FNDA then takes 33 instructions more
+// (callgrind, 170 to read one).
+#[tactic(auto, using(crate::proofs::ByteLaws::same_length, crate::proofs::ByteLaws::same_differ, crate::proofs::ByteLaws::same_next, crate::proofs::ByteLaws::same_end))]
 pub fn equal(a: &[u8], b: &[u8]) -> bool
     ensures { result ≡ same_bytes a.now b.now }
 {
-    a == b
+    if a.len() != b.len() {
+        return false;
+    }
+    for i in 0..a.len() {
+        if a[i] != b[i] {
+            return false;
+        }
+    }
+    true
 }
 
-// Whether s starts with t.
+// Whether s starts with t. No `s.starts_with(t)`, for the same reason.
+#[tactic(auto, using(crate::proofs::ByteLaws::starts_short))]
 pub fn starts_with(s: &[u8], t: &[u8]) -> bool
     ensures { result ≡ same_bytes (take (length t.now) s.now) t.now }
 {
-    s.starts_with(t)
+    let n = t.len();
+    if s.len() < n {
+        return false;
+    }
+    equal(&s[..n], t)
 }
 
 #[tactic(auto, unfolding(crate::specs::Scan::is_end))]

@@ -25,6 +25,7 @@ use Rattle.format.specs.Put.{put_len, over}
 use Rattle.format.proofs.OverLaws.{put_len_lem, put_over}
 use Rattle.tag_table.specs.Kinds.{body_at, TaggedAs, FoundIn, totals, NoneOf, NamedAs}
 use Rattle.tag_table.specs.Written.{TagOf}
+use Rattle.tag_table.proofs.KindLaws.{body_after}
 use Rattle.std.specs.Prelude.{Option, Some, None}
 use Rattle.tag_table.specs.declared.Tagged.{Tagged}
 use Rattle.tag_table.specs.declared.default.Tag.{Tag}
@@ -74,23 +75,32 @@ module _ (tag : Bytes) where
   total_named (Some kind) n a b c d e f g = n
   total_named None n a b c d e f g = record { none = no_tag n.none a b c d e f g }
 
--- ---- where the tag ends
+-- ---- DA and BRDA, known by their first bytes
 
-pub data_end : (s : Bytes) → 3 ≤ length s → get_or s 0 0 ≡ 68 → get_or s 1 0 ≡ 65 → get_or s 2 0 ≡ 58 → 2 ≡ length (before 58 s)
-unfolding before
-data_end [] h a b c = absurd (omega (arith, h))
-data_end (x ∷ []) h a b c = absurd (omega (arith, h))
-data_end (x ∷ y ∷ []) h a b c = absurd (omega (arith, h))
-data_end (x ∷ y ∷ z ∷ s) h a b c = rw (a, b, c)
+pub data_found : (s : Bytes) → 3 ≤ length s → get_or s 0 0 ≡ 68 → get_or s 1 0 ≡ 65 → get_or s 2 0 ≡ 58 → TaggedAs default_tag s (record { kind = Kd.LineData; at = 3 })
+unfolding before default_tag
+data_found [] h a b c = absurd (omega (arith, h))
+data_found (x ∷ []) h a b c = absurd (omega (arith, h))
+data_found (x ∷ y ∷ []) h a b c = absurd (omega (arith, h))
+data_found (x ∷ y ∷ z ∷ s) h a b c =
+    let is : before 58 (x ∷ y ∷ z ∷ s) ≡ default_tag Kd.LineData = rw (a, b, c) in
+    record { is = is; body = body_after (length (x ∷ y ∷ z ∷ s)) 2 (omega (arith, h)) ∙ ap (λ (t : Bytes). body_at (length (x ∷ y ∷ z ∷ s)) (length t)) (sym is); within = h }
 
-pub branch_end : (s : Bytes) → 5 ≤ length s → get_or s 0 0 ≡ 66 → get_or s 1 0 ≡ 82 → get_or s 2 0 ≡ 68 → get_or s 3 0 ≡ 65 → get_or s 4 0 ≡ 58 → 4 ≡ length (before 58 s)
-unfolding before
-branch_end [] h a b c d e = absurd (omega (arith, h))
-branch_end (x ∷ []) h a b c d e = absurd (omega (arith, h))
-branch_end (x ∷ y ∷ []) h a b c d e = absurd (omega (arith, h))
-branch_end (x ∷ y ∷ z ∷ []) h a b c d e = absurd (omega (arith, h))
-branch_end (x ∷ y ∷ z ∷ u ∷ []) h a b c d e = absurd (omega (arith, h))
-branch_end (x ∷ y ∷ z ∷ u ∷ v ∷ s) h a b c d e = rw (a, b, c, d, e)
+pub branch_found : (s : Bytes) → 5 ≤ length s → get_or s 0 0 ≡ 66 → get_or s 1 0 ≡ 82 → get_or s 2 0 ≡ 68 → get_or s 3 0 ≡ 65 → get_or s 4 0 ≡ 58
+    → TaggedAs default_tag s (record { kind = Kd.BranchData; at = 5 })
+unfolding before default_tag
+branch_found [] h a b c d e = absurd (omega (arith, h))
+branch_found (x ∷ []) h a b c d e = absurd (omega (arith, h))
+branch_found (x ∷ y ∷ []) h a b c d e = absurd (omega (arith, h))
+branch_found (x ∷ y ∷ z ∷ []) h a b c d e = absurd (omega (arith, h))
+branch_found (x ∷ y ∷ z ∷ u ∷ []) h a b c d e = absurd (omega (arith, h))
+branch_found (x ∷ y ∷ z ∷ u ∷ v ∷ s) h a b c d e =
+    let is : before 58 (x ∷ y ∷ z ∷ u ∷ v ∷ s) ≡ default_tag Kd.BranchData = rw (a, b, c, d, e) in
+    record {
+      is = is;
+      body = body_after (length (x ∷ y ∷ z ∷ u ∷ v ∷ s)) 4 (omega (arith, h)) ∙ ap (λ (t : Bytes). body_at (length (x ∷ y ∷ z ∷ u ∷ v ∷ s)) (length t)) (sym is);
+      within = h;
+    }
 
 -- ---- a whole line
 

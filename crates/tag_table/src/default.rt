@@ -10,18 +10,6 @@ ghost use Rattle.tag_table.specs.Written.{TagOf};
 use crate::{Tagged, body_at};
 use model::Kind;
 
-// The end of the tag. Most lines are DA and BRDA: these are recognised without a search for the colon.
-#[tactic(auto, using(crate::proofs::DefaultLaws::data_end, crate::proofs::DefaultLaws::branch_end))]
-fn tag_end(s: &[u8]) -> usize
-    ensures { (result ≡ length (before 58 s.now)) × (result ≤ length s.now) }
-{
-    match s {
-        [b'D', b'A', b':', ..] => 2,
-        [b'B', b'R', b'D', b'A', b':', ..] => 4,
-        _ => scan::find(s, b':'),
-    }
-}
-
 // FNF, FNH, BRF, BRH, LF and LH. No `match` of byte strings: each length and byte at which a tag differs is a path of its own to the last
 // arm, and the proof that no kind has such a tag has as many cases.
 fn total_of(tag: &[u8]) -> Option<Kind>
@@ -76,15 +64,34 @@ fn named(tag: &[u8]) -> Option<Kind>
     total_of(tag)
 }
 
-// Tells the kind of a line's tag, and where the line's body starts.
+// The kind of a line's tag, which ends at the line's first colon.
 #[tactic(auto, using(crate::proofs::DefaultLaws::named_found, crate::proofs::DefaultLaws::named_none))]
-pub fn kind_of(s: &[u8]) -> Option<Tagged>
+fn searched(s: &[u8]) -> Option<Tagged>
     ensures { FoundIn default_tag s.now result }
 {
-    let colon = tag_end(s);
+    let colon = scan::find(s, b':');
     let kind = named(&s[..colon])?;
     let at = body_at(s.len(), colon);
     Some(Tagged { kind, at })
+}
+
+// Tells the kind of a line's tag, and where the line's body starts. Most lines are DA and BRDA: these are recognised without a search for
+// the colon.
+#[tactic(auto, using(crate::proofs::DefaultLaws::data_found, crate::proofs::DefaultLaws::branch_found))]
+pub fn kind_of(s: &[u8]) -> Option<Tagged>
+    ensures { FoundIn default_tag s.now result }
+{
+    match s {
+        [b'D', b'A', b':', ..] => Some(Tagged {
+            kind: Kind::LineData,
+            at: 3,
+        }),
+        [b'B', b'R', b'D', b'A', b':', ..] => Some(Tagged {
+            kind: Kind::BranchData,
+            at: 5,
+        }),
+        _ => searched(s),
+    }
 }
 
 // A tag: the first len of the bytes.
