@@ -2,7 +2,7 @@
 use mathlib.Core.Path.{◌≡◌, refl, sym, ap, ap₂, ◌∙◌}
 use mathlib.Core.Logic.{◌≢◌}
 use mathlib.Core.Bool.{Bool, true, false}
-use mathlib.Core.List.{List, [], ◌∷◌}
+use mathlib.Core.List.{List, []}
 use Prim.Native.Nat.{ℕ, ◌+◌, ◌-◌, ◌≤◌, ◌<◌}
 use native.Mathlib.Omega.{arith}
 use lib.ListN.{length}
@@ -15,12 +15,11 @@ use Rattle.ordmap.specs.Keyed.{add}
 use Rattle.ordmap.proofs.Results.{accepted_inj, not_accepted}
 use Rattle.model.specs.declared.Fault.{Fault}
 use Rattle.model.specs.Answer.{Answer}
-use Rattle.model.specs.Limits.{u64_max}
 use Rattle.model.specs.Bytes.{compare_bytes}
 use Rattle.model.specs.Report.{Item, item_key, compare_items, within}
 use Rattle.table_item.specs.Items.{item_of, ItemRow}
 use Rattle.model.specs.Order.{is_less}
-use Rattle.table_item.specs.declared.Found.TheVariants.{Insert}
+use Rattle.std.specs.Prelude.{Result, Err}
 use Rattle.table_item.specs.Combining.{Adds, combine_of, is_calls}
 use Rattle.table_item.proofs.RowLaws.{calls-function}
 use Rattle.table_item.specs.SortedItems.{item_from, items_at, SortedItems, place}
@@ -30,8 +29,8 @@ use Rattle.table.proofs.StoreLaws.{behind-store, behind-rows}
 use Rattle.section_presort.specs.SortKeys.{Rows}
 use Rattle.section_presort.specs.Presorted.{Presorted}
 use Rattle.section_presort.proofs.ComposeLaws.{presorted_items}
-use Rattle.section_upsert.specs.declared.UpsertOutcome.{UpsertOutcome}
-use Rattle.section_upsert.specs.declared.UpsertOutcome.TheVariants.{Items, Refused}
+use Rattle.section_upsert.specs.declared.PartSizes.{PartSizes}
+use Rattle.section_upsert.specs.Upserted.{parts}
 use Rattle.section_upsert.specs.MainDelta.{all_at, MainDelta, InsertedAt, DeltaMerged}
 use Rattle.section_upsert.proofs.RangeLaws.{inserted_open, same-items, same_open}
 use Rattle.section_upsert.specs.Upserted.{seen, Upserted}
@@ -52,7 +51,7 @@ adds-calls adds r c = go adds (c [])
     go true q = calls-function [] r (sym q)
     go false q = tt
 
-module _ {text ws ws' : List ℕ} {index used spare at i : ℕ} (s : OpenSizes) {r : Row} {a : UpsertOutcome} (π : MainDelta text ws index used spare at s.main s.delta)
+module _ {text ws ws' : List ℕ} {index used spare at i : ℕ} (s : OpenSizes) {r : Row} {a : Result PartSizes Fault} (π : MainDelta text ws index used spare at s.main s.delta)
     (l : s.main + s.delta ≤ i) (h : at + i < used) (e : r ≡ row ws index (at + i)) (fits : RowFits text ws index at i s)
     {adds : Bool} (c : (text : List ℕ) → adds ≡ is_calls (item_of text r)) (ε : Upserted text ws ws' index used spare at s.main s.delta r adds a) where
   abbrev whole : List Item
@@ -73,13 +72,13 @@ module _ {text ws ws' : List ℕ} {index used spare at i : ℕ} (s : OpenSizes) 
       ∙ line_included adds (item_from text ws index at i) whole (ap (λ (x : Row). is_calls (item_of text x)) (sym e) ∙ sym (c text)) (λ q. fits))
       ∙ within-fits used (at + length more) more (omega (arith, more-length))
 
-  pub never_refused : {C : Type 0} {fault : Fault} → a ≡ Refused fault → C
+  pub never_refused : {C : Type 0} {fault : Fault} → a ≡ Err fault → C
   never_refused q = absurd (not_accepted (ap (seen text ws' index at) (sym q) ∙ answer))
 
-  pub one_more : {n p turns : ℕ} → a ≡ Items n p → OneUpserted text ws ws' index used spare at i s (record { main = n; delta = p; tail = 0; flushes = turns; calls = s.calls })
+  pub one_more : {n p turns : ℕ} → a ≡ parts n p → OneUpserted text ws ws' index used spare at i s (record { main = n; delta = p; tail = 0; flushes = turns; calls = s.calls })
   one_more {n} {p} {turns} q = go (rw q at ε) (accepted_inj (ap (seen text ws' index at) (sym q) ∙ answer))
     where
-      go : Upserted text ws ws' index used spare at s.main s.delta r adds (Items n p) → all_at text ws' index at n p ≡ more
+      go : Upserted text ws ws' index used spare at s.main s.delta r adds (parts n p) → all_at text ws' index at n p ≡ more
           → OneUpserted text ws ws' index used spare at i s (record { main = n; delta = p; tail = 0; flushes = turns; calls = s.calls })
       go η f = record {
         items = f;
@@ -167,7 +166,7 @@ pub open_next : {text ws : List ℕ} {index used at : ℕ} (k : ℕ) → SortedI
 open_next {text} {ws} {index} {used} {at} k ο l ι b =
     inserted_open text ws index used at k (row ws index (at + k)) false ο k (omega arith) here ws last ο.store l ι
   where
-    here : Insert k ≡ place (item_from text ws index at k) (items_at text ws index at k)
+    here : Err k ≡ place (item_from text ws index at k) (items_at text ws index at k)
     here = by-eq k 0 (λ z. rw z (found_none {n = 0} refl).is) (λ z. (found-last ο z (b z)).is)
 
     last : InsertedAt (λ j. row ws index (at + j)) (λ j. row ws index (at + j)) k k (row ws index (at + k))
@@ -270,7 +269,7 @@ hinted {text} {ws} {ws₁} {ws₂} {index} {used} {spare} {at} {s = s} {r = r} l
         positions = λ j h. ap₂ place (ap (item_of text) (same (at + r.main + j) (omega (arith, parts.delta.room))))
             (same-items text ws₁ ws₂ index at r.main (λ k a b. same k (omega (arith, parts.main.room))))
             ∙ parts.positions j h
-            ∙ ap Insert (sym (κ.below (spare + j) (omega arith)));
+            ∙ ap Err (sym (κ.below (spare + j) (omega arith)));
       })
       (λ h. rw (same-held text ws₁ ws₂ index at r (λ k a b. same k (omega (arith, η.still.room)))) (held-calls η.still h));
   none = η.none;
