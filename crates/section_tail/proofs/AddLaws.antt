@@ -37,7 +37,7 @@ use Rattle.section_upsert.specs.MainDelta.{all_at}
 use Rattle.section_upsert.specs.Upserted.{Upserted as Exact}
 use Rattle.section_upsert.proofs.UpsertLaws.{within-fits, within-past, upserted_last}
 use Rattle.section_tail.specs.declared.OpenSizes.{OpenSizes}
-use Rattle.section_tail.specs.Tail.{include, include_all, end_of, items_of, calls_in, calls_at, more_calls, with_tail, CallsWithin, RowOfLine, OpenSection, TailFlushed}
+use Rattle.section_tail.specs.Tail.{include, include_all, end_of, items_of, calls_in, calls_at, more_calls, with_tail, CallsWithin, RowOfLine, OpenSection}
 use Rattle.section_tail.specs.RowAdded.{RowAdded}
 use Rattle.section_tail.proofs.TailLaws.{included_last}
 use Rattle.section_tail.proofs.CallLaws.{key_calls, key-calls, calls-append, calls-one, added-calls, line_included, calls_exact, renewed-calls, include_twice}
@@ -274,16 +274,6 @@ module _ {text ws : List ℕ} {index used spare at : ℕ} {s : OpenSizes} (r : R
               ∙ ap (include e) (sym held₀)
 
 -- ---- the tail is flushed first
-
-pub after_emptied : {text ws ws₁ ws₂ : List ℕ} {index used spare at : ℕ} {s s₁ : OpenSizes} {r : Row} {adds : Bool} {a : Result OpenSizes Fault}
-    → TailFlushed text ws ws₁ index used spare at s s₁ → RowAdded text ws₁ ws₂ index used spare at s₁ r adds a
-    → RowAdded text ws ws₂ index used spare at s r adds a
-after_emptied {text} {used = used} {at = at} {r = r} {adds = adds} η ε = record {
-  items = ε.items
-      ∙ ap (λ (l : List Item). bind (add item_key compare_bytes (combine_of adds) (item_of text r) l) (λ items. within used (at + length items) items)) η.items;
-  still = ε.still;
-  others = λ k x y. ε.others k x y ∙ η.others k x y;
-}
 
 -- ---- answers
 

@@ -155,11 +155,6 @@ pub none_open : {text ws : List ℕ} {index used at : ℕ} → Store ws index us
 unfolding tabulate
 none_open σ l = record { store = σ; room = omega arith; inner = λ k m. absurd (omega arith); sorted = tt }
 
--- two rows as they were read
-pub rises_as : (text ws : List ℕ) (index at k : ℕ) {x y : Row} {r : Bool} → x ≡ row ws index (at + (k - 1)) → y ≡ row ws index (at + k)
-    → r ≡ is_less (compare_items (item_of text x) (item_of text y)) → r ≡ true → is_less (compare_items (item_from text ws index at (k - 1)) (item_from text ws index at k)) ≡ true
-rises_as text ws index at k e f g t = rw (e, f) at (sym g ∙ t)
-
 -- sorted items and one more that is greater than they are
 pub open_next : {text ws : List ℕ} {index used at : ℕ} (k : ℕ) → SortedItems text ws index used at k → at + k < used → ItemRow text (row ws index (at + k))
     → (k ≢ 0 → is_less (compare_items (item_from text ws index at (k - 1)) (item_from text ws index at k)) ≡ true) → SortedItems text ws index used at (k + 1)
@@ -175,9 +170,6 @@ open_next {text} {ws} {index} {used} {at} k ο l ι b =
 module _ {text ws₀ ws : List ℕ} {index used spare at counted i : ℕ} {s : OpenSizes} (ρ : Upserting text ws₀ ws index used spare at counted s i) (l : at + i < used) where
   same_row : row ws index (at + i) ≡ row ws₀ index (at + i)
   same_row = ρ.behind (at + i) (omega arith) l
-
-  pub upserting_inner : ItemRow text (row ws₀ index (at + i)) → ItemRow text (row ws index (at + i))
-  upserting_inner ι = rw same_row ι
 
   -- the calls of one row fit if those of all do
   pub upserting_fits : {m : ℕ} → i < m → CallsFit (items_at text ws₀ index at m) → RowFits text ws index at i s
@@ -207,16 +199,6 @@ module _ {text ws₀ ws : List ℕ} {index used spare at counted i : ℕ} {s : O
     others = λ k x y. ο.others k x y ∙ ρ.others k x y;
     behind = λ k x y. ο.behind k (omega arith) y ∙ ρ.behind k (omega arith) y;
   }
-
-pub upserting_done : {text ws₀ ws : List ℕ} {index used spare at counted i m : ℕ} {s : OpenSizes} → Upserting text ws₀ ws index used spare at counted s i → i ≡ m
-    → AllUpserted text ws₀ ws index used spare at m counted s
-upserting_done {text} {ws₀} {index = index} {at = at} ρ e = record {
-  items = ρ.items ∙ ap (λ (k : ℕ). include_all [] (items_at text ws₀ index at k)) e;
-  still = ρ.still;
-  none = ρ.none;
-  calls = ρ.calls;
-  others = ρ.others;
-}
 
 -- ---- the tail
 

@@ -18,7 +18,7 @@ combine-requires c = adds-calls _ _ (λ text. sym (c.requires.open_section.3.add
 pub returns-in-Some : goal.returns-in-Some
 returns-in-Some c =
     let s = c.requires.open_section in
-    let j = c.joins.ensures c.if-joins.true in
+    let j = c.joins.ensures (search rules) in
     sizes_as c.with_tail.ensures
     (included_last-row c.args.row c.args.accumulate s.0 s.3 (c.calls_fit.ensures c.if-calls_fit.true) c.requires.used_bound.0 s.2 c.put.ensures.store
     c.put.ensures.spare (omega (arith, s.1)) s.1 c.get-last.ensures j.0 j.1
