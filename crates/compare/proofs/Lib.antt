@@ -5,3 +5,4 @@ pub mod ComponentLaws
 pub mod PlaceLaws
 pub mod PathLaws
 pub mod NameLaws
+pub mod OrderLaws

@@ -1,10 +1,9 @@
 -- Paths compared: one component after the other, and behind what both spell alike. Assumes nothing.
 use mathlib.Core.Path.{◌≡◌, refl, sym, ap, ap₂, ◌∙◌}
-use mathlib.Core.Bool.{Bool, true, false, not}
+use mathlib.Core.Bool.{true, false}
 use mathlib.Core.List.{List, [], ◌∷◌, ◌++◌, append_assoc}
 use Prim.Native.Nat.{ℕ, zero, suc, ◌+◌, ◌-◌, ◌≤◌, ◌<◌, Ordering}
 use native.Mathlib.Omega.{arith}
-use borrow.Author.Tests.{not-true, not-false}
 use lib.Dec.{compare_is_eq}
 use lib.ListN.{length, get_or, take, drop}
 use lib.Seq.{split_at, take_all, take-take, get_or-take}
@@ -14,7 +13,7 @@ use Rattle.model.specs.Bytes.{Bytes, slash, split, compare_bytes}
 use Rattle.model.specs.Path.{Path, Component, code, named, leading, components, compare_paths}
 use Rattle.model.proofs.KeyOrder.{bytes-order, paths-order}
 use Rattle.compare.specs.declared.path.Piece.{Piece}
-use Rattle.compare.specs.declared.path.Piece.TheVariants.{At, End}
+use Rattle.std.specs.Prelude.{Option, Some, None}
 use Rattle.compare.specs.Prefixes.{CommonPrefix}
 use Rattle.compare.specs.Pieces.{piece, NameStart, component_of, components_from, found, NextComponent, none_against}
 use Rattle.compare.proofs.CompareLaws.{alike-front}
@@ -37,50 +36,50 @@ pub record Level (a b : Bytes) (from p q : ℕ) : Type 0 where
 pub level_start : (a b : Bytes) (from : ℕ) → Level a b from from from
 level_start a b from = record { is = refl }
 
-module _ {path : Bytes} {p s e : ℕ} {x : Piece} (n : NextComponent path p x) (g : x ≡ At s e) where
-  at_piece : NextComponent path p (At s e)
+module _ {path : Bytes} {p : ℕ} {s : Piece} {x : Option Piece} (n : NextComponent path p x) (g : x ≡ Some s) where
+  at_piece : NextComponent path p (Some s)
   at_piece = rw g at n
 
-  pub at_order : s ≤ e
+  pub at_order : s.start ≤ s.end
   at_order = at_piece.within.1
 
-  pub at_most : e ≤ length path
+  pub at_most : s.end ≤ length path
   at_most = at_piece.within.2
 
-  pub at_falls : length path + 1 - (e + 1) < length path + 1 - p
+  pub at_falls : length path + 1 - (s.end + 1) < length path + 1 - p
   at_falls = omega (arith, at_piece.within.0, at_piece.within.1, at_piece.within.2)
 
-module _ {a b : Bytes} {from p q : ℕ} {x y : Piece} (ε : Level a b from p q) (n : NextComponent a p x) (m : NextComponent b q y) where
+module _ {a b : Bytes} {from p q : ℕ} {x y : Option Piece} (ε : Level a b from p q) (n : NextComponent a p x) (m : NextComponent b q y) where
   here : compare_paths (found a x) (found b y) ≡ left a b from from
   here = sym (ε.is ∙ ap₂ compare_paths n.is m.is)
 
-  pub left-none : x ≡ End → (o : Ordering) → o ≡ none_against y → o ≡ left a b from from
+  pub left-none : x ≡ None → (o : Ordering) → o ≡ none_against y → o ≡ left a b from from
   unfolding compare_paths
-  left-none g o h = h ∙ go y ∙ ap (λ (z : Piece). compare_paths (found a z) (found b y)) (sym g) ∙ here
+  left-none g o h = h ∙ go y ∙ ap (λ (z : Option Piece). compare_paths (found a z) (found b y)) (sym g) ∙ here
     where
-      go : (y : Piece) → none_against y ≡ compare_paths [] (found b y)
-      go (At t f) = refl
-      go End = refl
+      go : (y : Option Piece) → none_against y ≡ compare_paths [] (found b y)
+      go (Some p) = refl
+      go None = refl
 
-  module _ {s e : ℕ} (g : x ≡ At s e) where
-    pub right-none : y ≡ End → Ordering.gt ≡ left a b from from
+  module _ {s : Piece} (g : x ≡ Some s) where
+    pub right-none : y ≡ None → Ordering.gt ≡ left a b from from
     unfolding compare_paths
-    right-none h = ap₂ (λ (z w : Piece). compare_paths (found a z) (found b w)) (sym g) (sym h) ∙ here
+    right-none h = ap₂ (λ (z w : Option Piece). compare_paths (found a z) (found b w)) (sym g) (sym h) ∙ here
 
-    module _ {t f : ℕ} (h : y ≡ At t f) (o : Ordering) (k : o ≡ codes (piece a s e) (piece b t f)) (u : Bool) (i : u ≡ compare_is_eq o) where
-      both : lex o (left a b (e + 1) (f + 1)) ≡ left a b from from
+    module _ {t : Piece} (h : y ≡ Some t) (o : Ordering) (k : o ≡ codes (piece a s.start s.end) (piece b t.start t.end)) where
+      both : lex o (left a b (s.end + 1) (t.end + 1)) ≡ left a b from from
       unfolding compare_paths
       both =
-          ap (λ (r : Ordering). lex r (left a b (e + 1) (f + 1))) k
-          ∙ ap₂ (λ (z w : Piece). compare_paths (found a z) (found b w)) (sym g) (sym h) ∙ here
+          ap (λ (r : Ordering). lex r (left a b (s.end + 1) (t.end + 1))) k
+          ∙ ap₂ (λ (z w : Option Piece). compare_paths (found a z) (found b w)) (sym g) (sym h) ∙ here
 
-      pub left_on : not u ≡ false → Level a b from (e + 1) (f + 1)
-      left_on r = record { is = sym (ap (λ (z : Ordering). lex z (left a b (e + 1) (f + 1))) (sym (is_eq o (sym i ∙ not-false u r))) ∙ both) }
+      pub left_on : compare_is_eq o ≡ true → Level a b from (s.end + 1) (t.end + 1)
+      left_on r = record { is = sym (ap (λ (z : Ordering). lex z (left a b (s.end + 1) (t.end + 1))) (sym (is_eq o r)) ∙ both) }
 
-      pub left-stop : not u ≡ true → o ≡ left a b from from
-      left-stop r = go o (sym i ∙ not-true u r) ∙ both
+      pub left-stop : compare_is_eq o ≡ false → o ≡ left a b from from
+      left-stop r = go o r ∙ both
         where
-          go : (o : Ordering) → compare_is_eq o ≡ false → o ≡ lex o (left a b (e + 1) (f + 1))
+          go : (o : Ordering) → compare_is_eq o ≡ false → o ≡ lex o (left a b (s.end + 1) (t.end + 1))
           go Ordering.lt h = refl
           go Ordering.eq h = cc
           go Ordering.gt h = refl

@@ -11,10 +11,9 @@ use borrow.Author.Tests.{ltb-true, ltb-false, lt-ltb, le-ltb}
 use lib.Dec.{ltb}
 use lib.ListN.{length, drop}
 use lib.Seq.{length-take-le}
-use Rattle.std.specs.Prelude.{if◌then◌else◌}
+use Rattle.std.specs.Prelude.{if◌then◌else◌, Some, None}
 use Rattle.model.specs.Bytes.{Bytes, slash, split}
 use Rattle.model.specs.Path.{Path, named, leading, components}
-use Rattle.compare.specs.declared.path.Piece.TheVariants.{At, End}
 use Rattle.compare.specs.Pieces.{piece, PieceEnd, component_of, rank_of, is_component, pieces_past, components_from, found, NextComponent}
 use Rattle.compare.proofs.SplitLaws.{split_some, pieces_at}
 use Rattle.compare.proofs.ComponentLaws.{named-piece, first_piece}
@@ -66,7 +65,7 @@ unfolding components leading split named
 no_pieces [] e h = sym (behind [] e ∙ ap (λ (t : Bool). named (if t then split slash [] else [])) (le-ltb e 0 (omega arith)))
 no_pieces (b ∷ bs) e h = absurd (omega arith)
 
-taken : (path : Bytes) (p e : ℕ) → PieceEnd path p e → is_component path p e ≡ true → components_from path p ≡ found path (At p e)
+taken : (path : Bytes) (p e : ℕ) → PieceEnd path p e → is_component path p e ≡ true → components_from path p ≡ found path (Some (record { start = p; end = e }))
 taken path zero e π t =
     first_pieces path e π (ltb-true 0 (length path) t) ∙ ap (λ (l : Path). component_of (piece path 0 e) ∷ l) (sym (behind path e))
 taken path (suc p) e π t = later_pieces path p e π ∙ rw t (ap (λ (l : Path). component_of (piece path (suc p) e) ∷ l) (sym (behind path e)))
@@ -89,8 +88,8 @@ module _ {path : Bytes} {from p : ℕ} (ρ : Passed path from p) where
   pub passed-step : (e : ℕ) → PieceEnd path p e → (t : Bool) → t ≡ is_component path p e → t ≡ false → Passed path from (e + 1)
   passed-step e π t h f = record { most = omega (arith, ρ.most, π.from); is = ρ.is ∙ skipped path p e π (sym h ∙ f) }
 
-  pub passed-found : (e : ℕ) → PieceEnd path p e → (t : Bool) → t ≡ is_component path p e → t ≡ true → NextComponent path from (At p e)
+  pub passed-found : (e : ℕ) → PieceEnd path p e → (t : Bool) → t ≡ is_component path p e → t ≡ true → NextComponent path from (Some (record { start = p; end = e }))
   passed-found e π t h f = record { is = ρ.is ∙ taken path p e π (sym h ∙ f); within = (ρ.most, π.from, π.most) }
 
-  pub passed-all : length path < p → NextComponent path from End
+  pub passed-all : length path < p → NextComponent path from None
   passed-all h = record { is = ρ.is ∙ past_end path p h; within = tt }

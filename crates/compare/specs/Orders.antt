@@ -1,7 +1,7 @@
--- What an `Order` says, in the terms of the model's comparisons. Assumes nothing.
+-- What an `Ordering` of the program says, in the terms of the model's comparisons. Assumes nothing.
 use Prim.Native.Nat.{Ordering}
-use Rattle.compare.specs.declared.Order.{Order}
-use Rattle.compare.specs.declared.Order.TheVariants.{Less, Equal, Greater}
+use Rattle.std.specs.declared.cmp.Ordering.{Ordering as Order}
+use Rattle.std.specs.declared.cmp.Ordering.TheVariants.{Less, Equal, Greater}
 
 abbrev pub order_of : Order → Ordering
 order_of Less = Ordering.lt

@@ -1,10 +1,9 @@
 -- The pieces of a path between its slashes, and its components from a position on (SPEC 4.2). Assumes nothing.
 use Prim.Native.Nat.{ℕ, zero, suc, ◌+◌, ◌-◌, ◌≤◌, ◌<◌, Ordering}
-use Rattle.std.specs.Prelude.{◌≡◌, ◌≢◌, Bool, List, [], ◌∷◌, ltb, length, get_or, take, drop, if◌then◌else◌}
+use Rattle.std.specs.Prelude.{◌≡◌, ◌≢◌, Bool, List, [], ◌∷◌, ltb, length, get_or, take, drop, if◌then◌else◌, Option, Some, None}
 use Rattle.model.specs.Bytes.{Bytes, ascii, slash, same_bytes, split, Free}
 use Rattle.model.specs.Path.{Path, Component, root, current, parent, name, named, components}
 use Rattle.compare.specs.declared.path.Piece.{Piece}
-use Rattle.compare.specs.declared.path.Piece.TheVariants.{At, End}
 
 -- the bytes from place s up to place e
 abbrev pub piece : Bytes → ℕ → ℕ → Bytes
@@ -53,22 +52,22 @@ components_from path zero = components path
 components_from path (suc p) = named (pieces_past path p)
 
 -- the components that an answer finds
-abbrev pub found : Bytes → Piece → Path
-found path (At s e) = component_of (piece path s e) ∷ components_from path (e + 1)
-found path End = []
+abbrev pub found : Bytes → Option Piece → Path
+found path (Some p) = component_of (piece path p.start p.end) ∷ components_from path (p.end + 1)
+found path None = []
 
-abbrev pub PieceWithin : Bytes → ℕ → Piece → Type 0
-PieceWithin path from (At s e) = (from ≤ s) × (s ≤ e) × (e ≤ length path)
-PieceWithin path from End = Unit {0}
+abbrev pub PieceWithin : Bytes → ℕ → Option Piece → Type 0
+PieceWithin path from (Some p) = (from ≤ p.start) × (p.start ≤ p.end) × (p.end ≤ length path)
+PieceWithin path from None = Unit {0}
 
-pub record NextComponent (path : Bytes) (from : ℕ) (r : Piece) : Type 0 where
+pub record NextComponent (path : Bytes) (from : ℕ) (r : Option Piece) : Type 0 where
   pub is : components_from path from ≡ found path r
   pub within : PieceWithin path from r
 
 -- no component compared with what is left of the other path
-abbrev pub none_against : Piece → Ordering
-none_against (At s e) = Ordering.lt
-none_against End = Ordering.eq
+abbrev pub none_against : Option Piece → Ordering
+none_against (Some p) = Ordering.lt
+none_against None = Ordering.eq
 
 abbrev pub dot : ℕ
 dot = 46

@@ -6,22 +6,21 @@ ghost use Rattle.model.specs.Path.{code, components, compare_paths};
 ghost use Rattle.compare.specs.Orders.{order_of};
 ghost use Rattle.compare.specs.Pieces.{PieceEnd, NameStart, component_of, rank_of, is_component, components_from, NextComponent, none_against, InName};
 
+use crate::compare_bytes;
 use crate::prefix::common_prefix;
-use crate::{Order, compare_bytes, compare_numbers, is_equal, then_by};
+use std::cmp::Ordering;
 
 // Where the piece that starts at place p ends: at the next slash, or with the path.
 fn piece_end(path: &[u8], p: usize) -> usize
     requires { p ≤ length path.now }
     ensures { PieceEnd path.now p result }
 {
-    let mut i = p;
-    while i < path.len() {
+    for i in p..path.len() {
         if path[i] == b'/' {
             return i;
         }
-        i += 1;
     }
-    i
+    path.len()
 }
 
 // The place behind the last slash before place n, or 0 where there is none.
@@ -29,12 +28,10 @@ fn name_start(path: &[u8], n: usize) -> usize
     requires { n ≤ length path.now }
     ensures { NameStart path.now n result }
 {
-    let mut i = n;
-    while 0 < i {
-        if path[i - 1] == b'/' {
-            return i;
+    for i in (0..n).rev() {
+        if path[i] == b'/' {
+            return i + 1;
         }
-        i -= 1;
     }
     0
 }
@@ -43,10 +40,7 @@ fn name_start(path: &[u8], n: usize) -> usize
 fn equal(a: &[u8], b: &[u8]) -> bool
     ensures { result ≡ same_bytes a.now b.now }
 {
-    if a.len() != b.len() {
-        return false;
-    }
-    is_equal(compare_bytes(a, b))
+    a.len() == b.len() && compare_bytes(a, b).is_eq()
 }
 
 // The rank of a piece as a component: root, leading '.', '..', other names.
@@ -77,66 +71,66 @@ fn is_component(path: &[u8], s: usize, e: usize) -> bool
     1 < rank(&path[s..e])
 }
 
-// A piece that is a component.
+// The piece of a component.
 #[derive(Clone, Copy)]
-enum Piece {
-    At { start: usize, end: usize },
-    End,
+struct Piece {
+    start: usize,
+    end: usize,
 }
 
 // The first component whose piece starts at `from` or later.
-fn next_component(path: &[u8], from: usize) -> Piece
+fn next_component(path: &[u8], from: usize) -> Option<Piece>
     ensures { NextComponent path.now from result }
 {
     let mut p = from;
+    // by pieces, not by bytes
     while p <= path.len() {
-        let e = piece_end(path, p);
-        if is_component(path, p, e) {
-            return Piece::At { start: p, end: e };
+        let end = piece_end(path, p);
+        if is_component(path, p, end) {
+            return Some(Piece { start: p, end });
         }
-        p = e + 1;
+        p = end + 1;
     }
-    Piece::End
+    None
 }
 
 // By rank, then by bytes. Components of one rank that are no names have the same bytes.
-fn compare_components(x: &[u8], y: &[u8]) -> Order
+fn compare_components(x: &[u8], y: &[u8]) -> Ordering
     ensures { order_of result ≡ compare_bytes (code (component_of x.now)) (code (component_of y.now)) }
 {
-    then_by(compare_numbers(rank(x), rank(y)), compare_bytes(x, y))
+    rank(x).cmp(&rank(y)).then(compare_bytes(x, y))
 }
 
 // A path that has no more components, against what the other has.
-fn none_against(y: Piece) -> Order
+fn none_against(y: Option<Piece>) -> Ordering
     ensures { order_of result ≡ none_against y }
 {
     match y {
-        Piece::At { start: _, end: _ } => Order::Less,
-        Piece::End => Order::Equal,
+        Some(_) => Ordering::Less,
+        None => Ordering::Equal,
     }
 }
 
 // The components from place `from` on in both.
-fn compare_from(a: &[u8], b: &[u8], from: usize) -> Order
+fn compare_from(a: &[u8], b: &[u8], from: usize) -> Ordering
     ensures { order_of result ≡ compare_paths (components_from a.now from) (components_from b.now from) }
 {
     let mut p = from;
     let mut q = from;
     loop {
-        let x = next_component(a, p);
         let y = next_component(b, q);
-        let Piece::At { start: s, end: e } = x else {
+        let Some(x) = next_component(a, p) else {
             return none_against(y);
         };
-        let Piece::At { start: t, end: f } = y else {
-            return Order::Greater;
+        let Some(y) = y else {
+            return Ordering::Greater;
         };
-        let order = compare_components(&a[s..e], &b[t..f]);
-        if !is_equal(order) {
+        let order = compare_components(&a[x.start..x.end], &b[y.start..y.end]);
+        if order.is_ne() {
             return order;
         }
-        p = e + 1;
-        q = f + 1;
+        p = x.end + 1;
+        q = y.end + 1;
     }
 }
 
@@ -144,36 +138,20 @@ fn compare_from(a: &[u8], b: &[u8], from: usize) -> Order
 fn in_name(byte: u8) -> bool
     ensures { result ≡ true → InName byte }
 {
-    if byte == b'/' {
-        return false;
-    }
-    if byte == b'.' {
-        return false;
-    }
-    true
+    byte != b'/' && byte != b'.'
 }
 
 // Up to the last slash of what both spell alike the components are the same, so the comparison starts behind it. Most paths first differ
 // inside a name, and the two bytes there decide.
-pub fn compare_paths(a: &[u8], b: &[u8]) -> Order
+pub fn compare_paths(a: &[u8], b: &[u8]) -> Ordering
     ensures { order_of result ≡ compare_paths (components a.now) (components b.now) }
 {
     let n = common_prefix(a, b);
-    if a.len() == n {
-        if b.len() == n {
-            return Order::Equal;
-        }
+    if a.len() == n && b.len() == n {
+        return Ordering::Equal;
     }
-    if n < a.len() {
-        if n < b.len() {
-            let x = a[n];
-            let y = b[n];
-            if in_name(x) {
-                if in_name(y) {
-                    return compare_numbers(x as u64, y as u64);
-                }
-            }
-        }
+    if n < a.len() && n < b.len() && in_name(a[n]) && in_name(b[n]) {
+        return a[n].cmp(&b[n]);
     }
     compare_from(a, b, name_start(a, n))
 }

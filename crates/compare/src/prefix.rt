@@ -1,13 +1,7 @@
 // How much two byte strings have in common before they differ, which is where the comparisons of SPEC 4.1 spend their time: eight
 // bytes at a time, and then one by one.
-ghost use Rattle.std.specs.Prelude.{◌≡◌, ◌+◌, ◌≤◌, min, length};
+ghost use Rattle.std.specs.Prelude.{◌+◌, ◌≤◌, length};
 ghost use Rattle.compare.specs.Prefixes.{IsNumber, CommonPrefix};
-
-pub fn min_usize(m: usize, n: usize) -> usize
-    ensures { result ≡ min m n }
-{
-    if m < n { m } else { n }
-}
 
 fn byte(s: &[u8], i: usize) -> u64
     requires { i + 1 ≤ length s.now }
@@ -43,8 +37,9 @@ pub fn word(s: &[u8], i: usize) -> u64
 fn common_words(a: &[u8], b: &[u8]) -> usize
     ensures { CommonPrefix 8 a.now b.now result }
 {
-    let n = min_usize(a.len(), b.len());
+    let n = a.len().min(b.len());
     let mut i = 0;
+    // by eights
     while i + 8 <= n {
         if word(a, i) != word(b, i) {
             return i;
@@ -58,13 +53,11 @@ fn common_words(a: &[u8], b: &[u8]) -> usize
 pub fn common_prefix(a: &[u8], b: &[u8]) -> usize
     ensures { CommonPrefix 1 a.now b.now result }
 {
-    let n = min_usize(a.len(), b.len());
-    let mut i = common_words(a, b);
-    while i < n {
+    let n = a.len().min(b.len());
+    for i in common_words(a, b)..n {
         if a[i] != b[i] {
             return i;
         }
-        i += 1;
     }
-    i
+    n
 }

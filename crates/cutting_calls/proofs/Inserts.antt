@@ -1,4 +1,5 @@
 -- Inserts and queries: the calls do what the definitions do. Assumes nothing.
+use Rattle.std.specs.Prelude.{Result, Ok, Err}
 use Prim.Native.Nat.{ℕ, ◌≤◌}
 use mathlib.Core.Path.{◌≡◌, refl, sym, ap, ◌∙◌}
 use mathlib.Core.Logic.{◌↔◌}
@@ -8,28 +9,25 @@ use lib.ListN.{length}
 use Rattle.ordmap.proofs.Results.{impossible}
 use Rattle.model.specs.declared.Range.{Range}
 use Rattle.model.specs.declared.Refusal.{Refusal}
-use Rattle.model.specs.declared.InsertAnswer.TheVariants as Insert
-use Rattle.model.specs.declared.QueryAnswer.{QueryAnswer}
-use Rattle.model.specs.declared.QueryAnswer.TheVariants as Query
 use Rattle.model.specs.Answer.{Answer, accepted, refused}
 use Rattle.model.specs.Ranges.{insert_call, slice_after, holds, query_call}
-use Rattle.model.specs.Calls.{InsertCall, insert_answer, QueryCall, query_answer}
-use Rattle.model.proofs.CallLaws.{insert_exact, query_exact}
+use Rattle.model.specs.Calls.{InsertCall, length_answer, ValueCall, call_answer}
+use Rattle.model.proofs.CallLaws.{length_exact, call_exact}
 use Rattle.cutting.specs.Inserts.{insert_all, Shares, Inserts, no_more as end-of-inserts, one_more as insert-more}
 use Rattle.cutting.proofs.Inserts.{queries}
 use Rattle.cutting_calls.specs.Inserts.{InsertCalls, no_more, one_more, QueriesCalls}
 
 -- a call that returned a number of pairs was accepted
-used-accepted : (answer : Answer (List Range)) (slice slice' : List Range) (used : ℕ) → InsertCall answer slice slice' (Insert.Used used)
+used-accepted : (answer : Answer (List Range)) (slice slice' : List Range) (used : ℕ) → InsertCall answer slice slice' (Ok used)
     → (ranges : List Range) × (answer ≡ accepted ranges) × (length ranges ≡ used) × (slice_after (accepted ranges) slice ≡ slice')
-unfolding insert_answer
-used-accepted (accepted ranges) slice slice' used c = (ranges, refl, used_inj (sym (insert_exact (accepted ranges) (Insert.Used used) c.returns)), sym c.leaves)
+unfolding length_answer
+used-accepted (accepted ranges) slice slice' used c = (ranges, refl, used_inj (sym (length_exact (accepted ranges) (Ok used) c.returns)), sym c.leaves)
   where
-    used_inj : {m n : ℕ} → Insert.Used m ≡ Insert.Used n → m ≡ n
+    used_inj : {m n : ℕ} → Ok m ≡ Ok n → m ≡ n
     used_inj p = cc
-used-accepted (refused q) slice slice' used c = absurd (clash (insert_exact (refused q) (Insert.Used used) c.returns))
+used-accepted (refused q) slice slice' used c = absurd (clash (length_exact (refused q) (Ok used) c.returns))
   where
-    clash : {n : ℕ} {q : Refusal} → Insert.Used n ≡ Insert.Refused q → ⊥
+    clash : {n : ℕ} {q : Refusal} → Ok n ≡ Err q → ⊥
     clash p = impossible cc
 
 calls-insert : {slice last : List Range} {used n : ℕ} {rs : List Range} → InsertCalls slice used rs last n → Inserts slice used rs last n
@@ -39,17 +37,17 @@ calls-insert (one_more {slice = slice} {slice' = slice'} {last = last} {used = u
     let behind : Inserts (slice_after (accepted ranges) slice) (length ranges) rs last n = rw (left, long) (calls-insert more) in
     insert-more is behind
 
-module _ (slice last rs : List Range) (n s e : ℕ) (answer : QueryAnswer) (inserts : InsertCalls slice 0 rs last n) (asked : QueryCall (query_call last n s e) answer) where
-  calls_answer : answer ≡ Query.Holds (holds (insert_all rs []) s e)
-  unfolding query_answer
-  calls_answer = query_exact (query_call last n s e) answer asked ∙ ap query_answer (queries.answers slice last rs n s e (calls-insert inserts))
+module _ (slice last rs : List Range) (n s e : ℕ) (answer : Result Bool Refusal) (inserts : InsertCalls slice 0 rs last n) (asked : ValueCall (query_call last n s e) answer) where
+  calls_answer : answer ≡ Ok (holds (insert_all rs []) s e)
+  unfolding call_answer
+  calls_answer = call_exact (query_call last n s e) answer asked ∙ ap call_answer (queries.answers slice last rs n s e (calls-insert inserts))
 
-  calls_say_yes : s ≤ e → (answer ≡ Query.Holds true) ↔ ((r : Range) × Member r rs × Shares s e r)
+  calls_say_yes : s ≤ e → (answer ≡ Ok true) ↔ ((r : Range) × Member r rs × Shares s e r)
   calls_say_yes h =
       let (to, from) = queries.ranges_hold rs s e h in
-      (λ p. to (holds_inj (sym calls_answer ∙ p)), λ x. calls_answer ∙ ap (λ (b : Bool). Query.Holds b) (from x))
+      (λ p. to (holds_inj (sym calls_answer ∙ p)), λ x. calls_answer ∙ ap (λ (b : Bool). Ok b) (from x))
     where
-      holds_inj : {a b : Bool} → Query.Holds a ≡ Query.Holds b → a ≡ b
+      holds_inj : {a b : Bool} → Ok a ≡ Ok b → a ≡ b
       holds_inj p = cc
 
 -- INSERTS AND QUERIES, of the calls

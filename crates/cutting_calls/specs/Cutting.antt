@@ -1,11 +1,11 @@
 -- Cutting before or after adding, for what the calls return and leave in the lent output: `gather_checked`, `read_text`, `filter_text` and
 -- `filter_text_distinct_starts`, and their forms that are lent a table of tags. The clauses are those of crate cutting's Cutting, and so are
 -- `lines_and_branches` and `Pairwise`; `Wrote` is demand 3's (crate lcov). Assumes nothing.
-use Rattle.std.specs.Prelude.{ℕ, ◌≤◌, ◌≡◌, ◌↔◌, true, List, length, take}
+use Rattle.model.specs.declared.Refusal.{Refusal}
+use Rattle.std.specs.Prelude.{ℕ, ◌≤◌, ◌≡◌, ◌↔◌, true, List, length, take, Result}
 use Rattle.model.specs.declared.Bound.{Bound}
 use Rattle.model.specs.declared.Kind.{Kind}
 use Rattle.model.specs.declared.Range.{Range}
-use Rattle.model.specs.declared.WriteAnswer.{WriteAnswer}
 use Rattle.model.specs.Bytes.{Bytes}
 use Rattle.model.specs.Answer.{accepted}
 use Rattle.model.specs.Tags.{default_tag}
@@ -26,17 +26,17 @@ use Rattle.cutting.specs.Cutting.{lines_and_branches, Pairwise, cut_report}
 
 -- a call of the filter with so many words of scratch: the very promise of `filter_text` with `NextStart`, and of
 -- `filter_text_distinct_starts` with `GreaterStart`. The slice is the lent pairs as ranges (`ranges_in`).
-abbrev pub FilterCall : (tag : Kind → Bytes) → Bound → Bytes → List Range → ℕ → ℕ → Bytes → Bytes → WriteAnswer → Type 0
+abbrev pub FilterCall : (tag : Kind → Bytes) → Bound → Bytes → List Range → ℕ → ℕ → Bytes → Bytes → Result ℕ Refusal → Type 0
 FilterCall tag bound text slice used words out out' r = WriteCall (filter_text tag bound text slice used words (length out)) out out' r
 
 -- a call that is lent a table of tags
-abbrev pub FilterTagged : Bytes → Bound → Bytes → List Range → ℕ → ℕ → Bytes → Bytes → WriteAnswer → Type 0
+abbrev pub FilterTagged : Bytes → Bound → Bytes → List Range → ℕ → ℕ → Bytes → Bytes → Result ℕ Refusal → Type 0
 FilterTagged table bound text slice used words out out' r = WriteCall (tagged table (λ tag. filter_text tag bound text slice used words (length out))) out out' r
 
 -- what a text is read as, and what `read_text` writes of it into any output that holds it
 pub record ReadsAs (tag : Kind → Bytes) (limit : ℕ) (text : Bytes) (report : Report) : Type 0 where
   pub report_read : read_text tag limit text ≡ accepted report
-  pub writes : (words : ℕ) (out out' : Bytes) (r : WriteAnswer) → entry_limit words ≡ limit → length (print_report tag report) ≤ length out
+  pub writes : (words : ℕ) (out out' : Bytes) (r : Result ℕ Refusal) → entry_limit words ≡ limit → length (print_report tag report) ≤ length out
       → ReadCall tag text words out out' r → Wrote (print_report tag report) out out' r
 
 module _ (tag : Kind → Bytes) (bound : Bound) where
@@ -47,7 +47,7 @@ module _ (tag : Kind → Bytes) (bound : Bound) where
     pub words : ℕ
     pub out : Bytes
     pub out' : Bytes
-    pub r : WriteAnswer
+    pub r : Result ℕ Refusal
     pub by_ranges : take used slice ≡ ranges
     pub one_limit : entry_limit words ≡ limit
     pub call : FilterCall tag bound text slice used words out out' r
@@ -56,7 +56,7 @@ module _ (tag : Kind → Bytes) (bound : Bound) where
   -- what calls of the filter write of a text into any output that holds it, and what that is read as
   pub record FilteredCalls (ranges : List Range) (limit : ℕ) (text : Bytes) (report : Report) : Type 0 where
     pub bytes : Bytes
-    pub writes : (slice : List Range) (used words : ℕ) (out out' : Bytes) (r : WriteAnswer) → well_formed_ranges slice used ≡ true → take used slice ≡ ranges
+    pub writes : (slice : List Range) (used words : ℕ) (out out' : Bytes) (r : Result ℕ Refusal) → well_formed_ranges slice used ≡ true → take used slice ≡ ranges
         → entry_limit words ≡ limit → length bytes ≤ length out → FilterCall tag bound text slice used words out out' r → Wrote bytes out out' r
     pub reads : ReadsAs tag limit bytes report
 
@@ -65,7 +65,7 @@ module _ (tag : Kind → Bytes) (bound : Bound) where
   pub record BothWaysCalls (ranges : List Range) (limit : ℕ) (whole parts : Bytes) : Type 0 where
     -- cut first: what the gather writes of `parts` into any output that holds it, and what that is read as
     pub cut_first_lem : Bytes
-    pub gathers : (words : ℕ) (out out' : Bytes) (r : WriteAnswer) → entry_limit words ≡ limit → length cut_first_lem ≤ length out
+    pub gathers : (words : ℕ) (out out' : Bytes) (r : Result ℕ Refusal) → entry_limit words ≡ limit → length cut_first_lem ≤ length out
         → GatherCall tag parts words out out' r → Wrote cut_first_lem out out' r
     pub cut_first_report : Report
     pub cut_first_reads : ReadsAs tag limit cut_first_lem cut_first_report
@@ -76,7 +76,7 @@ module _ (tag : Kind → Bytes) (bound : Bound) where
 
   pub record CuttingCalls : Type 0 where
     -- the gather wrote `whole` of a bundle, and calls of the filter wrote the texts of `parts` of the bundle's texts
-    pub same : (bundle whole parts : Bytes) (ranges : List Range) (words : ℕ) (out out' : Bytes) (r : WriteAnswer)
+    pub same : (bundle whole parts : Bytes) (ranges : List Range) (words : ℕ) (out out' : Bytes) (r : Result ℕ Refusal)
         → GatherCall tag bundle words out out' r → Wrote whole out out' r
         → Pairwise (CutCall ranges (entry_limit words)) (texts_of bundle) (texts_of parts) → well_formed parts ≡ true
         → BothWaysCalls ranges (entry_limit words) whole parts
@@ -90,5 +90,5 @@ pub record CuttingCallsTables : Type 0 where
   pub lent : (table : Bytes) (tag : Kind → Bytes) → load_tags table ≡ accepted tag → (bound : Bound) → CuttingCalls tag bound
   -- a call of the filter that is lent such a table is a call under its tags; `Demand3Tables` says the same of the gather and of `read_text`
   pub filters : (table : Bytes) (tag : Kind → Bytes) → load_tags table ≡ accepted tag
-      → (bound : Bound) (text : Bytes) (slice : List Range) (used words : ℕ) (out out' : Bytes) (r : WriteAnswer)
+      → (bound : Bound) (text : Bytes) (slice : List Range) (used words : ℕ) (out out' : Bytes) (r : Result ℕ Refusal)
       → FilterTagged table bound text slice used words out out' r ↔ FilterCall tag bound text slice used words out out' r

@@ -1,4 +1,5 @@
 -- What a row's words say of its item: its start, its line, and where the function before it ends. Assumes nothing.
+use Rattle.std.specs.Prelude.{Option, Some, None}
 use Prim.Native.Nat.{ℕ, zero, suc, ◌+◌, ◌*◌, ◌-◌, ◌/◌, ◌%◌, ◌≤◌, ◌<◌}
 use native.Mathlib.Omega.{arith}
 use native.Mathlib.Nat.{add-zero}
@@ -18,9 +19,7 @@ use Rattle.table.specs.Rows.{row_words, word, row_at}
 use Rattle.model.specs.Bytes.{Bytes}
 use Rattle.model.specs.Limits.{u32_max}
 use Rattle.model.specs.declared.Bound.{Bound}
-use Rattle.model.specs.declared.EndLine.{EndLine}
-use Rattle.model.specs.declared.EndLine.TheVariants as El
-use Rattle.model.specs.Parts.{end_in}
+use Rattle.model.specs.Parts.{given_in}
 use Rattle.model.specs.Report.{Extent, extent_of, given_start, end_of}
 use Rattle.model.specs.declared.Range.{Range}
 use Rattle.model.specs.Ranges.{holds}
@@ -122,14 +121,14 @@ module _ (text ws : List ℕ) (next n : ℕ) where
     end-one = sym (end-first some ∙ ap (λ (k : ℕ). k - 1) (sym start-next))
 
 -- a function's own end goes first
-module _ (row : Row) (reckoned : ℕ) (end : EndLine) (own : (text : Bytes) → end_in end ≡ end_of (item_of text row)) where
-  pub end_own : (line : ℕ) → end ≡ El.Given line → (text : Bytes) → line ≡ end_or reckoned (end_of (item_of text row))
-  unfolding end_in
-  end_own line e text = ap (end_or reckoned) (sym (ap end_in e) ∙ own text)
+module _ (row : Row) (reckoned : ℕ) (end : Option ℕ) (own : (text : Bytes) → given_in end ≡ end_of (item_of text row)) where
+  pub end_own : (line : ℕ) → end ≡ Some line → (text : Bytes) → line ≡ end_or reckoned (end_of (item_of text row))
+  unfolding given_in
+  end_own line e text = ap (end_or reckoned) (sym (ap given_in e) ∙ own text)
 
-  pub end_reckoned : end ≡ El.Absent → (text : Bytes) → reckoned ≡ end_or reckoned (end_of (item_of text row))
-  unfolding end_in
-  end_reckoned e text = ap (end_or reckoned) (sym (ap end_in e) ∙ own text)
+  pub end_reckoned : end ≡ None → (text : Bytes) → reckoned ≡ end_or reckoned (end_of (item_of text row))
+  unfolding given_in
+  end_reckoned e text = ap (end_or reckoned) (sym (ap given_in e) ∙ own text)
 
 -- ---- the first of some rows
 

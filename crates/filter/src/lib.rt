@@ -14,7 +14,6 @@ ghost use Rattle.model.specs.Output.{written, output_after};
 ghost use Rattle.model.specs.Printing.{sections, print_sections};
 ghost use Rattle.model.specs.Ranges.{well_formed_ranges};
 ghost use Rattle.model.specs.Report.{end_of};
-ghost use Rattle.model.specs.TagTable.{tags_of, are_tags};
 ghost use Rattle.model.specs.Valid.{ItemFits};
 ghost use Rattle.table_item.specs.Items.{kind_of, item_of};
 ghost use Rattle.table_item.specs.SortedItems.{items_at};
@@ -26,10 +25,12 @@ ghost use Rattle.print_report.specs.Printing.{PrintableTable, UnchangedBefore, A
 ghost use Rattle.line_num_pairs.specs.Pairs.{ranges_in};
 ghost use Rattle.filter.specs.Keeping.{chosen, keeps, Ahead, Behind, Chosen};
 ghost use Rattle.filter.specs.Filtered.{filtered_from, Holding, functions_left, KeptRows, SectionPrintable, kept_lines};
+ghost use Rattle.tag_table.specs.Tags.{tag_of};
 
-use model::{Bound, EndLine, WriteAnswer};
+use model::{Bound, Refusal};
 use print_report::{KindRanges, Printed};
 use table::Row;
+use tag_table::Tags;
 
 // What a row must meet to stay: a function that has a start; a branch or line whose line is held; a function whose range, up to its end
 // or the start that bounds it, queries yes.
@@ -133,8 +134,8 @@ fn end_of(row: Row, reckoned: u32) -> u32
     ensures { (text : List ℕ) → result ≡ end_or reckoned (end_of (item_of text row)) }
 {
     match table_item::end_line(row) {
-        EndLine::Given(line) => line,
-        EndLine::Absent => reckoned,
+        Some(line) => line,
+        None => reckoned,
     }
 }
 
@@ -308,7 +309,7 @@ fn keep_rows(
 
 // The lines of a section of which rows stay. "Emptied sections print TN, SF, end_of_record."
 fn print_kept(
-    tags: &[u8],
+    tags: Tags,
     text: &[u8],
     words: &[u64],
     header: Row,
@@ -318,10 +319,9 @@ fn print_kept(
     at: usize,
     write: bool,
 ) -> usize
-    requires tags_value { are_tags tags.now ≡ true }
     requires section_printable { SectionPrintable text.now words.now header numbers kept }
-    requires room_for { RoomFor write out.old at (kept_lines (tags_of tags.now) text.now words.now header numbers kept) }
-    ensures { Emitted write out.old out.new at (kept_lines (tags_of tags.now) text.now words.now header numbers kept) result }
+    requires room_for { RoomFor write out.old at (kept_lines (tag_of tags) text.now words.now header numbers kept) }
+    ensures { Emitted write out.old out.new at (kept_lines (tag_of tags.entry) text.now words.now header numbers kept) result }
 {
     let f = kept.functions;
     let b = kept.branches;
@@ -357,7 +357,7 @@ fn print_kept(
 
 // Filters the section whose header row is at position lo.
 fn filter_section(
-    tags: &[u8],
+    tags: Tags,
     text: &[u8],
     words: &mut [u64],
     pairs: &[[u32; 2]],
@@ -372,10 +372,9 @@ fn filter_section(
     at: usize,
     write: bool,
 ) -> Printed
-    requires tags_value { are_tags tags.now ≡ true }
     requires printable_table { PrintableTable text.now words.old index used n spare × (lo < n) × (kind_of (row words.old index lo) ≡ 0) }
-    requires count_value { (well_formed_ranges (ranges_in pairs.now) count ≡ true) × RoomFor write out.old at (filtered_from (tags_of tags.now) bound (take count (ranges_in pairs.now)) text.now index n words.old lo) }
-    ensures { SectionPrinted (filtered_from (tags_of tags.now) bound (take count (ranges_in pairs.now)) text.now index n) write words.old words.new out.old out.new index n lo spare at result }
+    requires count_value { (well_formed_ranges (ranges_in pairs.now) count ≡ true) × RoomFor write out.old at (filtered_from (tag_of tags) bound (take count (ranges_in pairs.now)) text.now index n words.old lo) }
+    ensures { SectionPrinted (filtered_from (tag_of tags.entry) bound (take count (ranges_in pairs.now)) text.now index n) write words.old words.new out.old out.new index n lo spare at result }
 {
     let header = table::get(words, index, used, lo);
     let runs = print_report::find_kind_ranges(words, index, used, n, lo + 1);
@@ -399,7 +398,7 @@ fn filter_section(
 
 // All sections, from the output's start on.
 fn filter_sections(
-    tags: &[u8],
+    tags: Tags,
     text: &[u8],
     words: &mut [u64],
     pairs: &[[u32; 2]],
@@ -412,10 +411,9 @@ fn filter_sections(
     out: &mut [u8],
     write: bool,
 ) -> usize
-    requires tags_value { are_tags tags.now ≡ true }
     requires printable_table { PrintableTable text.now words.old index used n spare }
-    requires count_value { (well_formed_ranges (ranges_in pairs.now) count ≡ true) × RoomFor write out.old 0 (filtered_from (tags_of tags.now) bound (take count (ranges_in pairs.now)) text.now index n words.old 0) }
-    ensures emitted { Emitted write out.old out.new 0 (filtered_from (tags_of tags.now) bound (take count (ranges_in pairs.now)) text.now index n words.old 0) result }
+    requires count_value { (well_formed_ranges (ranges_in pairs.now) count ≡ true) × RoomFor write out.old 0 (filtered_from (tag_of tags) bound (take count (ranges_in pairs.now)) text.now index n words.old 0) }
+    ensures emitted { Emitted write out.old out.new 0 (filtered_from (tag_of tags.entry) bound (take count (ranges_in pairs.now)) text.now index n words.old 0) result }
     ensures unchanged_before { UnchangedBefore words.old words.new spare }
 {
     let mut lo = 0;
@@ -433,7 +431,7 @@ fn filter_sections(
 
 // A length that is enough for the filtered report, as `print_report::required_len`: where all of the report fits, so does what stays of it.
 fn required_len(
-    tags: &[u8],
+    tags: Tags,
     text: &[u8],
     words: &mut [u64],
     pairs: &[[u32; 2]],
@@ -445,9 +443,8 @@ fn required_len(
     spare: usize,
     out: &mut [u8],
 ) -> usize
-    requires tags_value { are_tags tags.now ≡ true }
     requires printable_table { PrintableTable text.now words.old index used n spare × (well_formed_ranges (ranges_in pairs.now) count ≡ true) }
-    ensures required_length { RequiredLength out.old out.new (filtered_from (tags_of tags.now) bound (take count (ranges_in pairs.now)) text.now index n words.old 0) result }
+    ensures required_length { RequiredLength out.old out.new (filtered_from (tag_of tags.entry) bound (take count (ranges_in pairs.now)) text.now index n words.old 0) result }
     ensures unchanged_before { UnchangedBefore words.old words.new spare }
 {
     if print_bound::surely_fits(tags, words, index, used, n, out.len()) {
@@ -460,7 +457,7 @@ fn required_len(
 
 // Prints the report of the first n rows, filtered by the first `count` pairs; the output and `spare` as for `print_report::print_report`.
 pub fn print_filtered(
-    tags: &[u8],
+    tags: Tags,
     text: &[u8],
     words: &mut [u64],
     pairs: &[[u32; 2]],
@@ -471,12 +468,11 @@ pub fn print_filtered(
     n: usize,
     spare: usize,
     out: &mut [u8],
-) -> WriteAnswer
-    requires tags_value { are_tags tags.now ≡ true }
+) -> Result<usize, Refusal>
     requires table { Table text.now words.old index used n × (n ≤ max_entries) × (well_formed_ranges (ranges_in pairs.now) count ≡ true) }
     requires used_bound { (index + used ≤ spare) × (spare + n + n ≤ length words.old) }
-    ensures value { result ≡ write_answer (written (length out.old) (print_sections (tags_of tags.now) (map (filter_section bound (take count (ranges_in pairs.now))) (sections (entries_at text.now words.old index n))))) }
-    ensures out_after { out.new ≡ output_after (written (length out.old) (print_sections (tags_of tags.now) (map (filter_section bound (take count (ranges_in pairs.now))) (sections (entries_at text.now words.old index n))))) out.old }
+    ensures value { result ≡ write_answer (written (length out.old) (print_sections (tag_of tags.entry) (map (filter_section bound (take count (ranges_in pairs.now))) (sections (entries_at text.now words.old index n))))) }
+    ensures out_after { out.new ≡ output_after (written (length out.old) (print_sections (tag_of tags.entry) (map (filter_section bound (take count (ranges_in pairs.now))) (sections (entries_at text.now words.old index n))))) out.old }
 {
     let needed = required_len(
         tags, text, words, pairs, count, bound, index, used, n, spare, out,
@@ -487,5 +483,5 @@ pub fn print_filtered(
     let len = filter_sections(
         tags, text, words, pairs, count, bound, index, used, n, spare, out, true,
     );
-    WriteAnswer::Written(len)
+    Ok(len)
 }

@@ -10,7 +10,7 @@ ghost use Rattle.model.specs.Gather.{printed_answer, gather_program};
 ghost use Rattle.model.specs.Gather.{gather as gatherOf};
 ghost use Rattle.program_io.specs.Front.{Fronts};
 
-use model::{Fault, WriteAnswer};
+use model::{Fault, Refusal};
 
 const MAX_INPUT: usize = program_io::MAX_INPUT;
 
@@ -24,8 +24,8 @@ fn gather(bundle: &[u8], scratch: &mut [u64], out: &mut [u8]) -> usize
     ensures { Fronts result out.new (printed_answer (gatherOf default_tag Checked bundle.now program_words program_output)) }
 {
     match lcov::gather_checked(bundle, scratch, out) {
-        WriteAnswer::Written(n) => n,
-        WriteAnswer::Refused(refusal) => program_io::put_refusal(refusal, out),
+        Ok(n) => n,
+        Err(refusal) => program_io::put_refusal(refusal, out),
     }
 }
 
@@ -35,7 +35,7 @@ fn answer(input: &[u8], scratch: &mut [u64], out: &mut [u8]) -> usize
     ensures { Fronts result out.new (gather_program input.now) }
 {
     if MAX_INPUT < input.len() {
-        return program_io::put_refusal(refusal::unplaced(Fault::MalformedBundle), out);
+        return program_io::put_refusal(Refusal::from(Fault::MalformedBundle), out);
     }
     gather(input, scratch, out)
 }

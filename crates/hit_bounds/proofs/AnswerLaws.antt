@@ -1,4 +1,6 @@
 -- Two texts read one behind the other, and the answer of their tables. Assumes nothing.
+use Rattle.std.specs.Prelude.{Result, Ok, Err}
+use Rattle.model_bounds.specs.declared.Bounds.{Bounds}
 use Prim.Native.Nat.{ℕ}
 use mathlib.Core.Path.{◌≡◌, ◌∙◌}
 use mathlib.Core.Bool.{true, false}
@@ -12,10 +14,8 @@ use Rattle.model.specs.Answer.{accepted, refused, unplaced}
 use Rattle.model.specs.Report.{Report}
 use Rattle.model.specs.Reading.{read_text}
 use Rattle.model.specs.Gather.{entry_limit}
-use Rattle.model_bounds.specs.declared.BoundsAnswer.{BoundsAnswer}
-use Rattle.model_bounds.specs.declared.BoundsAnswer.TheVariants as B
 use Rattle.model_bounds.specs.declared.Hits.{Hits}
-use Rattle.model_bounds.specs.Bounds.{same_keys, counts_rise, hits_of, bounds, hit_bounds, bounds_answer}
+use Rattle.model_bounds.specs.Bounds.{same_keys, counts_rise, hits_of, bounds, hit_bounds, call_answer}
 use Rattle.table_section.specs.Sections.{entries_at}
 use Rattle.report_parser.specs.declared.TextAnswer.{TextAnswer}
 use Rattle.report_parser.specs.declared.TextAnswer.TheVariants as T
@@ -28,16 +28,16 @@ use Rattle.hit_bounds.specs.Pairs.{ReadRest, bounds_behind}
 -- ---- two reports
 
 module _ (low high : Report) where
-  pub other_keys : same_keys low high ≡ false → (r : Refusal) → r ≡ unplaced DifferentKeys → B.Refused r ≡ bounds_answer (bounds low high)
+  pub other_keys : same_keys low high ≡ false → (r : Refusal) → r ≡ unplaced DifferentKeys → Err r ≡ call_answer (bounds low high)
   unfolding bounds
   other_keys k r e = rw (e, k)
 
   module _ (same : same_keys low high ≡ true) where
-    pub count_above : counts_rise low high ≡ false → (r : Refusal) → r ≡ unplaced LeastAboveGreatest → B.Refused r ≡ bounds_answer (bounds low high)
+    pub count_above : counts_rise low high ≡ false → (r : Refusal) → r ≡ unplaced LeastAboveGreatest → Err r ≡ call_answer (bounds low high)
     unfolding bounds
     count_above c r e = rw (e, same, c)
 
-    pub both_counted : counts_rise low high ≡ true → (l g : Hits) → l ≡ hits_of low → g ≡ hits_of high → B.Bounds l g ≡ bounds_answer (bounds low high)
+    pub both_counted : counts_rise low high ≡ true → (l g : Hits) → l ≡ hits_of low → g ≡ hits_of high → Ok_BoundsAnswer l g ≡ call_answer (bounds low high)
     unfolding bounds
     both_counted c l g e f = rw (e, f, same, c)
 
@@ -63,15 +63,15 @@ module _ (tag : Kind → Bytes) (text ws : List ℕ) (limit : ℕ) (r : TextAnsw
 -- ---- the call
 
 module _ (tag : Kind → Bytes) (least greatest : Bytes) (words limit : ℕ) (at-limit : limit ≡ entry_limit words) (ws : List ℕ) (got : TextAnswer) (t : TextRead tag least (take (base_at limit) ws) (index_at limit) limit 0 got) where
-  pub least-refused : (q r : Refusal) → got ≡ T.Refused q → r ≡ in_text_of 0 q → B.Refused r ≡ bounds_answer (hit_bounds tag least greatest words)
+  pub least-refused : (q r : Refusal) → got ≡ T.Refused q → r ≡ in_text_of 0 q → Err r ≡ call_answer (hit_bounds tag least greatest words)
   unfolding hit_bounds
   least-refused q r e h =
       let read = refused-is tag least (take (base_at limit) ws) limit got t q e in
       rw (h, ← at-limit, ← read)
 
-  pub least-read : (kept used : ℕ) → got ≡ T.Read kept used → (r : BoundsAnswer)
-      → r ≡ bounds_answer (bounds_behind tag (entries_at least (take (base_at limit) ws) (index_at limit) kept) greatest limit)
-      → r ≡ bounds_answer (hit_bounds tag least greatest words)
+  pub least-read : (kept used : ℕ) → got ≡ T.Read kept used → (r : Result Bounds Refusal)
+      → r ≡ call_answer (bounds_behind tag (entries_at least (take (base_at limit) ws) (index_at limit) kept) greatest limit)
+      → r ≡ call_answer (hit_bounds tag least greatest words)
   unfolding hit_bounds
   least-read kept used e r h =
       let read = read_is tag least (take (base_at limit) ws) limit got t kept used e in

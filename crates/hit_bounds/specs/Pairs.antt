@@ -8,7 +8,8 @@ use Rattle.model.specs.Report.{Item, Report, count_of}
 use Rattle.model.specs.Reading.{read_text}
 use Rattle.model.specs.Printing.{is_function, is_branch, is_line}
 use Rattle.model_bounds.specs.declared.Hits.{Hits}
-use Rattle.model_bounds.specs.Bounds.{Bounds, bounds}
+use Rattle.model_bounds.specs.declared.Bounds.{Bounds}
+use Rattle.model_bounds.specs.Bounds.{bounds}
 use Rattle.table.specs.declared.Row.{Row}
 use Rattle.table_section.specs.Sections.{Sections}
 use Rattle.report_parser.specs.declared.TextAnswer.{TextAnswer}

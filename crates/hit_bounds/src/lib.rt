@@ -7,7 +7,6 @@ ghost use Rattle.std.proofs.Math.Dec.{compare_is_eq};
 ghost use Rattle.model.specs.Limits.{max_entries};
 ghost use Rattle.model.specs.Bytes.{compare_bytes};
 ghost use Rattle.model.specs.Path.{components, compare_paths};
-ghost use Rattle.model.specs.TagTable.{tags_of, are_tags};
 ghost use Rattle.model.specs.Report.{compare_items, compare_sections, compare_keys, entry_key, count_of};
 ghost use Rattle.model.specs.Gather.{entry_limit};
 ghost use Rattle.model_bounds.specs.Bounds.{same_keys, counts_rise, hits_of, bounds, hit_bounds, bounds_answer};
@@ -17,11 +16,13 @@ ghost use Rattle.table_section.specs.Sections.{entry_of, key_of, entries_at, Nam
 ghost use Rattle.report_parser.specs.Reader.{TextRead};
 ghost use Rattle.scratch_layout.specs.Layout.{index_at, base_at, ScratchRoom};
 ghost use Rattle.hit_bounds.specs.Pairs.{same_branch, HitsBelow, with_hit, Kept, ReadRest, bounds_behind};
+ghost use Rattle.tag_table.specs.Tags.{tag_of};
 
-use model::Fault;
-use model_bounds::{BoundsAnswer, Hits};
+use model::{Fault, Refusal};
+use model_bounds::{Result<Bounds, Refusal>, Hits};
 use report_parser::TextAnswer;
 use table::Row;
+use tag_table::Tags;
 
 // The rows of a table that are used, and how many of them are entries, in front.
 #[derive(Clone, Copy)]
@@ -38,7 +39,7 @@ fn same_parts(a: &[u8], s: u64, n: u64, b: &[u8], t: u64, m: u64) -> bool
     let p = s as usize;
     let q = t as usize;
     let order = compare::compare_bytes(&a[p..p + (n as usize)], &b[q..q + (m as usize)]);
-    compare::is_equal(order)
+    order.is_eq()
 }
 
 // Whether a part of one text and a part of another are the same path.
@@ -49,7 +50,7 @@ fn same_paths(a: &[u8], s: u64, n: u64, b: &[u8], t: u64, m: u64) -> bool
     let p = s as usize;
     let q = t as usize;
     let order = compare::compare_paths(&a[p..p + (n as usize)], &b[q..q + (m as usize)]);
-    compare::is_equal(order)
+    order.is_eq()
 }
 
 // Whether two rows are in the same section.
@@ -220,7 +221,7 @@ fn compare_tables(
     high: &[u64],
     h: Rows,
     index: usize,
-) -> BoundsAnswer
+) -> Result<Bounds, Refusal>
     requires { Kept least.now low.now index l × Kept greatest.now high.now index h }
     ensures { result ≡ bounds_answer (bounds (entries_at least.now low.now index l.kept) (entries_at greatest.now high.now index h.kept)) }
 {
@@ -233,9 +234,9 @@ fn compare_tables(
                 greatest: greatest_hits,
             };
         }
-        return BoundsAnswer::Refused(refusal::unplaced(Fault::LeastAboveGreatest));
+        return Err(Refusal::from(Fault::LeastAboveGreatest));
     }
-    BoundsAnswer::Refused(refusal::unplaced(Fault::DifferentKeys))
+    Err(Refusal::from(Fault::DifferentKeys))
 }
 
 // The two tables of one scratch, compared.
@@ -246,7 +247,7 @@ fn compare_halves(
     h: Rows,
     scratch: &[u64],
     limit: usize,
-) -> BoundsAnswer
+) -> Result<Bounds, Refusal>
     requires { ScratchRoom scratch.now limit × Kept least.now (take (base_at limit) scratch.now) (index_at limit) l × Kept greatest.now (drop (base_at limit) scratch.now) (index_at limit) h }
     ensures { result ≡ bounds_answer (bounds (entries_at least.now (take (base_at limit) scratch.now) (index_at limit) l.kept) (entries_at greatest.now (drop (base_at limit) scratch.now) (index_at limit) h.kept)) }
 {
@@ -264,10 +265,9 @@ fn compare_halves(
 }
 
 // Reads a text into the front of the scratch, where a gather has its joined table.
-fn read_front(tags: &[u8], text: &[u8], scratch: &mut [u64], limit: usize) -> TextAnswer
-    requires tags_value { are_tags tags.now ≡ true }
+fn read_front(tags: Tags, text: &[u8], scratch: &mut [u64], limit: usize) -> TextAnswer
     requires scratch_room { ScratchRoom scratch.old limit }
-    ensures { TextRead (tags_of tags.now) text.now (take (base_at limit) scratch.new) (index_at limit) limit 0 result }
+    ensures { TextRead (tag_of tags.entry) text.now (take (base_at limit) scratch.new) (index_at limit) limit 0 result }
 {
     let base = scratch_layout::base_at(limit);
     let index = scratch_layout::index_at(limit);
@@ -275,10 +275,9 @@ fn read_front(tags: &[u8], text: &[u8], scratch: &mut [u64], limit: usize) -> Te
 }
 
 // Reads a text into the words behind it.
-fn read_rest(tags: &[u8], text: &[u8], scratch: &mut [u64], limit: usize) -> TextAnswer
-    requires tags_value { are_tags tags.now ≡ true }
+fn read_rest(tags: Tags, text: &[u8], scratch: &mut [u64], limit: usize) -> TextAnswer
     requires scratch_room { ScratchRoom scratch.old limit }
-    ensures { ReadRest (tags_of tags.now) text.now scratch.old scratch.new limit result }
+    ensures { ReadRest (tag_of tags.entry) text.now scratch.old scratch.new limit result }
 {
     let base = scratch_layout::base_at(limit);
     let index = scratch_layout::index_at(limit);
@@ -287,19 +286,18 @@ fn read_rest(tags: &[u8], text: &[u8], scratch: &mut [u64], limit: usize) -> Tex
 
 // The greatest text read behind the least, whose rows these are, and both compared.
 fn find_behind(
-    tags: &[u8],
+    tags: Tags,
     least: &[u8],
     l: Rows,
     greatest: &[u8],
     scratch: &mut [u64],
     limit: usize,
-) -> BoundsAnswer
-    requires tags_value { are_tags tags.now ≡ true }
+) -> Result<Bounds, Refusal>
     requires scratch_room { ScratchRoom scratch.old limit × Kept least.now (take (base_at limit) scratch.old) (index_at limit) l }
-    ensures { result ≡ bounds_answer (bounds_behind (tags_of tags.now) (entries_at least.now (take (base_at limit) scratch.old) (index_at limit) l.kept) greatest.now limit) }
+    ensures { result ≡ bounds_answer (bounds_behind (tag_of tags.entry) (entries_at least.now (take (base_at limit) scratch.old) (index_at limit) l.kept) greatest.now limit) }
 {
     match read_rest(tags, greatest, scratch, limit) {
-        TextAnswer::Refused(refusal) => BoundsAnswer::Refused(joined_table::in_text(1, refusal)),
+        TextAnswer::Refused(refusal) => Err(joined_table::in_text(1, refusal)),
         TextAnswer::Read { kept, used } => {
             let h = Rows { used, kept };
             compare_halves(least, l, greatest, h, scratch, limit)
@@ -308,13 +306,12 @@ fn find_behind(
 }
 
 // The bounds of the hit numbers of a run whose counts are known by two texts. E is for each text by itself.
-pub fn find_bounds(tags: &[u8], least: &[u8], greatest: &[u8], scratch: &mut [u64]) -> BoundsAnswer
-    requires { are_tags tags.now ≡ true }
-    ensures { result ≡ bounds_answer (hit_bounds (tags_of tags.now) least.now greatest.now (length scratch.old)) }
+pub fn find_bounds(tags: Tags, least: &[u8], greatest: &[u8], scratch: &mut [u64]) -> Result<Bounds, Refusal>
+    ensures { result ≡ bounds_answer (hit_bounds (tag_of tags.entry) least.now greatest.now (length scratch.old)) }
 {
     let limit = scratch_layout::entry_limit(scratch.len());
     match read_front(tags, least, scratch, limit) {
-        TextAnswer::Refused(refusal) => BoundsAnswer::Refused(joined_table::in_text(0, refusal)),
+        TextAnswer::Refused(refusal) => Err(joined_table::in_text(0, refusal)),
         TextAnswer::Read { kept, used } => {
             let l = Rows { used, kept };
             find_behind(tags, least, l, greatest, scratch, limit)

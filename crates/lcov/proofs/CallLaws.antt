@@ -1,4 +1,5 @@
 -- The calls: what is refused, and what is printed. Assumes nothing.
+use Rattle.std.specs.Prelude.{Result, Ok, Err}
 use Prim.Native.Nat.{ℕ, ◌+◌, ◌*◌, ◌/◌, ◌≤◌, ◌<◌, min}
 use native.Mathlib.Omega.{arith}
 use mathlib.Core.Path.{◌≡◌, refl, sym, ap, subst, ◌∙◌}
@@ -8,16 +9,12 @@ use lib.ListN.{length, take, drop, take-append-drop}
 use Rattle.model.specs.declared.Kind.{Kind}
 use Rattle.model.specs.declared.Fault.{Fault}
 use Rattle.model.specs.declared.Fault.TheVariants.{MalformedRanges}
-use Rattle.model.specs.declared.LineAnswer.{LineAnswer}
-use Rattle.model.specs.declared.LineAnswer.TheVariants as A
 use Rattle.model.specs.declared.Record.{Record as LentRecord}
 use Rattle.model.specs.declared.Mode.{Mode}
 use Rattle.model.specs.declared.Mode.TheVariants.{Checked}
 use Rattle.model.specs.declared.Bound.{Bound}
 use Rattle.model.specs.declared.Range.{Range}
 use Rattle.model.specs.declared.Refusal.{Refusal}
-use Rattle.model.specs.declared.WriteAnswer.{WriteAnswer}
-use Rattle.model.specs.declared.WriteAnswer.TheVariants as W
 use Rattle.model.specs.Bytes.{Bytes}
 use Rattle.model.specs.Limits.{max_entries}
 use Rattle.model.specs.Answer.{Answer, accepted, refused, unplaced, refuse, ◌>>=◌}
@@ -31,7 +28,7 @@ use Rattle.model.specs.Printing.{sections, print_sections, print_report}
 use Rattle.model.specs.Ranges.{well_formed_ranges}
 use Rattle.model.specs.Filter.{filter_section, filter_text}
 use Rattle.model.specs.Output.{written, output_after}
-use Rattle.model.specs.Calls.{line_values, LineCall, WriteCall, write_answer}
+use Rattle.model.specs.Calls.{call_values, ValueCall, WriteCall, length_answer}
 use Rattle.model.proofs.CallLaws.{write_called}
 use Rattle.model.specs.Gather.{entry_limit, read_and_print, gather_bundle, gather}
 use Rattle.table_section.specs.Sections.{entries_at}
@@ -45,9 +42,8 @@ use Rattle.scratch_layout.specs.Layout.{index_at, spare_at}
 use Rattle.joined_table.specs.declared.Gathered.{Gathered}
 use Rattle.joined_table.specs.declared.Gathered.TheVariants as G
 use Rattle.joined_table.specs.Gathering.{seen_bundle, HeldBundle, BundleGathered}
-use Rattle.model_bounds.specs.declared.BoundsAnswer.{BoundsAnswer}
-use Rattle.model_bounds.specs.declared.BoundsAnswer.TheVariants as B
-use Rattle.model_bounds.specs.Bounds.{Bounds, bounds_answer}
+use Rattle.model_bounds.specs.declared.Bounds.{Bounds}
+use Rattle.model_bounds.specs.Bounds.{call_answer}
 use Rattle.text_choice.specs.Revisions.{gather_highest, gather_revisions}
 use Rattle.lcov.specs.Printed.{printed_by}
 use Rattle.lcov.specs.Demand.{refused_tags}
@@ -56,17 +52,17 @@ use Rattle.joined_table.proofs.OneLaws.{read_table}
 -- ---- answers
 
 -- what a call hands back and leaves in the output, as its answer says
-abbrev Told : Answer Bytes → Bytes → Bytes → WriteAnswer → Type 0
-Told answer out out' r = (r ≡ write_answer answer) × (out' ≡ output_after answer out)
+abbrev Told : Answer Bytes → Bytes → Bytes → Result ℕ Refusal → Type 0
+Told answer out out' r = (r ≡ length_answer answer) × (out' ≡ output_after answer out)
 
-told_refused : (answer : Answer Bytes) (r : Refusal) (out : Bytes) → refused r ≡ answer → Told answer out out (W.Refused r)
-unfolding write_answer output_after
+told_refused : (answer : Answer Bytes) (r : Refusal) (out : Bytes) → refused r ≡ answer → Told answer out out (Err r)
+unfolding length_answer output_after
 told_refused answer r out is = rw (← is) (refl, refl)
 
-told_as : (a b : Answer Bytes) (out out' : Bytes) (r : WriteAnswer) → a ≡ b → Told a out out' r → Told b out out' r
+told_as : (a b : Answer Bytes) (out out' : Bytes) (r : Result ℕ Refusal) → a ≡ b → Told a out out' r → Told b out out' r
 told_as a b out out' r e t = rw e at t
 
-pub called : {answer : Answer Bytes} {out out' : Bytes} {r : WriteAnswer} → Told answer out out' r → WriteCall answer out out' r
+pub called : {answer : Answer Bytes} {out out' : Bytes} {r : Result ℕ Refusal} → Told answer out out' r → WriteCall answer out out' r
 called {answer} {out} {out'} {r} t = write_called answer out out' r t.0 t.1
 
 -- a table can be printed: it is in place, and behind its index there is room to sort functions
@@ -87,7 +83,7 @@ module _ (made : Answer Report) (bundle : Bytes) (words : ℕ) (ws : List ℕ) (
   pub gathered-held : HeldBundle bundle ws (entry_limit (length ws)) got
   gathered-held = rw long g.held
 
-  pub gathered_called : (print : Report → Bytes) (out out' : Bytes) (r : WriteAnswer) (answer : Answer Bytes) → answer ≡ printed_by print made (length out)
+  pub gathered_called : (print : Report → Bytes) (out out' : Bytes) (r : Result ℕ Refusal) (answer : Answer Bytes) → answer ≡ printed_by print made (length out)
       → WriteCall (printed_by print (seen_bundle bundle ws (entry_limit (length ws)) got) (length out)) out out' r → WriteCall answer out out' r
   gathered_called print out out' r answer means c =
       let seen : seen_bundle bundle ws (entry_limit (length ws)) got ≡ made = rw long g.is in
@@ -112,7 +108,7 @@ module _ (print : Report → Bytes) (bundle : Bytes) (ws : List ℕ) (got : Gath
   abbrev printing : Answer Bytes
   printing = printed_by print (seen_bundle bundle ws (entry_limit (length ws)) got) (length out)
 
-  pub joined-refused : (r : Refusal) → got ≡ G.Refused r → Told printing out out (W.Refused r)
+  pub joined-refused : (r : Refusal) → got ≡ G.Refused r → Told printing out out (Err r)
   joined-refused r e = told_refused printing r out (rw e)
 
   module _ (n : ℕ) (e : got ≡ G.Entries n) (limit : ℕ) (is : limit ≡ entry_limit (length ws)) (index : ℕ) (at-index : index ≡ index_at limit) where
@@ -126,7 +122,7 @@ module _ (print : Report → Bytes) (bundle : Bytes) (ws : List ℕ) (got : Gath
     joined_ready spare at-spare =
         ready bundle ws (length ws) index spare limit n n is refl at-index at-spare joined-table.0 (omega (arith, held-table.1)) (omega (arith, held-table.1))
 
-    pub joined-printed : (out' : Bytes) (r : WriteAnswer) → Told (written (length out) (print (entries_at bundle ws index n))) out out' r → Told printing out out' r
+    pub joined-printed : (out' : Bytes) (r : Result ℕ Refusal) → Told (written (length out) (print (entries_at bundle ws index n))) out out' r → Told printing out out' r
     joined-printed out' r t = told_as (written (length out) (print (entries_at bundle ws index n))) printing out out' r (rw (e, at-index, is)) t
 
 -- ---- one text
@@ -148,12 +144,12 @@ module _ (tag : Kind → Bytes) (text : Bytes) (words limit : ℕ) (is : limit �
       ready text ws words index spare limit used kept is long at-index at-spare (read_table tag text ws index limit 0 kept used (rw e at t)) held.1 held.2
 
   module _ (print : Report → Bytes) (out : Bytes) (answer : Answer Bytes) (means : answer ≡ read_then tag print text words out) where
-    pub reading_refused : (r : Refusal) → got ≡ T.Refused r → Told answer out out (W.Refused r)
+    pub reading_refused : (r : Refusal) → got ≡ T.Refused r → Told answer out out (Err r)
     reading_refused r e =
         let read : refused r ≡ read_text tag limit text = rw e at t.is in
         told_refused answer r out (sym (means ∙ rw (← is, ← read)))
 
-    pub reading_printed : (kept used : ℕ) → got ≡ T.Read kept used → (out' : Bytes) (r : WriteAnswer)
+    pub reading_printed : (kept used : ℕ) → got ≡ T.Read kept used → (out' : Bytes) (r : Result ℕ Refusal)
         → Told (written (length out) (print (entries_at text ws index kept))) out out' r → Told answer out out' r
     reading_printed kept used e out' r h =
         let read : accepted (entries_at text ws index kept) ≡ read_text tag limit text = rw e at t.is in
@@ -169,7 +165,7 @@ module _ (tag : Kind → Bytes) (bound : Bound) (text : Bytes) (slice : List Ran
   filter_means well = rw well
 
   pub filter_bad : (r : Refusal) → well_formed_ranges slice used ≡ false → r ≡ unplaced MalformedRanges
-      → Told (filter_text tag bound text slice used words (length out)) out out (W.Refused r)
+      → Told (filter_text tag bound text slice used words (length out)) out out (Err r)
   unfolding filter_text
   filter_bad r bad e = told_refused (filter_text tag bound text slice used words (length out)) r out (rw (bad, e))
 
@@ -182,31 +178,31 @@ module _ (table out : Bytes) (got : Loading) (l : LoadedAs table got) where
   pub tags-are : got ≡ Loaded → are_tags table ≡ true
   tags-are e = (loaded e).are
 
-  pub tags-refused : (call : (Kind → Bytes) → Answer Bytes) (fault : Fault) (r : WriteAnswer) → got ≡ Refused fault → r ≡ refused_tags fault → WriteCall (tagged table call) out out r
+  pub tags-refused : (call : (Kind → Bytes) → Answer Bytes) (fault : Fault) (r : Result ℕ Refusal) → got ≡ Refused fault → r ≡ refused_tags fault → WriteCall (tagged table call) out out r
   tags-refused call fault r e q =
       let no-tags : load_tags table ≡ refuse fault = rw e at l in
       rw q (called (told_refused (tagged table call) (unplaced fault) out (rw no-tags)))
 
-  pub tags_called : (call : (Kind → Bytes) → Answer Bytes) (out' : Bytes) (r : WriteAnswer) → got ≡ Loaded → WriteCall (call (tags_of table)) out out' r → WriteCall (tagged table call) out out' r
+  pub tags_called : (call : (Kind → Bytes) → Answer Bytes) (out' : Bytes) (r : Result ℕ Refusal) → got ≡ Loaded → WriteCall (call (tags_of table)) out out' r → WriteCall (tagged table call) out out' r
   tags_called call out' r e c = rw (loaded e).tags c
 
 -- the same for a line that is read
 module _ (table : Bytes) (got : Loading) (l : LoadedAs table got) where
-  pub line_refused : (call : (Kind → Bytes) → Answer LentRecord) (fault : Fault) (r : Refusal) → got ≡ Refused fault → r ≡ unplaced fault → LineCall (tagged table call) (A.Refused r)
-  unfolding line_values
+  pub line_refused : (call : (Kind → Bytes) → Answer LentRecord) (fault : Fault) (r : Refusal) → got ≡ Refused fault → r ≡ unplaced fault → ValueCall (tagged table call) (Err r)
+  unfolding call_values
   line_refused call fault r e q =
       let no-tags : load_tags table ≡ refuse fault = rw e at l in
       rw (no-tags, q)
 
-  pub line_called : (call : (Kind → Bytes) → Answer LentRecord) (r : LineAnswer) → got ≡ Loaded → LineCall (call (tags_of table)) r → LineCall (tagged table call) r
-  line_called call r e c = let τ : LoadedTags table = rw e at l in rw τ.tags c
+  pub value_called : (call : (Kind → Bytes) → Answer LentRecord) (r : Result LentRecord Refusal) → got ≡ Loaded → ValueCall (call (tags_of table)) r → ValueCall (tagged table call) r
+  value_called call r e c = let τ : LoadedTags table = rw e at l in rw τ.tags c
 
   -- and for bounds
   pub bounds_untagged : (call : (Kind → Bytes) → Answer Bounds) (fault : Fault) (r : Refusal) → got ≡ Refused fault → r ≡ unplaced fault
-      → B.Refused r ≡ bounds_answer (tagged table call)
+      → Err r ≡ call_answer (tagged table call)
   bounds_untagged call fault r e q =
       let no-tags : load_tags table ≡ refuse fault = rw e at l in
       rw (no-tags, q)
 
-  pub bounds_called : (call : (Kind → Bytes) → Answer Bounds) (r : BoundsAnswer) → got ≡ Loaded → r ≡ bounds_answer (call (tags_of table)) → r ≡ bounds_answer (tagged table call)
+  pub bounds_called : (call : (Kind → Bytes) → Answer Bounds) (r : Result Bounds Refusal) → got ≡ Loaded → r ≡ call_answer (call (tags_of table)) → r ≡ call_answer (tagged table call)
   bounds_called call r e c = let τ : LoadedTags table = rw e at l in rw τ.tags c

@@ -1,4 +1,5 @@
 -- Demand 3 holds of the calls: DEMAND 3 is `demand3_tables` at the end. Assumes nothing.
+use Rattle.std.specs.Prelude.{Result, Ok, Err}
 use Prim.Native.Nat.{ℕ}
 use mathlib.Core.Path.{◌≡◌, refl, sym, ap, subst, ◌∙◌}
 use mathlib.Core.List.{List, ◌++◌}
@@ -9,15 +10,13 @@ use Rattle.ordmap.proofs.Results.{impossible, accepted_inj, value-accepted}
 use Rattle.model.specs.declared.Kind.{Kind}
 use Rattle.model.specs.declared.Mode.TheVariants.{Checked}
 use Rattle.model.specs.declared.Refusal.{Refusal}
-use Rattle.model.specs.declared.WriteAnswer.{WriteAnswer}
-use Rattle.model.specs.declared.WriteAnswer.TheVariants as Write
 use Rattle.model.specs.Bytes.{Bytes}
 use Rattle.model.specs.Answer.{Answer, accepted, refused}
 use Rattle.model.specs.Report.{Report}
 use Rattle.model.specs.Printing.{print_report}
 use Rattle.model.specs.Output.{output_after}
-use Rattle.model.specs.Calls.{WriteCall, write_answer}
-use Rattle.model.proofs.CallLaws.{write_exact}
+use Rattle.model.specs.Calls.{WriteCall, length_answer}
+use Rattle.model.proofs.CallLaws.{length_exact}
 use Rattle.model.specs.Gather.{read_and_print, gather}
 use Rattle.model.specs.Joined.{joined_report}
 use Rattle.model.specs.Tags.{Lawful}
@@ -29,49 +28,49 @@ use Rattle.lcov.specs.Demand.{GatherCall, GatherTagged, IsWritten, Wrote, Accept
 
 -- ---- what was written is the answer
 
-module _ (out out' : Bytes) (r : WriteAnswer) where
+module _ (out out' : Bytes) (r : Result ℕ Refusal) where
   pub wrote_of : (g : Answer Bytes) → WriteCall g out out' r → (bytes : Bytes) → g ≡ accepted bytes → Wrote bytes out out' r
-  unfolding write_answer output_after
-  wrote_of g c bytes e = record { number = write_exact g r c.returns ∙ ap write_answer e; front = c.leaves ∙ ap (λ (a : Answer Bytes). output_after a out) e }
+  unfolding length_answer output_after
+  wrote_of g c bytes e = record { number = length_exact g r c.returns ∙ ap length_answer e; front = c.leaves ∙ ap (λ (a : Answer Bytes). output_after a out) e }
 
   pub of_wrote : (g : Answer Bytes) → WriteCall g out out' r → (bytes : Bytes) → Wrote bytes out out' r → g ≡ accepted bytes
-  unfolding write_answer output_after
+  unfolding length_answer output_after
   of_wrote (accepted bs) c bytes w =
-      let both : Write.Written (length bs) ≡ Write.Written (length bytes) = sym (write_exact (accepted bs) r c.returns) ∙ w.number in
+      let both : Ok (length bs) ≡ Ok (length bytes) = sym (length_exact (accepted bs) r c.returns) ∙ w.number in
       let long : length bs ≡ length bytes = written_inj both in
       let fronts : bs ++ drop (length bs) out ≡ bytes ++ drop (length bytes) out = sym c.leaves ∙ w.front in
       let same : bs ≡ bytes =
       sym (take_at bs (drop (length bs) out) (length bytes) long) ∙ ap (take (length bytes)) fronts ∙ take_at bytes (drop (length bytes) out) (length bytes) refl in
       ap (λ (l : Bytes). accepted l) same
     where
-      written_inj : {m n : ℕ} → Write.Written m ≡ Write.Written n → m ≡ n
+      written_inj : {m n : ℕ} → Ok m ≡ Ok n → m ≡ n
       written_inj p = cc
-  of_wrote (refused q) c bytes w = absurd (clash (sym w.number ∙ write_exact (refused q) r c.returns))
+  of_wrote (refused q) c bytes w = absurd (clash (sym w.number ∙ length_exact (refused q) r c.returns))
     where
-      clash : {n : ℕ} {q : Refusal} → Write.Written n ≡ Write.Refused q → ⊥
+      clash : {n : ℕ} {q : Refusal} → Ok n ≡ Err q → ⊥
       clash p = impossible cc
 
   pub written-accepted : (g : Answer Bytes) → WriteCall g out out' r → IsWritten r → IsAccepted g
-  unfolding write_answer
+  unfolding length_answer
   written-accepted (accepted bs) c i = tt
-  written-accepted (refused q) c i = rw (write_exact (refused q) r c.returns) at i
+  written-accepted (refused q) c i = rw (length_exact (refused q) r c.returns) at i
 
   pub accepted-written : (g : Answer Bytes) → WriteCall g out out' r → IsAccepted g → IsWritten r
-  unfolding write_answer
-  accepted-written (accepted bs) c i = rw (write_exact (accepted bs) r c.returns) tt
+  unfolding length_answer
+  accepted-written (accepted bs) c i = rw (length_exact (accepted bs) r c.returns) tt
   accepted-written (refused q) c i = absurd i
 
-  pub refused-stays : (g : Answer Bytes) → WriteCall g out out' r → (q : Refusal) → r ≡ Write.Refused q → out' ≡ out
-  unfolding write_answer output_after
-  refused-stays (accepted bs) c q e = absurd (clash (sym (write_exact (accepted bs) r c.returns) ∙ e))
+  pub refused-stays : (g : Answer Bytes) → WriteCall g out out' r → (q : Refusal) → r ≡ Err q → out' ≡ out
+  unfolding length_answer output_after
+  refused-stays (accepted bs) c q e = absurd (clash (sym (length_exact (accepted bs) r c.returns) ∙ e))
     where
-      clash : {n : ℕ} {q : Refusal} → Write.Written n ≡ Write.Refused q → ⊥
+      clash : {n : ℕ} {q : Refusal} → Ok n ≡ Err q → ⊥
       clash p = impossible cc
   refused-stays (refused p) c q e = c.leaves
 
 -- ---- one call of the gather
 
-pub accepts_and_writes : (tag : Kind → Bytes) → Lawful tag → (bundle : Bytes) (words : ℕ) (out out' : Bytes) (r : WriteAnswer) → GatherCall tag bundle words out out' r
+pub accepts_and_writes : (tag : Kind → Bytes) → Lawful tag → (bundle : Bytes) (words : ℕ) (out out' : Bytes) (r : Result ℕ Refusal) → GatherCall tag bundle words out out' r
     → AcceptsAndWrites tag bundle words out out' r
 accepts_and_writes tag L bundle words out out' r c =
     let d = demand3 tag L in
@@ -83,7 +82,7 @@ accepts_and_writes tag L bundle words out out' r c =
       untouched = λ q e. refused-stays out out' r g c q e;
     }
 
-pub gathered_demand : (tag : Kind → Bytes) → Lawful tag → (bundle : Bytes) (words : ℕ) (out out' : Bytes) (r : WriteAnswer) → GatherCall tag bundle words out out' r
+pub gathered_demand : (tag : Kind → Bytes) → Lawful tag → (bundle : Bytes) (words : ℕ) (out out' : Bytes) (r : Result ℕ Refusal) → GatherCall tag bundle words out out' r
     → GatherCall tag bundle words out out' r × AcceptsAndWrites tag bundle words out out' r
 gathered_demand tag L bundle words out out' r c = (c, accepts_and_writes tag L bundle words out out' r c)
 
@@ -125,7 +124,7 @@ demand3_tables =
     }
 
 -- what one such call promises
-pub tagged_demand : (table bundle : Bytes) (words : ℕ) (out out' : Bytes) (r : WriteAnswer) → GatherTagged table bundle words out out' r
+pub tagged_demand : (table bundle : Bytes) (words : ℕ) (out out' : Bytes) (r : Result ℕ Refusal) → GatherTagged table bundle words out out' r
     → GatherTagged table bundle words out out' r × ((tag : Kind → Bytes) → load_tags table ≡ accepted tag → AcceptsAndWrites tag bundle words out out' r)
 tagged_demand table bundle words out out' r c =
     (c, λ tag loads. accepts_and_writes tag (loads_lawful table tag loads) bundle words out out' r ((demand3_tables.gathers table tag loads bundle words out out' r).0 c))

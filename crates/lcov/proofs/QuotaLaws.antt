@@ -1,4 +1,5 @@
 -- The calls with quotas: what the joint gather made is printed, and the marks are left as the definition says. Assumes nothing.
+use Rattle.model.specs.declared.Refusal.{Refusal}
 use Prim.Native.Nat.{ℕ}
 use mathlib.Core.Path.{◌≡◌, refl, ap, ◌∙◌}
 use mathlib.Core.Bool.{Bool, true, false}
@@ -8,16 +9,14 @@ use Rattle.model.specs.declared.Kind.{Kind}
 use Rattle.model.specs.declared.Fault.{Fault}
 use Rattle.model.specs.declared.Fault.TheVariants.{MalformedBundle, MalformedLabs}
 use Rattle.model.specs.declared.Mode.TheVariants.{Checked}
-use Rattle.model.specs.declared.WriteAnswer.{WriteAnswer}
-use Rattle.model.specs.declared.WriteAnswer.TheVariants as W
-use Rattle.std.specs.Prelude.{if◌then◌else◌}
+use Rattle.std.specs.Prelude.{if◌then◌else◌, Result, Ok, Err}
 use Rattle.model.specs.Bytes.{Bytes}
 use Rattle.model.specs.Answer.{Answer, accepted, refused, refuse, unplaced, ◌>>=◌}
 use Rattle.model.specs.TagTable.{load_tags, tagged, tags_of}
 use Rattle.model.specs.Report.{Report}
 use Rattle.model.specs.Printing.{print_report}
 use Rattle.model.specs.Output.{written, output_after}
-use Rattle.model.specs.Calls.{WriteCall, write_answer}
+use Rattle.model.specs.Calls.{WriteCall, length_answer}
 use Rattle.model.specs.Bundle.{well_formed}
 use Rattle.model.specs.Gather.{entry_limit, gather_texts, gather_many}
 use Rattle.model.proofs.CallLaws.{write_called}
@@ -48,7 +47,7 @@ quotas_means tag bundle labs quotas words room = go (well_formed bundle) (are_la
     go false c = refl
 
 pub quotas_printed : (tag : Kind → Bytes) (bundle : Bytes) (labs quotas : List ℕ) (words : ℕ) (ws marks marks' : List ℕ) (got : Gathered)
-    → LabsGathered tag bundle labs quotas words ws marks marks' got → length ws ≡ words → (out out' : Bytes) (r : WriteAnswer)
+    → LabsGathered tag bundle labs quotas words ws marks marks' got → length ws ≡ words → (out out' : Bytes) (r : Result ℕ Refusal)
     → WriteCall (printed_by (print_report tag) (seen_bundle bundle ws (entry_limit (length ws)) got) (length out)) out out' r
     → QuotasCall (gather_quotas tag bundle labs quotas words (length out)) out out' marks marks' r
 quotas_printed tag bundle labs quotas words ws marks marks' got g long out out' r c =
@@ -61,12 +60,12 @@ quotas_printed tag bundle labs quotas words ws marks marks' got g long out out' 
 -- ---- a lent table of tags
 
 module _ (table out : Bytes) (got : Loading) (l : LoadedAs table got) (call : (Kind → Bytes) → Answer LabsAnswer) (marks : List ℕ) where
-  pub quotas_refused : (fault : Fault) (r : WriteAnswer) → got ≡ Refused fault → r ≡ refused_tags fault → QuotasCall (tagged table call) out out marks marks r
-  unfolding marks_after write_answer output_after
+  pub quotas_refused : (fault : Fault) (r : Result ℕ Refusal) → got ≡ Refused fault → r ≡ refused_tags fault → QuotasCall (tagged table call) out out marks marks r
+  unfolding marks_after length_answer output_after
   quotas_refused fault r e q =
       let no-tags : load_tags table ≡ refuse fault = rw e at l in
-      rw (q, no-tags) (record { call = write_called (refused (unplaced fault)) out out (W.Refused (unplaced fault)) refl refl; marked = refl })
+      rw (q, no-tags) (record { call = write_called (refused (unplaced fault)) out out (Err (unplaced fault)) refl refl; marked = refl })
 
-  pub quotas_called : (out' : Bytes) (marks' : List ℕ) (r : WriteAnswer) → got ≡ Loaded → QuotasCall (call (tags_of table)) out out' marks marks' r
+  pub quotas_called : (out' : Bytes) (marks' : List ℕ) (r : Result ℕ Refusal) → got ≡ Loaded → QuotasCall (call (tags_of table)) out out' marks marks' r
       → QuotasCall (tagged table call) out out' marks marks' r
   quotas_called out' marks' r e c = let τ : LoadedTags table = rw e at l in rw τ.tags c

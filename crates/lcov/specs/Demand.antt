@@ -1,13 +1,11 @@
 -- Demand 3 of the request for what the calls `gather_checked` and `read_text` return and leave in the lent output: one record says all of
 -- it. `Acceptable` and `joined_report` are those of model/specs. Assumes nothing.
-use Rattle.std.specs.Prelude.{ℕ, ◌≤◌, ◌≡◌, ◌↔◌, true, length, drop}
+use Rattle.std.specs.Prelude.{ℕ, ◌≤◌, ◌≡◌, ◌↔◌, true, length, drop, Result, Ok, Err}
 use mathlib.Core.List.{List, ◌++◌, Memᴰ as Member}
 use Rattle.model.specs.declared.Kind.{Kind}
 use Rattle.model.specs.declared.Fault.{Fault}
 use Rattle.model.specs.declared.Mode.TheVariants.{Checked}
 use Rattle.model.specs.declared.Refusal.{Refusal}
-use Rattle.model.specs.declared.WriteAnswer.{WriteAnswer}
-use Rattle.model.specs.declared.WriteAnswer.TheVariants as Write
 use Rattle.model.specs.Bytes.{Bytes}
 use Rattle.model.specs.Answer.{accepted, unplaced}
 use Rattle.model.specs.Tags.{default_tag}
@@ -25,45 +23,45 @@ use Rattle.model.specs.Demand.{Acceptable}
 -- ---- calls
 
 -- a call of `gather_checked` with so many words of scratch, and one of `read_text`: the very promises of these calls
-abbrev pub GatherCall : (tag : Kind → Bytes) → Bytes → ℕ → Bytes → Bytes → WriteAnswer → Type 0
+abbrev pub GatherCall : (tag : Kind → Bytes) → Bytes → ℕ → Bytes → Bytes → Result ℕ Refusal → Type 0
 GatherCall tag bundle words out out' r = WriteCall (gather tag Checked bundle words (length out)) out out' r
 
-abbrev pub ReadCall : (tag : Kind → Bytes) → Bytes → ℕ → Bytes → Bytes → WriteAnswer → Type 0
+abbrev pub ReadCall : (tag : Kind → Bytes) → Bytes → ℕ → Bytes → Bytes → Result ℕ Refusal → Type 0
 ReadCall tag text words out out' r = WriteCall (read_and_print tag text words (length out)) out out' r
 
 -- calls of `gather_checked_tagged` and `read_text_tagged`, which are lent a table of tags
-abbrev pub GatherTagged : Bytes → Bytes → ℕ → Bytes → Bytes → WriteAnswer → Type 0
+abbrev pub GatherTagged : Bytes → Bytes → ℕ → Bytes → Bytes → Result ℕ Refusal → Type 0
 GatherTagged table bundle words out out' r = WriteCall (tagged table (λ tag. gather tag Checked bundle words (length out))) out out' r
 
-abbrev pub ReadTagged : Bytes → Bytes → ℕ → Bytes → Bytes → WriteAnswer → Type 0
+abbrev pub ReadTagged : Bytes → Bytes → ℕ → Bytes → Bytes → Result ℕ Refusal → Type 0
 ReadTagged table text words out out' r = WriteCall (tagged table (λ tag. read_and_print tag text words (length out))) out out' r
 
 -- what such a call returns where the table does not load
-abbrev pub refused_tags : Fault → WriteAnswer
-refused_tags fault = Write.Refused (unplaced fault)
+abbrev pub refused_tags : Fault → Result ℕ Refusal
+refused_tags fault = Err (unplaced fault)
 
 -- "Accepted means answered with the written length"
-abbrev pub IsWritten : WriteAnswer → Type 0
-IsWritten (Write.Written n) = Unit {0}
-IsWritten (Write.Refused r) = ⊥
+abbrev pub IsWritten : Result ℕ Refusal → Type 0
+IsWritten (Ok n) = Unit {0}
+IsWritten (Err r) = ⊥
 
 -- exactly these bytes were written: their number is handed back, they are the output's front, and the bytes past them stay
-pub record Wrote (bytes out out' : Bytes) (r : WriteAnswer) : Type 0 where
-  pub number : r ≡ Write.Written (length bytes)
+pub record Wrote (bytes out out' : Bytes) (r : Result ℕ Refusal) : Type 0 where
+  pub number : r ≡ Ok (length bytes)
   pub front : out' ≡ bytes ++ drop (length bytes) out
 
 -- ---- the demand
 
 -- "The checked gather accepts it exactly when [..] It then writes exactly the joined report so printed"
-pub record AcceptsAndWrites (tag : Kind → Bytes) (bundle : Bytes) (words : ℕ) (out out' : Bytes) (r : WriteAnswer) : Type 0 where
+pub record AcceptsAndWrites (tag : Kind → Bytes) (bundle : Bytes) (words : ℕ) (out out' : Bytes) (r : Result ℕ Refusal) : Type 0 where
   pub accepts : IsWritten r ↔ ((reports : List Report) × Acceptable tag bundle words (length out) reports)
   pub writes : (reports : List Report) → Acceptable tag bundle words (length out) reports
       → Wrote (print_report tag (joined_report reports)) out out' r
   -- what is not accepted leaves the output
-  pub untouched : (q : Refusal) → r ≡ Write.Refused q → out' ≡ out
+  pub untouched : (q : Refusal) → r ≡ Err q → out' ≡ out
 
 pub record Demand3Calls (tag : Kind → Bytes) : Type 0 where
-  pub gathers : (bundle : Bytes) (words : ℕ) (out out' : Bytes) (r : WriteAnswer) → GatherCall tag bundle words out out' r
+  pub gathers : (bundle : Bytes) (words : ℕ) (out out' : Bytes) (r : Result ℕ Refusal) → GatherCall tag bundle words out out' r
       → AcceptsAndWrites tag bundle words out out' r
   -- "every entry that some report read has and no other": a report read has a key at most once, and so has the joined report, whose keys
   -- are those of all reports
@@ -74,9 +72,9 @@ pub record Demand3Calls (tag : Kind → Bytes) : Type 0 where
   pub values : (reports : List Report) (e : Entry) → Member e (joined_report reports) → e.item ≡ joined_item (items_at (entry_key e) reports)
   -- "Reading what it wrote, under the same entry limit and with room for as many bytes, is accepted and gives the same report and the
   -- same bytes."
-  pub reads_back : (bundle : Bytes) (words : ℕ) (out out' : Bytes) (r : WriteAnswer) → GatherCall tag bundle words out out' r
+  pub reads_back : (bundle : Bytes) (words : ℕ) (out out' : Bytes) (r : Result ℕ Refusal) → GatherCall tag bundle words out out' r
       → (reports : List Report) → Acceptable tag bundle words (length out) reports → (bytes : Bytes) → Wrote bytes out out' r
-      → (words₂ : ℕ) (out₂ out₂' : Bytes) (r₂ : WriteAnswer) → entry_limit words₂ ≡ entry_limit words → length bytes ≤ length out₂
+      → (words₂ : ℕ) (out₂ out₂' : Bytes) (r₂ : Result ℕ Refusal) → entry_limit words₂ ≡ entry_limit words → length bytes ≤ length out₂
       → ReadCall tag bytes words₂ out₂ out₂' r₂
       → (read_text tag (entry_limit words₂) bytes ≡ accepted (joined_report reports)) × Wrote bytes out₂ out₂' r₂
   -- "Where each section's path has one spelling, all orders, under the same entry limit and output length, are accepted alike and write
@@ -84,7 +82,7 @@ pub record Demand3Calls (tag : Kind → Bytes) : Type 0 where
   pub any_order : (a b : Bytes) → well_formed a ≡ true → well_formed b ≡ true → SameTexts (texts a) (texts b)
       → (words words₂ : ℕ) → entry_limit words₂ ≡ entry_limit words
       → ((reports : List Report) → read_all tag (entry_limit words) (texts a) ≡ accepted reports → one_spelling reports ≡ true)
-      → (out out' out₂ out₂' : Bytes) (r r₂ : WriteAnswer) → length out₂ ≡ length out
+      → (out out' out₂ out₂' : Bytes) (r r₂ : Result ℕ Refusal) → length out₂ ≡ length out
       → GatherCall tag a words out out' r → GatherCall tag b words₂ out₂ out₂' r₂
       → (bytes : Bytes) → Wrote bytes out out' r ↔ Wrote bytes out₂ out₂' r₂
 
@@ -94,6 +92,6 @@ pub record Demand3Tables : Type 0 where
   pub lent : (table : Bytes) (tag : Kind → Bytes) → load_tags table ≡ accepted tag → Demand3Calls tag
   -- a call that is lent such a table is a call under its tags
   pub gathers : (table : Bytes) (tag : Kind → Bytes) → load_tags table ≡ accepted tag
-      → (bundle : Bytes) (words : ℕ) (out out' : Bytes) (r : WriteAnswer) → GatherTagged table bundle words out out' r ↔ GatherCall tag bundle words out out' r
+      → (bundle : Bytes) (words : ℕ) (out out' : Bytes) (r : Result ℕ Refusal) → GatherTagged table bundle words out out' r ↔ GatherCall tag bundle words out out' r
   pub reads : (table : Bytes) (tag : Kind → Bytes) → load_tags table ≡ accepted tag
-      → (text : Bytes) (words : ℕ) (out out' : Bytes) (r : WriteAnswer) → ReadTagged table text words out out' r ↔ ReadCall tag text words out out' r
+      → (text : Bytes) (words : ℕ) (out out' : Bytes) (r : Result ℕ Refusal) → ReadTagged table text words out out' r ↔ ReadCall tag text words out out' r

@@ -11,12 +11,11 @@ use lib.ListN.{length, get_or, set, take, drop, replicate, length-set, length-ta
 use lib.Seq.{take_all, length-take-le, drop-cons, append_snoc, get_or-take, get_or-set_other, take-set-le, take-suc-set}
 use borrow.Author.Tests.{not-true, not-false, le-leb, lt-leb, lt-ltb, le-ltb, ltb-true, ltb-false}
 use Rattle.model.specs.declared.Range.{Range}
-use Rattle.std.specs.Prelude.{if◌then◌else◌}
+use Rattle.std.specs.Prelude.{if◌then◌else◌, Ok, Err}
 use Rattle.model.specs.declared.Fault.TheVariants.{RangesFull, MalformedRanges}
-use Rattle.model.specs.declared.InsertAnswer.TheVariants as Insert
 use Rattle.model.specs.Answer.{unplaced, accepted, refuse}
 use Rattle.model.specs.Ranges.{well_formed_ranges, join_into, insert_range, insert_call, slice_after}
-use Rattle.model.specs.Calls.{insert_answer}
+use Rattle.model.specs.Calls.{length_answer}
 use Rattle.ordmap.proofs.Results.{impossible}
 use Rattle.table.proofs.BinarySearch.{by-test}
 use Rattle.line_num_pairs.specs.Pairs.{pair}
@@ -335,7 +334,7 @@ module _ (slice : List Range) (used s e : ℕ) where
   F = scan_of slice used s e
 
   abbrev Called : Type 0
-  Called = (answer_of F used (length slice) ≡ insert_answer (insert_call slice used (pair s e))) × (rewritten (plan_of F used (length slice)) slice ≡ slice_after (insert_call slice used (pair s e)) slice)
+  Called = (answer_of F used (length slice) ≡ length_answer (insert_call slice used (pair s e))) × (rewritten (plan_of F used (length slice)) slice ≡ slice_after (insert_call slice used (pair s e)) slice)
 
   asked : (F.start ≡ s) × (F.end ≡ e)
   unfolding scan_of
@@ -345,8 +344,8 @@ module _ (slice : List Range) (used s e : ℕ) where
   unfolding rewritten after
   nothing_done = refl
 
-  called_ill : (leb used (length slice) && F.well) ≡ false → plan_by F 0 0 0 0 ≡ plan_of F used (length slice) → Insert.Refused (unplaced MalformedRanges) ≡ answer_of F used (length slice) → Called
-  unfolding insert_answer slice_after
+  called_ill : (leb used (length slice) && F.well) ≡ false → plan_by F 0 0 0 0 ≡ plan_of F used (length slice) → Err (unplaced MalformedRanges) ≡ answer_of F used (length slice) → Called
+  unfolding length_answer slice_after
   called_ill w plan answer =
       let c : insert_call slice used (pair s e) ≡ refuse MalformedRanges = call_ill slice used (pair s e) (sym (scan_formed slice used s e) ∙ w) in
       (sym answer ∙ rw c, ap (λ (p : Plan). rewritten p slice) (sym plan) ∙ nothing_done ∙ rw c)
@@ -365,7 +364,7 @@ module _ (slice : List Range) (used s e : ℕ) where
       formed = sym (scan_formed slice used s e) ∙ rw (le-leb used (length slice) i, not-false F.well t)
 
       called_dropped : F.end < F.start → Called
-      unfolding insert_answer slice_after insert_range
+      unfolding length_answer slice_after insert_range
       called_dropped d =
           let turned_round : e < s = omega (arith, asked.0, asked.1) in
           let long : length (take used slice) ≡ used = length-take-le used slice i in
@@ -396,7 +395,7 @@ module _ (slice : List Range) (used s e : ℕ) where
         long = ap length (sym same-range) ∙ joined_length P slice i F as_asked refl refl refl
 
         called_put : F.at < length slice → Called
-        unfolding insert_answer slice_after
+        unfolding length_answer slice_after
         called_put l =
             let c : insert_call slice used (pair s e) ≡ accepted (join_into (pair s e) (take used slice)) = call_fits slice used (pair s e) formed (join_into (pair s e) (take used slice)) joined (omega (arith, long)) in (
               sym (answer_put F used (length slice) i t right l) ∙ rw (c, long),
@@ -406,7 +405,7 @@ module _ (slice : List Range) (used s e : ℕ) where
             )
 
         called_full : length slice ≤ F.at → Called
-        unfolding insert_answer slice_after
+        unfolding length_answer slice_after
         called_full l =
             let c : insert_call slice used (pair s e) ≡ refuse RangesFull = call_full slice used (pair s e) formed (join_into (pair s e) (take used slice)) joined (omega (arith, long)) in (
               sym (answer_full F used (length slice) i t right l (unplaced RangesFull) refl) ∙ rw c,

@@ -1,5 +1,6 @@
 -- Laws of the pass over the ranges used: what each function answers, and that the pass answers a query. Assumes
 -- nothing.
+use Rattle.std.specs.Prelude.{Ok, Err}
 use Prim.Native.Nat.{ℕ, suc, ◌+◌, ◌≤◌, ◌<◌, min, max}
 use native.Mathlib.Omega.{arith}
 use native.Mathlib.Numerals.{add-one}
@@ -13,11 +14,10 @@ use borrow.Author.Tests.{not-true, not-false, le-leb, lt-leb, lt-ltb, le-ltb, lt
 use Rattle.model.specs.declared.Range.{Range}
 use Rattle.model.specs.declared.Refusal.{Refusal}
 use Rattle.model.specs.declared.Fault.TheVariants.{MalformedRanges}
-use Rattle.model.specs.declared.QueryAnswer.TheVariants as Query
 use Rattle.model.specs.Lists.{any}
 use Rattle.model.specs.Answer.{unplaced}
 use Rattle.model.specs.Ranges.{ascending, well_formed_ranges, holds, query_call}
-use Rattle.model.specs.Calls.{query_answer}
+use Rattle.model.specs.Calls.{call_answer}
 use Rattle.line_num.specs.declared.Scan.{Scan}
 use Rattle.line_num.specs.Scans.{scan_start, passes_by, stays_by, scanned_by, scan_from, scan_of, scan_answer}
 
@@ -179,15 +179,15 @@ query_told slice used s e = rw (scan_well (scan_start s e) 0 (take used slice), 
 
 -- the answer's cases
 module _ (f : Scan) (used len : ℕ) where
-  pub short_answer : len < used → (r : Refusal) → r ≡ unplaced MalformedRanges → Query.Refused r ≡ query_answer (scan_answer f used len)
-  unfolding scan_answer query_answer
+  pub short_answer : len < used → (r : Refusal) → r ≡ unplaced MalformedRanges → Err r ≡ call_answer (scan_answer f used len)
+  unfolding scan_answer call_answer
   short_answer h r m = rw (lt-leb used len h, m)
 
   module _ (h : used ≤ len) where
-    pub ill_answer : not f.well ≡ true → (r : Refusal) → r ≡ unplaced MalformedRanges → Query.Refused r ≡ query_answer (scan_answer f used len)
-    unfolding scan_answer query_answer
+    pub ill_answer : not f.well ≡ true → (r : Refusal) → r ≡ unplaced MalformedRanges → Err r ≡ call_answer (scan_answer f used len)
+    unfolding scan_answer call_answer
     ill_answer t r m = rw (le-leb used len h, not-true f.well t, m)
 
-    pub held_answer : not f.well ≡ false → Query.Holds f.held ≡ query_answer (scan_answer f used len)
-    unfolding scan_answer query_answer
+    pub held_answer : not f.well ≡ false → Ok f.held ≡ call_answer (scan_answer f used len)
+    unfolding scan_answer call_answer
     held_answer t = rw (le-leb used len h, not-false f.well t)

@@ -1,4 +1,5 @@
 -- Laws of an insert's steps: what each function answers. Assumes nothing.
+use Rattle.std.specs.Prelude.{Ok, Err}
 use Prim.Native.Nat.{ℕ, ◌+◌, ◌-◌, ◌≤◌, ◌<◌, min}
 use native.Mathlib.Omega.{arith}
 use mathlib.Core.Path.{◌≡◌, refl, sym, ap, ◌∙◌}
@@ -11,7 +12,6 @@ use borrow.Author.Tests.{not-true, not-false, le-leb, lt-leb, lt-ltb, le-ltb, lt
 use Rattle.model.specs.declared.Range.{Range}
 use Rattle.model.specs.declared.Refusal.{Refusal}
 use Rattle.model.specs.declared.Fault.TheVariants.{RangesFull, MalformedRanges}
-use Rattle.model.specs.declared.InsertAnswer.TheVariants as Insert
 use Rattle.model.specs.Answer.{unplaced}
 use Rattle.line_num_pairs.specs.Pairs.{pair}
 use Rattle.line_num.specs.declared.Scan.{Scan}
@@ -27,7 +27,7 @@ module _ (f : Scan) (used len : ℕ) where
   unfolding plan_of
   plan_short h p is = rw (lt-leb used len h, is)
 
-  pub answer_short : len < used → (r : Refusal) → r ≡ unplaced MalformedRanges → Insert.Refused r ≡ answer_of f used len
+  pub answer_short : len < used → (r : Refusal) → r ≡ unplaced MalformedRanges → Err r ≡ answer_of f used len
   unfolding answer_of
   answer_short h r m = rw (lt-leb used len h, m)
 
@@ -36,7 +36,7 @@ module _ (f : Scan) (used len : ℕ) where
     unfolding plan_of
     plan_ill t p is = rw (le-leb used len h, not-true f.well t, is)
 
-    pub answer_ill : not f.well ≡ true → (r : Refusal) → r ≡ unplaced MalformedRanges → Insert.Refused r ≡ answer_of f used len
+    pub answer_ill : not f.well ≡ true → (r : Refusal) → r ≡ unplaced MalformedRanges → Err r ≡ answer_of f used len
     unfolding answer_of
     answer_ill t r m = rw (le-leb used len h, not-true f.well t, m)
 
@@ -45,7 +45,7 @@ module _ (f : Scan) (used len : ℕ) where
       unfolding plan_of
       plan_dropped l p is = rw (le-leb used len h, not-false f.well t, lt-ltb f.end f.start l, is)
 
-      pub answer_dropped : f.end < f.start → Insert.Used used ≡ answer_of f used len
+      pub answer_dropped : f.end < f.start → Ok used ≡ answer_of f used len
       unfolding answer_of
       answer_dropped l = rw (le-leb used len h, not-false f.well t, lt-ltb f.end f.start l)
 
@@ -54,7 +54,7 @@ module _ (f : Scan) (used len : ℕ) where
         unfolding plan_of
         plan_put l p is = rw (le-leb used len h, not-false f.well t, le-ltb f.end f.start right, lt-ltb f.at len l, is)
 
-        pub answer_put : f.at < len → Insert.Used (f.at + 1) ≡ answer_of f used len
+        pub answer_put : f.at < len → Ok (f.at + 1) ≡ answer_of f used len
         unfolding answer_of
         answer_put l = rw (le-leb used len h, not-false f.well t, le-ltb f.end f.start right, lt-ltb f.at len l)
 
@@ -62,7 +62,7 @@ module _ (f : Scan) (used len : ℕ) where
         unfolding plan_of
         plan_full l p is = rw (le-leb used len h, not-false f.well t, le-ltb f.end f.start right, le-ltb f.at len l, is)
 
-        pub answer_full : len ≤ f.at → (r : Refusal) → r ≡ unplaced RangesFull → Insert.Refused r ≡ answer_of f used len
+        pub answer_full : len ≤ f.at → (r : Refusal) → r ≡ unplaced RangesFull → Err r ≡ answer_of f used len
         unfolding answer_of
         answer_full l r m = rw (le-leb used len h, not-false f.well t, le-ltb f.end f.start right, le-ltb f.at len l, m)
 

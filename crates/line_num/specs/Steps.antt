@@ -1,10 +1,9 @@
 -- An insert step by step: the ranges used are read one after the other and written back with the new range among them;
 -- then the positions behind are filled. Assumes nothing.
-use Rattle.std.specs.Prelude.{ℕ, zero, suc, ◌+◌, ◌-◌, ◌≤◌, min, ◌&&◌, List, leb, ltb, get_or, set, if◌then◌else◌}
+use Rattle.model.specs.declared.Refusal.{Refusal}
+use Rattle.std.specs.Prelude.{ℕ, zero, suc, ◌+◌, ◌-◌, ◌≤◌, min, ◌&&◌, List, leb, ltb, get_or, set, if◌then◌else◌, Result, Ok, Err}
 use Rattle.model.specs.declared.Range.{Range}
 use Rattle.model.specs.declared.Fault.TheVariants.{RangesFull, MalformedRanges}
-use Rattle.model.specs.declared.InsertAnswer.{InsertAnswer}
-use Rattle.model.specs.declared.InsertAnswer.TheVariants as Insert
 use Rattle.model.specs.Answer.{unplaced}
 use Rattle.line_num_pairs.specs.Pairs.{pair}
 use Rattle.line_num.specs.declared.Scan.{Scan}
@@ -25,11 +24,11 @@ plan_of f used len =
     else plan_by f 0 0 0 0
 
 -- what an insert answers after the pass
-unfoldable pub answer_of : Scan → ℕ → ℕ → InsertAnswer
+unfoldable pub answer_of : Scan → ℕ → ℕ → Result ℕ Refusal
 answer_of f used len =
     if leb used len && f.well
-    then (if ltb f.end f.start then Insert.Used used else if ltb f.at len then Insert.Used (f.at + 1) else Insert.Refused (unplaced RangesFull))
-    else Insert.Refused (unplaced MalformedRanges)
+    then (if ltb f.end f.start then Ok used else if ltb f.at len then Ok (f.at + 1) else Err (unplaced RangesFull))
+    else Err (unplaced MalformedRanges)
 
 -- the steps are within a slice
 abbrev pub PlanFits : Plan → ℕ → Type 0

@@ -4,12 +4,12 @@
 
 ghost use Rattle.std.specs.Prelude.{◌≡◌, ◌&&◌, ◌||◌, ◌+◌, ◌-◌, ◌<◌, ◌^◌, min, leb, length, get_or, set};
 ghost use Rattle.model.specs.Ranges.{query_call, insert_call};
-ghost use Rattle.model.specs.Calls.{query_answer, InsertCall, QueryCall};
+ghost use Rattle.model.specs.Calls.{query_answer, InsertCall, ValueCall};
 ghost use Rattle.line_num_pairs.specs.Pairs.{pair};
 ghost use Rattle.line_num.specs.Scans.{scan_start, passes_by, stays_by, scanned_by, scan_of, scan_answer};
 ghost use Rattle.line_num.specs.Steps.{plan_by, plan_of, answer_of, PlanFits, read_at, put_at, rewritten};
 
-use model::{Fault, InsertAnswer, QueryAnswer, Range};
+use model::{Fault, Range, Refusal};
 
 // One pass over the ranges used: it queries the lines from start to end, and computes what an insert of them would
 // write.
@@ -135,21 +135,21 @@ fn scan_all(list: &[Range], used: usize, start: u32, end: u32) -> Scan
     found
 }
 
-fn query_answer(found: Scan, used: usize, len: usize) -> QueryAnswer
+fn query_answer(found: Scan, used: usize, len: usize) -> Result<bool, Refusal>
     ensures { result ≡ query_answer (scan_answer found used len) }
 {
     if len < used {
-        return QueryAnswer::Refused(refusal::unplaced(Fault::MalformedRanges));
+        return Err(Refusal::from(Fault::MalformedRanges));
     }
     if !found.well {
-        return QueryAnswer::Refused(refusal::unplaced(Fault::MalformedRanges));
+        return Err(Refusal::from(Fault::MalformedRanges));
     }
-    QueryAnswer::Holds(found.held)
+    Ok(found.held)
 }
 
 // "A query (s, e) says yes if some pair has start ≤ e and end ≥ s."
-pub fn query(list: &[Range], used: usize, s: u32, e: u32) -> QueryAnswer
-    ensures { QueryCall (query_call list.now used s e) result }
+pub fn query(list: &[Range], used: usize, s: u32, e: u32) -> Result<bool, Refusal>
+    ensures { ValueCall (query_call list.now used s e) result }
 {
     let found = scan_all(list, used, s, e);
     query_answer(found, used, list.len())
@@ -211,22 +211,22 @@ fn plan_of(found: Scan, used: usize, len: usize) -> Plan
     planned(found, 0, 0, 0, 0)
 }
 
-fn insert_answer(found: Scan, used: usize, len: usize) -> InsertAnswer
+fn insert_answer(found: Scan, used: usize, len: usize) -> Result<usize, Refusal>
     ensures { result ≡ answer_of found used len }
 {
     if len < used {
-        return InsertAnswer::Refused(refusal::unplaced(Fault::MalformedRanges));
+        return Err(Refusal::from(Fault::MalformedRanges));
     }
     if !found.well {
-        return InsertAnswer::Refused(refusal::unplaced(Fault::MalformedRanges));
+        return Err(Refusal::from(Fault::MalformedRanges));
     }
     if found.end < found.start {
-        return InsertAnswer::Used(used);
+        return Ok(used);
     }
     if found.at < len {
-        return InsertAnswer::Used(found.at + 1);
+        return Ok(found.at + 1);
     }
-    InsertAnswer::Refused(refusal::unplaced(Fault::RangesFull))
+    Err(Refusal::from(Fault::RangesFull))
 }
 
 // The position that a step reads.
@@ -296,7 +296,7 @@ fn rewrite(list: &mut [Range], plan: Plan)
 
 // "Insert drops start > end, joins overlaps and neighbours, answers the new number of pairs, zeroes those past it, and gives 15 exactly
 // if the slice can't hold the result."
-pub fn insert(list: &mut [Range], used: usize, start: u32, end: u32) -> InsertAnswer
+pub fn insert(list: &mut [Range], used: usize, start: u32, end: u32) -> Result<usize, Refusal>
     ensures { InsertCall (insert_call list.old used (pair start end)) list.old list.new result }
 {
     let len = list.len();
@@ -312,7 +312,7 @@ pub const LIST: usize = 8;
 // What an insert answers, and the list afterwards.
 #[derive(Clone, Copy)]
 pub struct Inserted {
-    pub answer: InsertAnswer,
+    pub answer: Result<usize, Refusal>,
     pub list: [Range; LIST],
 }
 
@@ -325,8 +325,8 @@ pub fn insert_by_value(mut list: [Range; LIST], used: usize, start: u32, end: u3
 }
 
 // A query of a list by value.
-pub fn query_by_value(list: [Range; LIST], used: usize, s: u32, e: u32) -> QueryAnswer
-    ensures { QueryCall (query_call list used s e) result }
+pub fn query_by_value(list: [Range; LIST], used: usize, s: u32, e: u32) -> Result<bool, Refusal>
+    ensures { ValueCall (query_call list used s e) result }
 {
     query(&list, used, s, e)
 }

@@ -1,4 +1,5 @@
 -- What the calls answer, and what the slice holds afterwards. Assumes nothing.
+use Rattle.std.specs.Prelude.{Ok, Err}
 use Prim.Native.Nat.{ℕ, ◌+◌, ◌-◌, ◌≤◌, ◌<◌}
 use mathlib.Core.Path.{◌≡◌, sym, ap, ◌∙◌}
 use mathlib.Core.Bool.{Bool, true, false, not}
@@ -8,11 +9,9 @@ use lib.ListN.{length, take, replicate}
 use Rattle.model.specs.declared.Range.{Range}
 use Rattle.model.specs.declared.Refusal.{Refusal}
 use Rattle.model.specs.declared.Fault.TheVariants.{RangesFull, MalformedRanges}
-use Rattle.model.specs.declared.InsertAnswer.TheVariants as Insert
-use Rattle.model.specs.declared.QueryAnswer.TheVariants as Query
 use Rattle.model.specs.Answer.{unplaced, accepted, refuse}
 use Rattle.model.specs.Ranges.{well_formed_ranges, join_into, insert_range, insert_call, slice_after, holds, query_call}
-use Rattle.model.specs.Calls.{insert_answer, query_answer}
+use Rattle.model.specs.Calls.{length_answer, call_answer}
 use Rattle.table.specs.Places.{PartitionPoint}
 use Rattle.line_num_pairs.specs.Pairs.{pair, range_at, span, ranges_in, EndsBefore, Cleared, replaced_by, filled_up}
 use Rattle.line_num_pairs.proofs.SpanLaws.{length-span, ranges-length}
@@ -27,17 +26,17 @@ module _ (slice : List Range) (used : ℕ) (well : Bool) (is : well ≡ well_for
   told_ill h = sym is ∙ not-true well h
 
   module _ (s e : ℕ) where
-    pub query_malformed : not well ≡ true → (r : Refusal) → r ≡ unplaced MalformedRanges → Query.Refused r ≡ query_answer (query_call slice used s e)
-    unfolding query_call query_answer
+    pub query_malformed : not well ≡ true → (r : Refusal) → r ≡ unplaced MalformedRanges → Err r ≡ call_answer (query_call slice used s e)
+    unfolding query_call call_answer
     query_malformed h r m = rw (told_ill h, m)
 
-    pub query_held : not well ≡ false → (b : Bool) → b ≡ holds (take used slice) s e → Query.Holds b ≡ query_answer (query_call slice used s e)
-    unfolding query_call query_answer
+    pub query_held : not well ≡ false → (b : Bool) → b ≡ holds (take used slice) s e → Ok b ≡ call_answer (query_call slice used s e)
+    unfolding query_call call_answer
     query_held h b m = rw (told_well h, m)
 
   module _ (start end : ℕ) (h : not well ≡ true) where
-    pub malformed_answer : (r : Refusal) → r ≡ unplaced MalformedRanges → Insert.Refused r ≡ insert_answer (insert_call slice used (pair start end))
-    unfolding insert_call insert_answer
+    pub malformed_answer : (r : Refusal) → r ≡ unplaced MalformedRanges → Err r ≡ length_answer (insert_call slice used (pair start end))
+    unfolding insert_call length_answer
     malformed_answer r m = rw (told_ill h, m)
 
     pub malformed_slice : slice ≡ slice_after (insert_call slice used (pair start end)) slice
@@ -55,8 +54,8 @@ module _ (ps : List (List ℕ)) (used : ℕ) (r : Range) (well : well_formed_ran
   unfolding insert_call
   call_full h = rw (well, is, long, ranges-length ps, lt-leb n (length ps) h)
 
-  fits_answer : n ≤ length ps → Insert.Used n ≡ insert_answer (insert_call (ranges_in ps) used r)
-  unfolding insert_answer
+  fits_answer : n ≤ length ps → Ok n ≡ length_answer (insert_call (ranges_in ps) used r)
+  unfolding length_answer
   fits_answer h = rw (call_fits h, long)
 
   fits-slice : n ≤ length ps → filled_up ps ranges ≡ slice_after (insert_call (ranges_in ps) used r) (ranges_in ps)
@@ -67,7 +66,7 @@ module _ (ps : List (List ℕ)) (used start end : ℕ) (well : well_formed_range
   list : insert_range (pair start end) (take used (ranges_in ps)) ≡ span (range_at ps) 0 used
   list = dropped ps used start end (well_inside ps used well) turned
 
-  pub dropped_answer : Insert.Used used ≡ insert_answer (insert_call (ranges_in ps) used (pair start end))
+  pub dropped_answer : Ok used ≡ length_answer (insert_call (ranges_in ps) used (pair start end))
   dropped_answer = fits_answer ps used (pair start end) well (span (range_at ps) 0 used) used list (length-span (range_at ps) 0 used) (well_inside ps used well)
 
   pub dropped-slice : (ps' : List (List ℕ)) → length ps' ≡ length ps → Cleared (range_at ps) (range_at ps') used (length ps)
@@ -98,8 +97,8 @@ module _ (ps : List (List ℕ)) (used start end first : ℕ) (r : Range) (past :
     too_many : insert_call (ranges_in ps) used (pair start end) ≡ refuse RangesFull
     too_many = call_full ps used (pair start end) μ.well ranges (first + 1 + (used - past)) list_of long full
 
-    pub full_answer : (u : Refusal) → u ≡ unplaced RangesFull → Insert.Refused u ≡ insert_answer (insert_call (ranges_in ps) used (pair start end))
-    unfolding insert_answer
+    pub full_answer : (u : Refusal) → u ≡ unplaced RangesFull → Err u ≡ length_answer (insert_call (ranges_in ps) used (pair start end))
+    unfolding length_answer
     full_answer u m = rw (too_many, m)
 
     pub full_slice : ranges_in ps ≡ slice_after (insert_call (ranges_in ps) used (pair start end)) (ranges_in ps)
@@ -107,7 +106,7 @@ module _ (ps : List (List ℕ)) (used start end first : ℕ) (r : Range) (past :
     full_slice = rw too_many
 
   module _ (fits : first + 1 + (used - past) ≤ length ps) where
-    pub put_answer : Insert.Used (first + 1 + (used - past)) ≡ insert_answer (insert_call (ranges_in ps) used (pair start end))
+    pub put_answer : Ok (first + 1 + (used - past)) ≡ length_answer (insert_call (ranges_in ps) used (pair start end))
     put_answer = fits_answer ps used (pair start end) μ.well ranges (first + 1 + (used - past)) list_of long fits
 
     pub put_slice : (ps' : List (List ℕ)) → ranges_in ps' ≡ filled_up ps ranges → ranges_in ps' ≡ slice_after (insert_call (ranges_in ps) used (pair start end)) (ranges_in ps)

@@ -5,10 +5,10 @@
 ghost use Rattle.std.specs.Prelude.{◌≡◌, true, ◌∷◌, ◌+◌, ◌-◌, ◌≤◌, ◌<◌, min, max, length, take};
 ghost use Rattle.table.specs.Places.{PartitionPoint};
 ghost use Rattle.model.specs.Ranges.{well_formed_ranges, half_open, join_into, insert_call, holds, query_call};
-ghost use Rattle.model.specs.Calls.{InsertCall, QueryCall};
+ghost use Rattle.model.specs.Calls.{InsertCall, ValueCall};
 ghost use Rattle.line_num_pairs.specs.Pairs.{pair, range_at, span, ranges_in, EndsBefore, RangePlaced, Carried, Cleared, replaced_by, filled_up};
 
-use model::{Fault, InsertAnswer, QueryAnswer, Range};
+use model::{Fault, Range, Refusal};
 
 // "Half-open a..b becomes a to b − 1, with b = 0 read as b = 1."
 pub fn half_open(a: u32, b: u32) -> Range
@@ -91,13 +91,13 @@ pub fn holds_at(pairs: &[[u32; 2]], used: usize, s: u32, e: u32) -> bool
     range_at(pairs, first).start <= e
 }
 
-pub fn query(pairs: &[[u32; 2]], used: usize, s: u32, e: u32) -> QueryAnswer
-    ensures { QueryCall (query_call (ranges_in pairs.now) used s e) result }
+pub fn query(pairs: &[[u32; 2]], used: usize, s: u32, e: u32) -> Result<bool, Refusal>
+    ensures { ValueCall (query_call (ranges_in pairs.now) used s e) result }
 {
     if !is_well_formed(pairs, used) {
-        return QueryAnswer::Refused(refusal::unplaced(Fault::MalformedRanges));
+        return Err(Refusal::from(Fault::MalformedRanges));
     }
-    QueryAnswer::Holds(holds_at(pairs, used, s, e))
+    Ok(holds_at(pairs, used, s, e))
 }
 
 // A range that took in others, and the place of the first pair behind it.
@@ -161,22 +161,22 @@ fn put_joined(pairs: &mut [[u32; 2]], used: usize, first: usize, joined: Joined)
 
 // "Insert drops start > end, joins overlaps and neighbours, answers the new number of pairs, zeroes those past it, and gives 15 exactly
 // if the slice can't hold the result."
-pub fn insert(pairs: &mut [[u32; 2]], used: usize, start: u32, end: u32) -> InsertAnswer
+pub fn insert(pairs: &mut [[u32; 2]], used: usize, start: u32, end: u32) -> Result<usize, Refusal>
     ensures { InsertCall (insert_call (ranges_in pairs.old) used (pair start end)) (ranges_in pairs.old) (ranges_in pairs.new) result }
 {
     if !is_well_formed(pairs, used) {
-        return InsertAnswer::Refused(refusal::unplaced(Fault::MalformedRanges));
+        return Err(Refusal::from(Fault::MalformedRanges));
     }
     if end < start {
         clear_from(pairs, used);
-        return InsertAnswer::Used(used);
+        return Ok(used);
     }
     let first = ends_before(pairs, used, start as u64);
     let joined = join_from(pairs, used, first, Range { start, end });
     let n = first + 1 + (used - joined.past);
     if pairs.len() < n {
-        return InsertAnswer::Refused(refusal::unplaced(Fault::RangesFull));
+        return Err(Refusal::from(Fault::RangesFull));
     }
     put_joined(pairs, used, first, joined);
-    InsertAnswer::Used(n)
+    Ok(n)
 }

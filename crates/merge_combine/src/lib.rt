@@ -1,5 +1,5 @@
 // What two entries of one key make (SPEC 5.1): "two given start lines must agree, two given checksums too; what only
-// one gives is kept, and so is a key's earlier spelling. Function counts add and stop at 2^64 − 1. Taken counts add, none adding nothing.
+// one gives is kept, and so is a key's earlier spelling. Function counts add and stop at 2^64 − 1. Option<u64> counts add, none adding nothing.
 // Line counts add." Of two end lines the larger is kept. In the lossy mode "the later given start line or checksum wins", and the end
 // line, or none, that came with that start line.
 #![tactic(auto)]
@@ -134,7 +134,7 @@ fn same_checksums(text: &[u8], old: Row, new: Row) -> bool
     if new.tag % 2 == 0 {
         return false;
     }
-    compare::is_equal(table_item::compare_parts(text, old.k2, old.k3, new.k2, new.k3))
+    table_item::compare_parts(text, old.k2, old.k3, new.k2, new.k3).is_eq()
 }
 
 fn combine_lines(text: &[u8], old: Row, new: Row, mode: Mode) -> Result<Row, Fault>

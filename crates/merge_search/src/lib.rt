@@ -20,12 +20,12 @@ use table::Row;
 use table_item::Found;
 
 // By section, then by item.
-fn compare_rows(text: &[u8], x: Row, y: Row) -> Order
+fn compare_rows(text: &[u8], x: Row, y: Row) -> Ordering
     requires { RowInBounds text.now x × RowInBounds text.now y }
     ensures { order_of result ≡ compare_keys (entry_key (entry_of text.now x)) (entry_key (entry_of text.now y)) }
 {
     let sections = table_section::compare_sections(text, x, y);
-    if compare::is_equal(sections) {
+    if sections.is_eq() {
         return table_item::compare_items(text, x, y);
     }
     sections
@@ -44,12 +44,12 @@ fn lines_of_one(x: Row, y: Row) -> bool
 }
 
 // Two lines of one section are compared at once: a text has more of them than of all else.
-fn compare_entries(text: &[u8], x: Row, y: Row) -> Order
+fn compare_entries(text: &[u8], x: Row, y: Row) -> Ordering
     requires { RowInBounds text.now x × RowInBounds text.now y }
     ensures { order_of result ≡ compare_keys (entry_key (entry_of text.now x)) (entry_key (entry_of text.now y)) }
 {
     if lines_of_one(x, y) {
-        return compare::compare_numbers(x.k1, y.k1);
+        return x.k1.cmp(&y.k1);
     }
     compare_rows(text, x, y)
 }
@@ -71,7 +71,7 @@ fn is_before(
     if lines_of_one(other, key) {
         return other.k1 < key.k1;
     }
-    compare::is_less(compare_rows(text, other, key))
+    compare_rows(text, other, key).is_lt()
 }
 
 // Positions between which the key's is.
@@ -153,7 +153,7 @@ fn resolve(
         return Found::Insert(i);
     }
     let here = table::get(words, index, used, i);
-    if compare::is_equal(compare_entries(text, key, here)) {
+    if compare_entries(text, key, here).is_eq() {
         return Found::At(i);
     }
     Found::Insert(i)
@@ -232,10 +232,10 @@ fn search_first(
         return Found::At(from);
     }
     let order = compare_entries(text, key, first);
-    if compare::is_less(order) {
+    if order.is_lt() {
         return Found::Insert(from);
     }
-    if compare::is_equal(order) {
+    if order.is_eq() {
         return Found::At(from);
     }
     gallop_search(text, words, index, used, n, from + 1, key)

@@ -85,7 +85,7 @@ pub fn section_of(
     }
     if 0 < from {
         let before = table::get(words, index, used, from - 1);
-        if compare::is_equal(table_section::compare_sections(text, row, before)) {
+        if table_section::compare_sections(text, row, before).is_eq() {
             return Section {
                 spelled: row,
                 joined: before,

@@ -1,4 +1,5 @@
 -- What a call returns is told by its number and values alone: no two answers have the same. Assumes nothing.
+use Rattle.std.specs.Prelude.{Result, Ok, Err}
 use Prim.Native.Nat.{ℕ}
 use mathlib.Core.Path.{◌≡◌, refl, sym, ap, ◌∙◌}
 use mathlib.Core.Bool.{Bool, cond}
@@ -41,37 +42,18 @@ use Rattle.model.specs.declared.Fault.TheVariants.{
 use Rattle.model.specs.declared.Refusal.{Refusal}
 use Rattle.model.specs.declared.Range.{Range}
 use Rattle.model.specs.declared.Record.{Record as LentRecord}
-use Rattle.model.specs.declared.LineAnswer.{LineAnswer}
-use Rattle.model.specs.declared.LineAnswer.TheVariants as Line
-use Rattle.model.specs.declared.NumberAnswer.{NumberAnswer}
-use Rattle.model.specs.declared.NumberAnswer.TheVariants as Number
-use Rattle.model.specs.declared.WriteAnswer.{WriteAnswer}
-use Rattle.model.specs.declared.WriteAnswer.TheVariants as Write
-use Rattle.model.specs.declared.InsertAnswer.{InsertAnswer}
-use Rattle.model.specs.declared.InsertAnswer.TheVariants as Insert
-use Rattle.model.specs.declared.QueryAnswer.{QueryAnswer}
-use Rattle.model.specs.declared.QueryAnswer.TheVariants as Query
 use Rattle.model.specs.Bytes.{Bytes}
 use Rattle.model.specs.Answer.{Answer, accepted, refused, number_of, refusal_values, with_values}
-use Rattle.model.specs.Number.{Counted}
+use Rattle.model.specs.declared.Counted.{Counted}
 use Rattle.model.specs.Output.{output_after}
 use Rattle.model.specs.Ranges.{slice_after}
 use Rattle.model.specs.Calls.{
-  line_values,
-  number_values,
-  write_values,
-  insert_values,
-  query_values,
-  LineCall,
-  NumberCall,
+  call_values,
+  ValueCall,
   WriteCall,
   InsertCall,
-  QueryCall,
-  line_answer,
-  number_answer,
-  write_answer,
-  insert_answer,
-  query_answer,
+  call_answer,
+  length_answer,
 }
 
 -- ---- a refusal by its number and values
@@ -134,65 +116,34 @@ refusal_inj {r} {s} e = sym (refusal_of_lem r) ∙ ap refusal_of e ∙ refusal_o
 
 -- ---- the answer of a call is that of its values
 
-pub line_exact : (answer : Answer LentRecord) (r : LineAnswer) → LineCall answer r → r ≡ line_answer answer
-unfolding line_values line_answer
-line_exact (accepted lent) (Line.Read l) e = ap (λ (x : LentRecord). Line.Read x) (accepted_inj e)
-line_exact (accepted lent) (Line.Refused q) e = absurd (not_accepted e)
-line_exact (refused s) (Line.Read l) e = absurd (not_refused e)
-line_exact (refused s) (Line.Refused q) e = ap (λ (x : Refusal). Line.Refused x) (refusal_inj (refused_inj e))
+pub call_exact : {A : Type 0} (answer : Answer A) (r : Result A Refusal) → ValueCall answer r → r ≡ call_answer answer
+unfolding call_values call_answer
+call_exact (accepted a) (Ok b) e = ap (λ x. Ok x) (accepted_inj e)
+call_exact (accepted a) (Err q) e = absurd (not_accepted e)
+call_exact (refused s) (Ok b) e = absurd (not_refused e)
+call_exact (refused s) (Err q) e = ap (λ (x : Refusal). Err x) (refusal_inj (refused_inj e))
 
-pub number_exact : (answer : Answer Counted) (r : NumberAnswer) → NumberCall answer r → r ≡ number_answer answer
-unfolding number_values number_answer
-number_exact (accepted c) (Number.Read v d) e = ap (λ (x : Counted). Number.Read x.value x.digits) (accepted_inj e)
-number_exact (accepted c) (Number.Refused q) e = absurd (not_accepted e)
-number_exact (refused s) (Number.Read v d) e = absurd (not_refused e)
-number_exact (refused s) (Number.Refused q) e = ap (λ (x : Refusal). Number.Refused x) (refusal_inj (refused_inj e))
-
-pub write_exact : (answer : Answer Bytes) (r : WriteAnswer) → write_values r ≡ with_values (map_accepted length answer) → r ≡ write_answer answer
-unfolding write_values write_answer
-write_exact (accepted bytes) (Write.Written n) e = ap (λ (x : ℕ). Write.Written x) (accepted_inj e)
-write_exact (accepted bytes) (Write.Refused q) e = absurd (not_accepted e)
-write_exact (refused s) (Write.Written n) e = absurd (not_refused e)
-write_exact (refused s) (Write.Refused q) e = ap (λ (x : Refusal). Write.Refused x) (refusal_inj (refused_inj e))
-
-pub insert_exact : (answer : Answer (List Range)) (r : InsertAnswer) → insert_values r ≡ with_values (map_accepted length answer) → r ≡ insert_answer answer
-unfolding insert_values insert_answer
-insert_exact (accepted ranges) (Insert.Used n) e = ap (λ (x : ℕ). Insert.Used x) (accepted_inj e)
-insert_exact (accepted ranges) (Insert.Refused q) e = absurd (not_accepted e)
-insert_exact (refused s) (Insert.Used n) e = absurd (not_refused e)
-insert_exact (refused s) (Insert.Refused q) e = ap (λ (x : Refusal). Insert.Refused x) (refusal_inj (refused_inj e))
-
-pub query_exact : (answer : Answer Bool) (r : QueryAnswer) → QueryCall answer r → r ≡ query_answer answer
-unfolding query_values query_answer
-query_exact (accepted held) (Query.Holds h) e = ap (λ (x : Bool). Query.Holds x) (accepted_inj e)
-query_exact (accepted held) (Query.Refused q) e = absurd (not_accepted e)
-query_exact (refused s) (Query.Holds h) e = absurd (not_refused e)
-query_exact (refused s) (Query.Refused q) e = ap (λ (x : Refusal). Query.Refused x) (refusal_inj (refused_inj e))
+pub length_exact : {A : Type 0} (answer : Answer (List A)) (r : Result ℕ Refusal) → call_values r ≡ with_values (map_accepted length answer) → r ≡ length_answer answer
+unfolding call_values length_answer
+length_exact (accepted l) (Ok n) e = ap (λ (x : ℕ). Ok x) (accepted_inj e)
+length_exact (accepted l) (Err q) e = absurd (not_accepted e)
+length_exact (refused s) (Ok n) e = absurd (not_refused e)
+length_exact (refused s) (Err q) e = ap (λ (x : Refusal). Err x) (refusal_inj (refused_inj e))
 
 -- ---- and its values are those of its answer
 
-pub line_called : (answer : Answer LentRecord) (r : LineAnswer) → r ≡ line_answer answer → LineCall answer r
-unfolding line_values line_answer
-line_called (accepted lent) r e = rw e
-line_called (refused s) r e = rw e
+pub value_called : {A : Type 0} (answer : Answer A) (r : Result A Refusal) → r ≡ call_answer answer → ValueCall answer r
+unfolding call_values call_answer
+value_called (accepted a) r e = rw e
+value_called (refused s) r e = rw e
 
-pub number_called : (answer : Answer Counted) (r : NumberAnswer) → r ≡ number_answer answer → NumberCall answer r
-unfolding number_values number_answer
-number_called (accepted c) r e = rw e
-number_called (refused s) r e = rw e
-
-pub write_called : (answer : Answer Bytes) (out out' : Bytes) (r : WriteAnswer) → r ≡ write_answer answer → out' ≡ output_after answer out → WriteCall answer out out' r
-unfolding write_values write_answer
+pub write_called : (answer : Answer Bytes) (out out' : Bytes) (r : Result ℕ Refusal) → r ≡ length_answer answer → out' ≡ output_after answer out → WriteCall answer out out' r
+unfolding call_values length_answer
 write_called (accepted bytes) out out' r e h = record { returns = rw e; leaves = h }
 write_called (refused s) out out' r e h = record { returns = rw e; leaves = h }
 
-pub insert_called : (answer : Answer (List Range)) (slice slice' : List Range) (r : InsertAnswer) → r ≡ insert_answer answer → slice' ≡ slice_after answer slice
+pub insert_called : (answer : Answer (List Range)) (slice slice' : List Range) (r : Result ℕ Refusal) → r ≡ length_answer answer → slice' ≡ slice_after answer slice
     → InsertCall answer slice slice' r
-unfolding insert_values insert_answer
+unfolding call_values length_answer
 insert_called (accepted ranges) slice slice' r e h = record { returns = rw e; leaves = h }
 insert_called (refused s) slice slice' r e h = record { returns = rw e; leaves = h }
-
-pub query_called : (answer : Answer Bool) (r : QueryAnswer) → r ≡ query_answer answer → QueryCall answer r
-unfolding query_values query_answer
-query_called (accepted held) r e = rw e
-query_called (refused s) r e = rw e

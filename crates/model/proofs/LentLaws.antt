@@ -15,9 +15,7 @@ use Rattle.model.specs.declared.Kind.{Kind}
 use Rattle.model.specs.declared.Kind.TheVariants as K
 use Rattle.model.specs.declared.Refusal.{Refusal}
 use Rattle.model.specs.declared.Record.{Record as LentRecord}
-use Rattle.model.specs.declared.LineAnswer.{LineAnswer}
-use Rattle.model.specs.declared.LineAnswer.TheVariants as Line
-use Rattle.std.specs.Prelude.{if◌then◌else◌}
+use Rattle.std.specs.Prelude.{if◌then◌else◌, Result, Ok, Err}
 use Rattle.model.specs.Bytes.{Bytes, ascii, newline, return, colon, same_bytes, before, after}
 use Rattle.model.specs.Answer.{Answer, accepted, refused, ◌>>=◌, refuse, on_line}
 use Rattle.model.specs.Limits.{u32_max, u64_max}
@@ -57,8 +55,8 @@ use Rattle.model.specs.Line.{
   read_record,
   read_line,
 }
-use Rattle.model.specs.Parts.{lent_end, end_in, part_of, taken_in, checksum_in, record_in, end_part, lent_taken, lent_checksum, lent_from, lent_record, lent_line}
-use Rattle.model.specs.Calls.{line_answer}
+use Rattle.model.specs.Parts.{lent_given, given_in, part_of, checksum_in, record_in, end_part, lent_checksum, lent_from, lent_record, lent_line}
+use Rattle.model.specs.Calls.{call_answer}
 use Rattle.model.proofs.FieldTexts.{after_has, from_has, text_has}
 use Rattle.model.proofs.Clean.{last_before-accepted}
 
@@ -206,25 +204,20 @@ unfolding checksum_in lent_checksum
 checksum_in_lem line tail (some text) ε = rw (part-ends line text tail ε)
 checksum_in_lem line tail none ε = refl
 
-end_in_lem : (end : Option ℕ) → end_in (lent_end end) ≡ end
-unfolding end_in lent_end
-end_in_lem (some line) = refl
-end_in_lem none = refl
-
-taken_in_lem : (taken : Option ℕ) → taken_in (lent_taken taken) ≡ taken
-unfolding taken_in lent_taken
-taken_in_lem (some count) = refl
-taken_in_lem none = refl
+given_in_lem : {A : Type 0} (given : Option A) → given_in (lent_given given) ≡ given
+unfolding given_in lent_given
+given_in_lem (some a) = refl
+given_in_lem none = refl
 
 pub lent_in : (line tail : Bytes) (made : Record) → TextEnds line made → record_in (line ++ tail) (lent_from line made) ≡ accepted made
 unfolding record_in lent_from
 lent_in line tail (test_name name) ε = rw (part-ends line name tail ε)
 lent_in line tail (source_file path) ε = rw (part-ends line path tail ε)
-lent_in line tail (function_name start end name) ε = rw (part-ends line name tail ε, end_in_lem end)
+lent_in line tail (function_name start end name) ε = rw (part-ends line name tail ε, given_in_lem end)
 lent_in line tail (function_data count name) ε = rw (part-ends line name tail ε)
 lent_in line tail (functions_found found) ε = refl
 lent_in line tail (functions_hit hit) ε = refl
-lent_in line tail (branch_data number block branch taken) ε = rw (taken_in_lem taken)
+lent_in line tail (branch_data number block branch taken) ε = rw (given_in_lem taken)
 lent_in line tail (branches_found found) ε = refl
 lent_in line tail (branches_hit hit) ε = refl
 lent_in line tail (line_data number count checksum) ε = rw (checksum_in_lem line tail checksum ε)
@@ -264,41 +257,41 @@ module _ (tag : Kind → Bytes) (line : Bytes) where
       go (refused r) e = refl
 
   -- the answer of a line reader, by its case
-  module _ (got : LineAnswer) where
-    module _ (is : got ≡ line_answer (lent_record tag line)) where
-      pub record_read : (lent : LentRecord) → got ≡ Line.Read lent → (made : Record) × (record_in line lent ≡ accepted made) × (read_record tag line ≡ accepted made)
-      unfolding line_answer lent_record
+  module _ (got : Result LentRecord Refusal) where
+    module _ (is : got ≡ call_answer (lent_record tag line)) where
+      pub record_read : (lent : LentRecord) → got ≡ Ok lent → (made : Record) × (record_in line lent ≡ accepted made) × (read_record tag line ≡ accepted made)
+      unfolding call_answer lent_record
       record_read lent e = go (read_record tag line) refl (sym e ∙ is)
         where
-          go : (a : Answer Record) → read_record tag line ≡ a → Line.Read lent ≡ line_answer (a >>= λ made. accepted (lent_from (trimmed line) made))
+          go : (a : Answer Record) → read_record tag line ≡ a → Ok lent ≡ call_answer (a >>= λ made. accepted (lent_from (trimmed line) made))
               → (made : Record) × (record_in line lent ≡ accepted made) × (read_record tag line ≡ accepted made)
           go (accepted made) p q = let z : lent ≡ lent_from (trimmed line) made = cc in (made, rw z (texts-there made p), p)
           go (refused r) p q = impossible cc
 
-      pub record_refused : (r : Refusal) → got ≡ Line.Refused r → read_record tag line ≡ refused r
-      unfolding line_answer lent_record
+      pub record_refused : (r : Refusal) → got ≡ Err r → read_record tag line ≡ refused r
+      unfolding call_answer lent_record
       record_refused r e = go (read_record tag line) refl (sym e ∙ is)
         where
-          go : (a : Answer Record) → read_record tag line ≡ a → Line.Refused r ≡ line_answer (a >>= λ made. accepted (lent_from (trimmed line) made))
+          go : (a : Answer Record) → read_record tag line ≡ a → Err r ≡ call_answer (a >>= λ made. accepted (lent_from (trimmed line) made))
               → read_record tag line ≡ refused r
           go (accepted made) p q = impossible cc
           go (refused s) p q = let z : r ≡ s = cc in p ∙ ap (λ (t : Refusal). refused t) (sym z)
 
     -- a lone line
-    module _ (is : got ≡ line_answer (lent_line tag line)) where
-      pub line_read : (lent : LentRecord) → got ≡ Line.Read lent → record_in line lent ≡ read_line tag line
-      unfolding line_answer lent_line lent_record read_line
+    module _ (is : got ≡ call_answer (lent_line tag line)) where
+      pub line_read : (lent : LentRecord) → got ≡ Ok lent → record_in line lent ≡ read_line tag line
+      unfolding call_answer lent_line lent_record read_line
       line_read lent e = go (read_record tag line) refl (sym e ∙ is)
         where
           go : (a : Answer Record) → read_record tag line ≡ a
-              → Line.Read lent ≡ line_answer (on_line 1 (a >>= λ made. accepted (lent_from (trimmed line) made))) → record_in line lent ≡ on_line 1 a
+              → Ok lent ≡ call_answer (on_line 1 (a >>= λ made. accepted (lent_from (trimmed line) made))) → record_in line lent ≡ on_line 1 a
           go (accepted made) p q = let z : lent ≡ lent_from (trimmed line) made = cc in rw z (texts-there made p)
           go (refused r) p q = impossible cc
 
-      pub line_refused : (r : Refusal) → got ≡ Line.Refused r → read_line tag line ≡ refused r
-      unfolding line_answer lent_line lent_record read_line
+      pub line_refused : (r : Refusal) → got ≡ Err r → read_line tag line ≡ refused r
+      unfolding call_answer lent_line lent_record read_line
       line_refused r e = go (read_record tag line) (sym e ∙ is)
         where
-          go : (a : Answer Record) → Line.Refused r ≡ line_answer (on_line 1 (a >>= λ made. accepted (lent_from (trimmed line) made))) → on_line 1 a ≡ refused r
+          go : (a : Answer Record) → Err r ≡ call_answer (on_line 1 (a >>= λ made. accepted (lent_from (trimmed line) made))) → on_line 1 a ≡ refused r
           go (accepted made) q = impossible cc
           go (refused s) q = cc

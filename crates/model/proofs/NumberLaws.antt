@@ -15,7 +15,8 @@ use Rattle.std.specs.Prelude.{if◌then◌else◌}
 use Rattle.model.specs.Lists.{filter}
 use Rattle.model.specs.Bytes.{Bytes}
 use Rattle.model.specs.Answer.{Answer, accepted, ◌>>=◌, refuse}
-use Rattle.model.specs.Number.{is_digit, read_digits, read_number, Counted, read_field, decimal_digits, decimal}
+use Rattle.model.specs.declared.Counted.{Counted}
+use Rattle.model.specs.Number.{is_digit, read_digits, read_number, read_field, decimal_digits, decimal}
 
 pub read_digits-append : (max a : ℕ) (xs ys : Bytes)
     → read_digits max a (xs ++ ys) ≡ (read_digits max a xs >>= λ v. read_digits max v ys)

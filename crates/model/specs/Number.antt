@@ -1,5 +1,6 @@
 -- Numbers as text. Assumes nothing.
 use Rattle.std.specs.Prelude.{ℕ, zero, suc, ◌+◌, ◌-◌, ◌*◌, ◌/◌, ◌%◌, Bool, true, false, ◌&&◌, [], ◌∷◌, ◌++◌, leb, ltb, eqb, length, if◌then◌else◌}
+use Rattle.model.specs.declared.Counted.{Counted}
 use Rattle.model.specs.declared.Fault.TheVariants.{EmptyNumber, InvalidDigit, NumberOverflow, SignedNumber}
 use Rattle.model.specs.Bytes.{Bytes, plus}
 use Rattle.model.specs.Answer.{Answer, accepted, ◌>>=◌, refuse}
@@ -27,12 +28,6 @@ decimal_digits (suc n) value =
 -- a u64 in decimal: it has at most twenty digits
 unfoldable pub decimal : ℕ → Bytes
 decimal value = decimal_digits 20 value
-
--- a number that was read
-pub record Counted : Type 0 where
-  pub value : ℕ
-  -- how many digits were read, leading zeros among them
-  pub digits : ℕ
 
 -- a number field: what `read_number` reads of it, each of whose bytes is a digit
 unfoldable pub read_field : ℕ → Bytes → Answer Counted

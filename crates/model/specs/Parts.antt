@@ -1,15 +1,9 @@
 -- Records whose texts are parts of a lent text, and the line printer. Assumes nothing.
-use Rattle.std.specs.Prelude.{ℕ, ◌+◌, ◌-◌, [], ◌∷◌, ◌++◌, leb, length, take, drop, if◌then◌else◌}
+use Rattle.std.specs.Prelude.{ℕ, ◌+◌, ◌-◌, [], ◌∷◌, ◌++◌, leb, length, take, drop, if◌then◌else◌, Option as LentOption, Some, None}
 use Rattle.std.proofs.Math.Option.{Option, none, some}
 use Rattle.model.specs.declared.Fault.TheVariants.{PartOutside}
 use Rattle.model.specs.declared.Kind.{Kind}
 use Rattle.model.specs.declared.Part.{Part}
-use Rattle.model.specs.declared.Taken.{Taken}
-use Rattle.model.specs.declared.Taken.TheVariants as Tk
-use Rattle.model.specs.declared.EndLine.{EndLine}
-use Rattle.model.specs.declared.EndLine.TheVariants as El
-use Rattle.model.specs.declared.Checksum.{Checksum}
-use Rattle.model.specs.declared.Checksum.TheVariants as Ck
 use Rattle.model.specs.declared.Record.{Record as LentRecord}
 use Rattle.model.specs.declared.Record.TheVariants as Lent
 use Rattle.model.specs.Bytes.{Bytes, newline}
@@ -37,27 +31,24 @@ use Rattle.model.specs.Output.{written}
 unfoldable pub part_of : Bytes → Part → Answer Bytes
 part_of text p = if leb (p.start + p.len) (length text) then accepted (take p.len (drop p.start text)) else refuse PartOutside
 
-unfoldable pub end_in : EndLine → Option ℕ
-end_in (El.Given line) = some line
-end_in El.Absent = none
+-- an optional value of a lent record
+unfoldable pub given_in : {A : Type 0} → LentOption A → Option A
+given_in (Some a) = some a
+given_in None = none
 
-unfoldable pub taken_in : Taken → Option ℕ
-taken_in (Tk.Given count) = some count
-taken_in Tk.Absent = none
-
-unfoldable pub checksum_in : Bytes → Checksum → Answer (Option Bytes)
-checksum_in text (Ck.Given p) = part_of text p >>= λ bytes. accepted (some bytes)
-checksum_in text Ck.Absent = accepted none
+unfoldable pub checksum_in : Bytes → LentOption Part → Answer (Option Bytes)
+checksum_in text (Some p) = part_of text p >>= λ bytes. accepted (some bytes)
+checksum_in text None = accepted none
 
 -- the record that a lent record is
 unfoldable pub record_in : Bytes → LentRecord → Answer Record
 record_in text (Lent.TestName p) = part_of text p >>= λ name. accepted (test_name name)
 record_in text (Lent.SourceFile p) = part_of text p >>= λ path. accepted (source_file path)
-record_in text (Lent.FunctionName start end p) = part_of text p >>= λ name. accepted (function_name start (end_in end) name)
+record_in text (Lent.FunctionName start end p) = part_of text p >>= λ name. accepted (function_name start (given_in end) name)
 record_in text (Lent.FunctionData count p) = part_of text p >>= λ name. accepted (function_data count name)
 record_in text (Lent.FunctionsFound found) = accepted (functions_found found)
 record_in text (Lent.FunctionsHit hit) = accepted (functions_hit hit)
-record_in text (Lent.BranchData line block branch taken) = accepted (branch_data line block branch (taken_in taken))
+record_in text (Lent.BranchData line block branch taken) = accepted (branch_data line block branch (given_in taken))
 record_in text (Lent.BranchesFound found) = accepted (branches_found found)
 record_in text (Lent.BranchesHit hit) = accepted (branches_hit hit)
 record_in text (Lent.LineData line count checksum) = checksum_in text checksum >>= λ given. accepted (line_data line count given)
@@ -71,27 +62,23 @@ record_in text Lent.EndOfRecord = accepted end_of_record
 unfoldable pub end_part : Bytes → Bytes → Part
 end_part line text = record { start = length line - length text; len = length text }
 
-unfoldable pub lent_end : Option ℕ → EndLine
-lent_end (some line) = El.Given line
-lent_end none = El.Absent
+unfoldable pub lent_given : {A : Type 0} → Option A → LentOption A
+lent_given (some a) = Some a
+lent_given none = None
 
-unfoldable pub lent_taken : Option ℕ → Taken
-lent_taken (some count) = Tk.Given count
-lent_taken none = Tk.Absent
-
-unfoldable pub lent_checksum : Bytes → Option Bytes → Checksum
-lent_checksum line (some text) = Ck.Given (end_part line text)
-lent_checksum line none = Ck.Absent
+unfoldable pub lent_checksum : Bytes → Option Bytes → LentOption Part
+lent_checksum line (some text) = Some (end_part line text)
+lent_checksum line none = None
 
 -- a record that was read from a line, its text as a part of the line
 unfoldable pub lent_from : Bytes → Record → LentRecord
 lent_from line (test_name name) = Lent.TestName (end_part line name)
 lent_from line (source_file path) = Lent.SourceFile (end_part line path)
-lent_from line (function_name start end name) = Lent.FunctionName start (lent_end end) (end_part line name)
+lent_from line (function_name start end name) = Lent.FunctionName start (lent_given end) (end_part line name)
 lent_from line (function_data count name) = Lent.FunctionData count (end_part line name)
 lent_from line (functions_found found) = Lent.FunctionsFound found
 lent_from line (functions_hit hit) = Lent.FunctionsHit hit
-lent_from line (branch_data number block branch taken) = Lent.BranchData number block branch (lent_taken taken)
+lent_from line (branch_data number block branch taken) = Lent.BranchData number block branch (lent_given taken)
 lent_from line (branches_found found) = Lent.BranchesFound found
 lent_from line (branches_hit hit) = Lent.BranchesHit hit
 lent_from line (line_data number count checksum) = Lent.LineData number count (lent_checksum line checksum)

@@ -1,6 +1,10 @@
-// The plain values that cross every call: records and their parts, ranges, modes, and answers with their refusals.
+// The plain values that cross every call: records and their parts, ranges, modes, and refusals. A call that may be refused returns a
+// `Result` with a `Refusal`.
 // specs/ defines what they mean.
 #![tactic(auto)]
+
+ghost use Rattle.std.specs.Prelude.{◌≡◌};
+ghost use Rattle.model.specs.Answer.{number_of, unplaced};
 
 // Why a call is refused. `number_of` in specs/Answer.antt gives each its number in SPEC 9.1's table; the names of the faults that
 // the Rust has too are the Rust's.
@@ -72,27 +76,6 @@ pub struct Part {
     pub len: usize,
 }
 
-// A branch's taken count, or none.
-#[derive(Clone, Copy)]
-pub enum Taken {
-    Given(u64),
-    Absent,
-}
-
-// The line where a function ends, or none.
-#[derive(Clone, Copy)]
-pub enum EndLine {
-    Given(u32),
-    Absent,
-}
-
-// A line's checksum, or none.
-#[derive(Clone, Copy)]
-pub enum Checksum {
-    Given(Part),
-    Absent,
-}
-
 // A record whose texts are parts of the lent text.
 #[derive(Clone, Copy)]
 pub enum Record {
@@ -100,10 +83,10 @@ pub enum Record {
     TestName(Part),
     // "SF:src/decoder.c"
     SourceFile(Part),
-    // "FN:10,main", or with an end line "FN:10,12,main"
+    // "FN:10,main", or with the line where it ends "FN:10,12,main"
     FunctionName {
         start: u32,
-        end: EndLine,
+        end: Option<u32>,
         name: Part,
     },
     // "FNDA:1,main"
@@ -120,7 +103,7 @@ pub enum Record {
         line: u32,
         block: u32,
         branch: u32,
-        taken: Taken,
+        taken: Option<u64>,
     },
     // "BRF:2"
     BranchesFound(u32),
@@ -130,7 +113,7 @@ pub enum Record {
     LineData {
         line: u32,
         count: u64,
-        checksum: Checksum,
+        checksum: Option<Part>,
     },
     // "LF:3"
     LinesFound(u32),
@@ -161,37 +144,62 @@ pub struct Range {
     pub end: u32,
 }
 
-// The record of a line.
+// A number field that was read: its value, and how many digits were read, leading zeros among them.
 #[derive(Clone, Copy)]
-pub enum LineAnswer {
-    Read(Record),
-    Refused(Refusal),
+pub struct Counted {
+    pub value: u64,
+    pub digits: usize,
 }
 
-// A number field: its value, and how many digits were read.
-#[derive(Clone, Copy)]
-pub enum NumberAnswer {
-    Read { value: u64, digits: usize },
-    Refused(Refusal),
+// SPEC 9.1's number of a fault.
+impl From<Fault> for u32 {
+    ghost from_gives = { λ fault n. n ≡ number_of fault };
+
+    fn from(fault: Fault) -> u32 {
+        match fault {
+            Fault::UnknownRecord => 1,
+            Fault::FieldNotFound => 2,
+            Fault::TooManyFields => 3,
+            Fault::EmptyNumber => 4,
+            Fault::InvalidDigit => 5,
+            Fault::NumberOverflow => 6,
+            Fault::UnexpectedRecord => 7,
+            Fault::UnexpectedEof => 8,
+            Fault::CallOverflow => 9,
+            Fault::TooManyEntries => 10,
+            Fault::UnmatchedFunctionLine => 11,
+            Fault::UnmatchedChecksum => 12,
+            Fault::CountOverflow => 13,
+            Fault::OutputTooShort => 14,
+            Fault::RangesFull => 15,
+            Fault::MalformedBundle => 16,
+            Fault::PartOutside => 17,
+            Fault::MalformedRanges => 18,
+            Fault::SignedNumber => 19,
+            Fault::RepeatedRevision => 20,
+            Fault::MalformedTags => 21,
+            Fault::EqualTags => 22,
+            Fault::EndBeforeStart => 23,
+            Fault::WidthOutside => 24,
+            Fault::SecondSourceFile => 25,
+            Fault::DifferentKeys => 27,
+            Fault::LeastAboveGreatest => 28,
+            Fault::MalformedLabs => 29,
+        }
+    }
 }
 
-// How many bytes were written to the output.
-#[derive(Clone, Copy)]
-pub enum WriteAnswer {
-    Written(usize),
-    Refused(Refusal),
-}
+// A fault that has no place.
+impl From<Fault> for Refusal {
+    ghost from_gives = { λ fault r. r ≡ unplaced fault };
 
-// How many pairs of the range list are used after an insert.
-#[derive(Clone, Copy)]
-pub enum InsertAnswer {
-    Used(usize),
-    Refused(Refusal),
-}
-
-// Whether the range list holds one of the queried lines.
-#[derive(Clone, Copy)]
-pub enum QueryAnswer {
-    Holds(bool),
-    Refused(Refusal),
+    fn from(fault: Fault) -> Refusal {
+        Refusal {
+            fault,
+            text: 0,
+            line: 0,
+            field: 0,
+            needed: 0,
+        }
+    }
 }

@@ -13,7 +13,7 @@ use Rattle.model.proofs.Read.{read_text-valid}
 use Rattle.model_bounds.specs.Bounds.{hits_of, hit_bounds}
 use Rattle.model_bounds.specs.Claims.{Within}
 use Rattle.model_bounds.specs.Compute.{open_bounds}
-use Rattle.model_bounds.proofs.Bounds.{between_tested, bounds_claim}
+use Rattle.model_bounds.proofs.BoundsLaws.{between_tested, bounds_claim}
 use Rattle.model_bounds.proofs.Examples.{hitting, from_to, low_text, high_text}
 
 -- another spelling, no start, a checksum, a taken of 0

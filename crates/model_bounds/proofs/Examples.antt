@@ -8,7 +8,8 @@ use Rattle.model.specs.Answer.{accepted, refused, with_values}
 use Rattle.model.specs.Tags.{default_tag}
 use Rattle.model.specs.Compute.{open_all}
 use Rattle.model_bounds.specs.declared.Hits.{Hits}
-use Rattle.model_bounds.specs.Bounds.{Bounds, hit_bounds}
+use Rattle.model_bounds.specs.declared.Bounds.{Bounds}
+use Rattle.model_bounds.specs.Bounds.{hit_bounds}
 use Rattle.model_bounds.specs.Compute.{open_bounds}
 
 abbrev bound : Bytes → Bytes → Result (List ℕ) Bounds

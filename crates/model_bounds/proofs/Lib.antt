@@ -1,5 +1,5 @@
 pub mod Printed
 pub mod Paired
-pub mod Bounds
+pub mod BoundsLaws
 pub mod Examples
 pub mod Applied

@@ -5,13 +5,12 @@ use Rattle.model.specs.declared.Kind.{Kind}
 use Rattle.model.specs.Lists.{filter}
 use Rattle.model.specs.Bytes.{Bytes}
 use Rattle.model.specs.declared.Fault.TheVariants.{DifferentKeys, LeastAboveGreatest}
-use Rattle.model.specs.Answer.{Answer, accepted, refused, ◌>>=◌, refuse, in_text}
+use Rattle.model.specs.Answer.{Answer, accepted, ◌>>=◌, refuse, in_text}
 use Rattle.model.specs.Report.{Item, Report, compare_keys, entry_key, count_of}
 use Rattle.model.specs.Reading.{read_text}
 use Rattle.model.specs.Printing.{is_function, is_branch, is_line, hits}
 use Rattle.model.specs.Gather.{entry_limit}
-use Rattle.model_bounds.specs.declared.BoundsAnswer.{BoundsAnswer}
-use Rattle.model_bounds.specs.declared.BoundsAnswer.TheVariants as B
+use Rattle.model_bounds.specs.declared.Bounds.{Bounds}
 use Rattle.model_bounds.specs.declared.Hits.{Hits}
 
 abbrev pub items_of : Report → List Item
@@ -38,10 +37,6 @@ counts_rise (x ∷ xs) (y ∷ ys) = leb (count_of x.item) (count_of y.item) && c
 abbrev pub hits_of : Report → Hits
 hits_of report = record { lines = hits_in is_line report; functions = hits_in is_function report; branches = hits_in is_branch report }
 
-pub record Bounds : Type 0 where
-  pub least : Hits
-  pub greatest : Hits
-
 -- of two reports that were read: first all keys, then all counts
 unfoldable pub bounds : Report → Report → Answer Bounds
 bounds least greatest =
@@ -56,8 +51,3 @@ module _ (tag : Kind → Bytes) where
       in_text 0 (read_text tag (entry_limit words) least) >>= λ low.
       in_text 1 (read_text tag (entry_limit words) greatest) >>= λ high.
       bounds low high
-
--- what the call hands back
-abbrev pub bounds_answer : Answer Bounds → BoundsAnswer
-bounds_answer (accepted b) = B.Bounds b.least b.greatest
-bounds_answer (refused r) = B.Refused r

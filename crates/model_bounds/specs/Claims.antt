@@ -18,7 +18,8 @@ use Rattle.model.specs.Reading.{read_text}
 use Rattle.model.specs.Gather.{entry_limit, read_and_print}
 use Rattle.model.specs.Valid.{Valid}
 use Rattle.model_bounds.specs.declared.Hits.{Hits}
-use Rattle.model_bounds.specs.Bounds.{hits_of, Bounds, bounds, hit_bounds}
+use Rattle.model_bounds.specs.declared.Bounds.{Bounds}
+use Rattle.model_bounds.specs.Bounds.{hits_of, bounds, hit_bounds}
 
 -- a report holds a key
 abbrev pub Holds : Key → Report → Type 0

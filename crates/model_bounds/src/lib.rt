@@ -1,8 +1,6 @@
 // Bounds of sampled counts (SPEC 7.8): how many lines, functions and branches a run can have hit. specs/ defines what they are.
 #![tactic(auto)]
 
-use model::Refusal;
-
 // How many lines, functions and branches are hit.
 #[derive(Clone, Copy)]
 pub struct Hits {
@@ -11,9 +9,9 @@ pub struct Hits {
     pub branches: u64,
 }
 
-// Of the least and of the greatest counts, or why there are none.
+// Of the least and of the greatest counts.
 #[derive(Clone, Copy)]
-pub enum BoundsAnswer {
-    Bounds { least: Hits, greatest: Hits },
-    Refused(Refusal),
+pub struct Bounds {
+    pub least: Hits,
+    pub greatest: Hits,
 }

@@ -1,6 +1,6 @@
 -- Points that the requirements leave open, as docs/DECISIONS.md decides them, and the refusals that the Rust does not know: one claim about
 -- the definitions, on the smallest inputs, and one proof, by computation. Assumes nothing.
-use Rattle.std.specs.Prelude.{ℕ, ◌+◌, ◌*◌, ◌≡◌, refl, true, false, List, [], ◌∷◌, ◌++◌, eqb, length, replicate, drop, if◌then◌else◌}
+use Rattle.std.specs.Prelude.{ℕ, ◌+◌, ◌*◌, ◌≡◌, refl, true, false, List, [], ◌∷◌, ◌++◌, eqb, length, replicate, drop, if◌then◌else◌, Some, None}
 use Prim.Native.String.{String}
 use Rattle.std.proofs.Math.Option.{none, some}
 use Rattle.model.specs.declared.Bound.{Bound}
@@ -8,7 +8,6 @@ use Rattle.model.specs.declared.Bound.TheVariants.{NextStart, GreaterStart}
 use Rattle.model.specs.declared.Kind.{Kind}
 use Rattle.model.specs.declared.Mode.{Mode}
 use Rattle.model.specs.declared.Mode.TheVariants.{Checked, Lossy}
-use Rattle.model.specs.declared.EndLine.TheVariants as El
 use Rattle.model.specs.declared.Part.{Part}
 use Rattle.model.specs.declared.Range.{Range}
 use Rattle.model.specs.declared.Record.{Record as LentRecord}
@@ -16,7 +15,8 @@ use Rattle.model.specs.declared.Record.TheVariants as Lent
 use Rattle.model.specs.Bytes.{Bytes, ascii}
 use Rattle.model.specs.Path.{root, current, name, components}
 use Rattle.model.specs.Answer.{accepted, refused, with_values}
-use Rattle.model.specs.Number.{Counted, read_field}
+use Rattle.model.specs.declared.Counted.{Counted}
+use Rattle.model.specs.Number.{read_field}
 use Rattle.model.specs.Record.{Record, test_name, source_file, function_name, branch_data, line_data, end_of_record}
 use Rattle.model.specs.Tags.{default_tag}
 use Rattle.model.specs.TagTable.{place_of, tagged, table_of}
@@ -133,8 +133,8 @@ pub record Lines : Type 0 where
       × (line (ascii "FN:9999999999,1,f") ≡ refuses 6 1 1)
   -- the printer refuses no end, and can print what does not read back
   pub end_printed :
-      (printed (Lent.FunctionName 5 (El.Given 4) (part 0 1)) 20 ≡ gives (ascii "FN:5,4,a\n"))
-      × (with_values (print_line default_tag (ascii "4,f") (Lent.FunctionName 5 El.Absent (part 0 3)) 20) ≡ gives (ascii "FN:5,4,f\n"))
+      (printed (Lent.FunctionName 5 (Some 4) (part 0 1)) 20 ≡ gives (ascii "FN:5,4,a\n"))
+      × (with_values (print_line default_tag (ascii "4,f") (Lent.FunctionName 5 None (part 0 3)) 20) ≡ gives (ascii "FN:5,4,f\n"))
   -- only exactly "-" is no checksum
   pub dash_comma : line (ascii "DA:1,2,-,") ≡ gives (line_data 1 2 (some (ascii "-,")))
   -- byte 10 is written, and counted in the needed length; the output stays where it is too short

@@ -1,4 +1,6 @@
 -- A length that is enough for bytes, and the answer of a call that measures and then writes them. Assumes nothing.
+use Rattle.std.specs.Prelude.{Result, Ok, Err}
+use Rattle.model.specs.declared.Refusal.{Refusal}
 use Prim.Native.Nat.{ℕ, ◌*◌, ◌^◌, ◌≤◌, ◌<◌, min}
 use native.Mathlib.Omega.{arith}
 use native.Mathlib.Nat.{zero-add}
@@ -8,12 +10,10 @@ use mathlib.Core.List.{◌++◌}
 use lib.ListN.{length, drop}
 use lib.Dec.{leb}
 use borrow.Author.Tests.{le-leb, lt-leb}
-use Rattle.model.specs.declared.WriteAnswer.{WriteAnswer}
-use Rattle.model.specs.declared.WriteAnswer.TheVariants.{Written, Refused}
 use Rattle.model.specs.declared.Fault.TheVariants.{OutputTooShort}
 use Rattle.model.specs.Answer.{Answer, accepted, refuse_length}
 use Rattle.model.specs.Bytes.{Bytes}
-use Rattle.model.specs.Calls.{write_answer}
+use Rattle.model.specs.Calls.{length_answer}
 use Rattle.model.specs.Limits.{u64_max}
 use Rattle.model.specs.Output.{written, output_after}
 use Rattle.print_rows.specs.Emit.{RoomFor, Emitted}
@@ -40,11 +40,11 @@ module _ {bytes out out₁ : Bytes} {needed : ℕ} (enough : RequiredLength out 
     unfolding written
     is-short = let e : leb (length bytes) (length out) ≡ false = lt-leb (length bytes) (length out) (omega (arith, needed-is, size)) in rw e
 
-    pub short_answer : {r : WriteAnswer} → r ≡ write_answer (refuse_length needed) → r ≡ write_answer (written (length out) bytes)
-    unfolding write_answer
+    pub short_answer : {r : Result ℕ Refusal} → r ≡ length_answer (refuse_length needed) → r ≡ length_answer (written (length out) bytes)
+    unfolding length_answer
     short_answer e =
         let once : min (min (length bytes) u64_max) u64_max ≡ min (length bytes) u64_max = omega arith in
-        e ∙ ap (λ (m : ℕ). write_answer (refuse_length m)) needed-is ∙ (rw once) ∙ sym (ap write_answer is-short)
+        e ∙ ap (λ (m : ℕ). length_answer (refuse_length m)) needed-is ∙ (rw once) ∙ sym (ap length_answer is-short)
 
     pub short-out : out₁ ≡ output_after (written (length out) bytes) out
     unfolding output_after
@@ -66,9 +66,9 @@ module _ {bytes out out₁ : Bytes} {needed : ℕ} (enough : RequiredLength out 
       second : Emitted true out out₂ 0 bytes len
       second = rw enough.same at ε
 
-      pub written_answer : Written len ≡ write_answer (written (length out) bytes)
-      unfolding write_answer
-      written_answer = ap Written (let e : len ≡ length bytes = omega (arith, second.next, fits, few) in e) ∙ sym (ap write_answer is-written)
+      pub written_answer : Ok len ≡ length_answer (written (length out) bytes)
+      unfolding length_answer
+      written_answer = ap Ok (let e : len ≡ length bytes = omega (arith, second.next, fits, few) in e) ∙ sym (ap length_answer is-written)
 
       pub written_out : out₂ ≡ output_after (written (length out) bytes) out
       unfolding output_after
@@ -76,6 +76,6 @@ module _ {bytes out out₁ : Bytes} {needed : ℕ} (enough : RequiredLength out 
           second.after ∙ ap (λ (m : ℕ). bytes ++ drop m out) (zero-add (length bytes)) ∙ sym (ap (λ (a : Answer Bytes). output_after a out) is-written)
 
 pub short-is : (needed : ℕ) → needed ≤ u64_max
-    → Refused (record { fault = OutputTooShort; text = 0; line = 0; field = 0; needed = needed }) ≡ write_answer (refuse_length needed)
-unfolding write_answer
+    → Err (record { fault = OutputTooShort; text = 0; line = 0; field = 0; needed = needed }) ≡ length_answer (refuse_length needed)
+unfolding length_answer
 short-is needed h = let e : min needed u64_max ≡ needed = omega arith in rw e

@@ -1,4 +1,5 @@
 -- What is emitted, piece after piece. Assumes nothing.
+use Rattle.std.specs.Prelude.{Result, Ok, Err}
 use Prim.Native.Nat.{ℕ, ◌+◌, ◌-◌, ◌*◌, ◌^◌, ◌≤◌, ◌<◌, min}
 use mathlib.Core.Path.{◌≡◌, refl, sym, ap, ◌∙◌}
 use mathlib.Core.Bool.{Bool, true, false}
@@ -11,11 +12,9 @@ use mir.Syntax.{w64}
 use Rattle.model.specs.declared.Kind.{Kind}
 use Rattle.model.specs.declared.Record.{Record}
 use Rattle.model.specs.declared.Refusal.{Refusal}
-use Rattle.model.specs.declared.WriteAnswer.{WriteAnswer}
-use Rattle.model.specs.declared.WriteAnswer.TheVariants.{Written, Refused}
 use Rattle.model.specs.Bytes.{Bytes}
-use Rattle.model.specs.Calls.{WriteCall, write_answer}
-use Rattle.model.proofs.CallLaws.{write_exact}
+use Rattle.model.specs.Calls.{WriteCall, length_answer}
+use Rattle.model.proofs.CallLaws.{length_exact}
 use Rattle.model.specs.Limits.{u64_max}
 use Rattle.model.specs.Output.{written, output_after}
 use Rattle.model.specs.Parts.{print_line}
@@ -160,23 +159,23 @@ module _ (tag : Kind → Bytes) (write : Bool) (writes : write ≡ true) (out : 
   pub line_at : at ≤ length out
   line_at = bytes_at write writes out at line room
 
-  module _ (few : length out * 1 < 2 ^ 63) (ys : Bytes) (wrote : WriteAnswer) (call : WriteCall (print_line tag t a (length lent)) lent ys wrote) where
-    answers : wrote ≡ write_answer (print_line tag t a (length lent))
-    answers = write_exact (print_line tag t a (length lent)) wrote call.returns
+  module _ (few : length out * 1 < 2 ^ 63) (ys : Bytes) (wrote : Result ℕ Refusal) (call : WriteCall (print_line tag t a (length lent)) lent ys wrote) where
+    answers : wrote ≡ length_answer (print_line tag t a (length lent))
+    answers = length_exact (print_line tag t a (length lent)) wrote call.returns
 
     line_put : (r : ℕ) → r ≡ at + length line → Emitted write out (take at out ++ (ys ++ drop (length out - at) (drop at out))) at line r
     line_put r e = emitted_put write writes out at line room few ys (call.leaves ∙ lent_out tag lent t a line-room) r e
 
-    wrote_len : (n : ℕ) → wrote ≡ Written n → n ≡ length line
+    wrote_len : (n : ℕ) → wrote ≡ Ok n → n ≡ length line
     wrote_len n e = lent_written tag lent t a line-room n (sym e ∙ answers)
 
-    pub wrote-fits : (n : ℕ) → wrote ≡ Written n → Fits w64 (at + n)
+    pub wrote-fits : (n : ℕ) → wrote ≡ Ok n → Fits w64 (at + n)
     wrote-fits n e = record { fits = omega (arith, bytes-room write writes out at line room, wrote_len n e) }
 
-    pub wrote-line : (n : ℕ) → wrote ≡ Written n → Emitted write out (take at out ++ (ys ++ drop (length out - at) (drop at out))) at line (at + n)
+    pub wrote-line : (n : ℕ) → wrote ≡ Ok n → Emitted write out (take at out ++ (ys ++ drop (length out - at) (drop at out))) at line (at + n)
     wrote-line n e = line_put (at + n) (omega (arith, wrote_len n e))
 
-    pub wrote_none : (q : Refusal) → wrote ≡ Refused q → Emitted write out (take at out ++ (ys ++ drop (length out - at) (drop at out))) at line at
+    pub wrote_none : (q : Refusal) → wrote ≡ Err q → Emitted write out (take at out ++ (ys ++ drop (length out - at) (drop at out))) at line at
     wrote_none q e =
         let z = ap length (lent-refused tag lent t a line-room q (sym e ∙ answers)) in
         line_put at (omega (arith, z))

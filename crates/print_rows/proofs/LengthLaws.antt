@@ -1,4 +1,5 @@
 -- How long the lines of items are, and what a row says of that. Assumes nothing.
+use Rattle.std.specs.Prelude.{Option as LentOption}
 use Prim.Native.Nat.{ℕ, suc, ◌+◌, ◌/◌, ◌%◌, ◌≤◌, min}
 use native.Mathlib.Omega.{arith}
 use mathlib.Core.Path.{◌≡◌, refl, ap, ◌∙◌}
@@ -14,8 +15,7 @@ use Rattle.model.specs.Lists.{concat_map}
 use Rattle.model.specs.Number.{decimal}
 use Rattle.model.specs.declared.Kind.{Kind}
 use Rattle.model.specs.declared.Kind.TheVariants as Kd
-use Rattle.model.specs.declared.EndLine.{EndLine}
-use Rattle.model.specs.Parts.{end_in}
+use Rattle.model.specs.Parts.{given_in}
 use Rattle.model.specs.Record.{function_name}
 use Rattle.model.specs.Report.{Extent, updated, Item, extent_of, end_of, section_item, function_item, branch_item, line_item}
 use Rattle.model.specs.Printing.{start_record, data_record, print_records}
@@ -111,8 +111,8 @@ module _ (tag : Kind → Bytes) (text : Bytes) (row : Row) where
         let z : row.tag / 2 ≡ 0 = omega arith in
         omega (arith, data_at 0 (row.tag % 2) z refl)
 
-    pub past-start : (start : ℕ) → start_key (extent_of (item_of text row)) ≡ suc start → (end : EndLine) → end_in end ≡ end_of (item_of text row)
-        → (t : ℕ) → t ≡ length (tag Kd.FunctionName) → (a b n : ℕ) → a ≡ length (decimal start) → b ≡ end_len (end_in end) → n ≡ min (at + (3 + t + a + b)) u64_max → r ≡ min (n + row.k2) u64_max
+    pub past-start : (start : ℕ) → start_key (extent_of (item_of text row)) ≡ suc start → (end : LentOption ℕ) → given_in end ≡ end_of (item_of text row)
+        → (t : ℕ) → t ≡ length (tag Kd.FunctionName) → (a b n : ℕ) → a ≡ length (decimal start) → b ≡ end_len (given_in end) → n ≡ min (at + (3 + t + a + b)) u64_max → r ≡ min (n + row.k2) u64_max
         → r ≡ min (at + length (lines tag (start_record (item_of text row)))) u64_max
     past-start start is end g t tag_is a b n p s h l =
         let k = started_kind text row start is in

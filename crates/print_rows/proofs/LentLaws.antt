@@ -1,4 +1,5 @@
 -- The lent records of rows, and the lines that they print. Assumes nothing.
+use Rattle.std.specs.Prelude.{Option as LentOption, Some, None}
 use Prim.Native.Nat.{ℕ, zero, suc, ◌+◌, ◌-◌, ◌/◌, ◌%◌, ◌≤◌, ◌<◌}
 use mathlib.Core.Path.{◌≡◌, refl, sym, ap, ◌∙◌}
 use mathlib.Core.Logic.{◌≢◌}
@@ -12,12 +13,6 @@ use borrow.Author.Tests.{le-leb, lt-ltb}
 use Rattle.table.specs.declared.Row.{Row}
 use Rattle.model.specs.declared.Kind.{Kind}
 use Rattle.model.specs.declared.Part.{Part}
-use Rattle.model.specs.declared.EndLine.{EndLine}
-use Rattle.model.specs.declared.EndLine.TheVariants as El
-use Rattle.model.specs.declared.Taken.{Taken}
-use Rattle.model.specs.declared.Taken.TheVariants as Tk
-use Rattle.model.specs.declared.Checksum.{Checksum}
-use Rattle.model.specs.declared.Checksum.TheVariants as Ck
 use Rattle.model.specs.declared.Record.{Record as LentRecord}
 use Rattle.model.specs.declared.Record.TheVariants as Lent
 use Rattle.model.specs.Bytes.{Bytes, newline}
@@ -26,7 +21,7 @@ use Rattle.model.specs.Lists.{concat_map}
 use Rattle.model.specs.Number.{decimal}
 use Rattle.model.specs.Record.{Record, test_name, source_file, function_name, function_data, functions_found, functions_hit, branch_data, branches_found, branches_hit, line_data, lines_found, lines_hit, end_of_record}
 use Rattle.model.specs.Report.{extent_at, Extent, updated, Item, extent_of, end_of, section_item, function_item, branch_item, line_item, count_of}
-use Rattle.model.specs.Parts.{part_of, end_in, taken_in, checksum_in, record_in}
+use Rattle.model.specs.Parts.{part_of, given_in, checksum_in, record_in}
 use Rattle.model.specs.Line.{print_record}
 use Rattle.model.specs.Printing.{start_record, data_record, print_records}
 use Rattle.model.specs.Valid.{ItemFits}
@@ -61,22 +56,22 @@ module _ (tag : Kind → Bytes) (text : Bytes) where
 
 -- ---- what is given of a row
 
-pub taken_none : (m n : ℕ) → m ≡ 0 → Tk.Absent ≡ lent_taken m n
+pub taken_none : (m n : ℕ) → m ≡ 0 → None ≡ lent_taken m n
 taken_none m n e = rw e
 
-pub taken-given : (m n : ℕ) → m ≢ 0 → Tk.Given n ≡ lent_taken m n
+pub taken-given : (m n : ℕ) → m ≢ 0 → Some n ≡ lent_taken m n
 taken-given zero n h = absurd (h refl)
 taken-given (suc m) n h = refl
 
-taken_in_lem : (m n : ℕ) → taken_in (lent_taken m n) ≡ if_given m n
-unfolding taken_in
+taken_in_lem : (m n : ℕ) → given_in (lent_taken m n) ≡ if_given m n
+unfolding given_in
 taken_in_lem zero n = refl
 taken_in_lem (suc m) n = refl
 
-pub checksum-none : (m start len : ℕ) → m ≡ 0 → Ck.Absent ≡ lent_checksum m start len
+pub checksum-none : (m start len : ℕ) → m ≡ 0 → None ≡ lent_checksum m start len
 checksum-none m start len e = rw e
 
-pub checksum-given : (m start len : ℕ) (p : Part) → m ≢ 0 → p ≡ lent_part start len → Ck.Given p ≡ lent_checksum m start len
+pub checksum-given : (m start len : ℕ) (p : Part) → m ≢ 0 → p ≡ lent_part start len → Some p ≡ lent_checksum m start len
 checksum-given zero start len p h e = absurd (h refl)
 checksum-given (suc m) start len p h e = rw e
 
@@ -91,12 +86,12 @@ pub key-start : {n k : ℕ} → k ≡ n → k ≢ 0 → n ≡ suc (k - 1)
 key-start e h = omega arith
 
 -- the length of an end line
-pub end-given : (end : EndLine) (line n : ℕ) → end ≡ El.Given line → n ≡ length (decimal line) → 1 + n ≡ end_len (end_in end)
-unfolding end_in
+pub end-given : (end : LentOption ℕ) (line n : ℕ) → end ≡ Some line → n ≡ length (decimal line) → 1 + n ≡ end_len (given_in end)
+unfolding given_in
 end-given end line n e h = rw (e, h)
 
-pub end_absent : (end : EndLine) → end ≡ El.Absent → 0 ≡ end_len (end_in end)
-unfolding end_in
+pub end_absent : (end : LentOption ℕ) → end ≡ None → 0 ≡ end_len (given_in end)
+unfolding given_in
 end_absent end e = rw e
 
 -- ---- a row's items
@@ -175,7 +170,7 @@ module _ (text : Bytes) (row : Row) where
 module _ (tag : Kind → Bytes) (text : Bytes) (row : Row) where
   -- FN of a row that has a start line
   module _ (start : ℕ) (is : start_key (extent_of (item_of text row)) ≡ suc start) where
-    pub start-line : (end : EndLine) (p : Part) → end_in end ≡ end_of (item_of text row) → ItemInBounds text row → p ≡ lent_part row.k1 row.k2
+    pub start-line : (end : LentOption ℕ) (p : Part) → given_in end ≡ end_of (item_of text row) → ItemInBounds text row → p ≡ lent_part row.k1 row.k2
         → line_in tag text (Lent.FunctionName start end p) ≡ print_records tag (start_record (item_of text row))
     unfolding start_record record_in
     start-line end p e g q =
@@ -202,12 +197,12 @@ module _ (tag : Kind → Bytes) (text : Bytes) (row : Row) where
   function-line p e g q =
       rw (item-is text row 1 e) (one_line tag text (Lent.FunctionData row.count p) (function_data row.count (part text row.k1 row.k2)) (rw (part_in_lem text p row.k1 row.k2 q (g.name e))))
 
-  pub branch-line : (t : Taken) → row.tag / 2 ≡ 2 → t ≡ lent_taken (row.tag % 2) row.count → line_in tag text (Lent.BranchData row.k1 row.k2 row.k3 t) ≡ print_records tag (data_record (item_of text row))
+  pub branch-line : (t : LentOption ℕ) → row.tag / 2 ≡ 2 → t ≡ lent_taken (row.tag % 2) row.count → line_in tag text (Lent.BranchData row.k1 row.k2 row.k3 t) ≡ print_records tag (data_record (item_of text row))
   unfolding data_record record_in
   branch-line t e q =
       rw (item-is text row 2 e) (one_line tag text (Lent.BranchData row.k1 row.k2 row.k3 t) (branch_data row.k1 row.k2 row.k3 (if_given (row.tag % 2) row.count)) (rw (q, taken_in_lem)))
 
-  pub checked_line : (c : Checksum) → row.tag / 2 ≡ 3 → ItemInBounds text row → c ≡ lent_checksum (row.tag % 2) row.k2 row.k3 → line_in tag text (Lent.LineData row.k1 row.count c) ≡ print_records tag (data_record (item_of text row))
+  pub checked_line : (c : LentOption Part) → row.tag / 2 ≡ 3 → ItemInBounds text row → c ≡ lent_checksum (row.tag % 2) row.k2 row.k3 → line_in tag text (Lent.LineData row.k1 row.count c) ≡ print_records tag (data_record (item_of text row))
   unfolding data_record record_in
   checked_line c e g q =
       rw (item-is text row 3 e)

@@ -1,12 +1,8 @@
 -- Bytes that are only measured, or written at a place of the output; and rows handed on as the lines that they print. Assumes nothing.
-use Rattle.std.specs.Prelude.{ℕ, zero, suc, ◌+◌, ◌*◌, ◌≤◌, ◌<◌, min, ◌≡◌, Bool, true, false, List, ◌++◌, ltb, length, take, drop, if◌then◌else◌}
+use Rattle.std.specs.Prelude.{ℕ, zero, suc, ◌+◌, ◌*◌, ◌≤◌, ◌<◌, min, ◌≡◌, Bool, true, false, List, ◌++◌, ltb, length, take, drop, if◌then◌else◌, Option as LentOption, Some, None}
 use Rattle.std.proofs.Math.Option.{Option, none, some}
 use Rattle.table.specs.Rows.{row_words, word, row_at}
 use Rattle.model.specs.declared.Part.{Part}
-use Rattle.model.specs.declared.Taken.{Taken}
-use Rattle.model.specs.declared.Taken.TheVariants as Tk
-use Rattle.model.specs.declared.Checksum.{Checksum}
-use Rattle.model.specs.declared.Checksum.TheVariants as Ck
 use Rattle.model.specs.Bytes.{Bytes}
 use Rattle.model.specs.Limits.{u64_max}
 use Rattle.model.specs.Number.{decimal}
@@ -81,10 +77,10 @@ abbrev pub lent_part : ℕ → ℕ → Part
 lent_part start len = record { start = start; len = len }
 
 -- a branch's taken count, and a line's checksum, where the tag says that they are given
-abbrev pub lent_taken : ℕ → ℕ → Taken
-lent_taken zero count = Tk.Absent
-lent_taken (suc k) count = Tk.Given count
+abbrev pub lent_taken : ℕ → ℕ → LentOption ℕ
+lent_taken zero count = None
+lent_taken (suc k) count = Some count
 
-abbrev pub lent_checksum : ℕ → ℕ → ℕ → Checksum
-lent_checksum zero start len = Ck.Absent
-lent_checksum (suc k) start len = Ck.Given (lent_part start len)
+abbrev pub lent_checksum : ℕ → ℕ → ℕ → LentOption Part
+lent_checksum zero start len = None
+lent_checksum (suc k) start len = Some (lent_part start len)

@@ -16,7 +16,7 @@ ghost use Rattle.print_report.specs.Printing.{AreKindRanges};
 ghost use Rattle.model_totals.specs.Totals.{blank, add_totals, print_share, share, columns, last_totals, page};
 ghost use Rattle.print_totals.specs.Counting.{max_columns, AtMost, RangeCounted, SectionCounted, ratio_columns, line_columns, name_columns, lines_from, page_at, LinePrinted};
 
-use model::WriteAnswer;
+use model::Refusal;
 use model_totals::{Ratio, Totals};
 use print_report::KindRanges;
 use table::Row;
@@ -234,7 +234,7 @@ fn print_lines(
 }
 
 // Prints the page of the first n rows, all of which are entries. An output that is too short stays.
-pub fn print_page(text: &[u8], words: &[u64], index: usize, n: usize, out: &mut [u8]) -> WriteAnswer
+pub fn print_page(text: &[u8], words: &[u64], index: usize, n: usize, out: &mut [u8]) -> Result<usize, Refusal>
     requires { Table text.now words.now index n n × (n ≤ max_entries) }
     ensures value { result ≡ write_answer (written (length out.old) (page (entries_at text.now words.now index n))) }
     ensures out_after { out.new ≡ output_after (written (length out.old) (page (entries_at text.now words.now index n))) out.old }
@@ -244,5 +244,5 @@ pub fn print_page(text: &[u8], words: &[u64], index: usize, n: usize, out: &mut 
         return print_report::too_short(needed);
     }
     let len = print_lines(text, words, index, n, out, true);
-    WriteAnswer::Written(len)
+    Ok(len)
 }

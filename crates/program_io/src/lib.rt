@@ -7,7 +7,7 @@ ghost use Rattle.format.specs.Put.{over};
 ghost use Rattle.program_io.specs.Cases.{u16_at, case_end};
 ghost use Rattle.program_io.specs.Refused.{refused_line, max_refused, places};
 
-use model::{QueryAnswer, Refusal};
+use model::Refusal;
 
 // The most bytes of standard input that a bundle may have: `program_input` in model/specs/Limits.antt.
 pub const MAX_INPUT: usize = 65_536;
@@ -54,8 +54,7 @@ pub fn put_refusal(refusal: Refusal, out: &mut [u8]) -> usize
     requires { max_refused ≤ length out.old }
     ensures { (result ≡ length (refused_line «refusal»)) × (out.new ≡ over (refused_line «refusal») out.old) }
 {
-    let fault = refusal.fault;
-    let number = refusal::number_of(fault) as u64;
+    let number = u32::from(refusal.fault) as u64;
     let head = format::put_bytes(b"refused", out);
     let n = put_places(
         number,
@@ -80,11 +79,7 @@ pub fn show_refusal(refusal: Refusal) {
 
 // Writes the first n bytes, or all where there are fewer.
 pub fn write_first(bytes: &[u8], n: usize) {
-    if n <= bytes.len() {
-        io::write_all(1, &bytes[..n]);
-    } else {
-        io::write_all(1, bytes);
-    }
+    io::write_all(1, &bytes[..n.min(bytes.len())]);
 }
 
 // The most bytes that a number has with a byte before it.
@@ -103,15 +98,15 @@ pub fn show_range(start: u32, end: u32) {
     write_first(&out, len);
 }
 
-pub fn show_query(answer: QueryAnswer) {
+pub fn show_query(answer: Result<bool, Refusal>) {
     match answer {
-        QueryAnswer::Holds(held) => {
+        Ok(held) => {
             if held {
                 io::write_all(1, b"held\n");
             } else {
                 io::write_all(1, b"not held\n");
             }
         }
-        QueryAnswer::Refused(refusal) => show_refusal(refusal),
+        Err(refusal) => show_refusal(refusal),
     }
 }

@@ -1,4 +1,5 @@
 -- A line with no checksum, written with no record made of it. Assumes nothing.
+use Rattle.std.specs.Prelude.{Ok}
 use Prim.Native.Nat.{ℕ, ◌+◌, ◌-◌, ◌^◌, ◌≤◌, ◌<◌}
 use mathlib.Core.Path.{◌≡◌, refl, sym, ap, ◌∙◌}
 use mathlib.Core.Bool.{true}
@@ -10,12 +11,11 @@ use mir.Val.{Fits}
 use mir.Syntax.{w64}
 use Rattle.model.specs.declared.Kind.{Kind}
 use Rattle.model.specs.declared.Kind.TheVariants as Kd
-use Rattle.model.specs.declared.WriteAnswer.TheVariants.{Written}
 use Rattle.model.specs.Bytes.{Bytes}
 use Rattle.model.specs.Number.{decimal}
 use Rattle.model.specs.TagTable.{tags_of, are_tags}
 use Rattle.model.specs.Output.{output_after}
-use Rattle.model.specs.Calls.{write_answer}
+use Rattle.model.specs.Calls.{length_answer}
 use Rattle.model.specs.Parts.{print_line}
 use Rattle.format.specs.Put.{over, pair}
 use Rattle.record_display.specs.Fields.{FieldsOf, separated, number_texts, last_len, last_field, head_of, max_head, fields_text, line_text, Fitting}
@@ -117,7 +117,7 @@ module _ (tags : Bytes) (are : are_tags tags ≡ true) (line count : ℕ) where
   pub counted-room : (room : ℕ) → max_head ≤ room → length (whole (tags_of tags) line count) ≤ room
   counted-room room h = print_room (tags_of tags) [] (counted line count) (line_fields line count) (line_fields_lem line count) true (inside_nothing L.Nothing 0 refl) refl (fitting tags are line count room h) refl
 
-  pub counted-written : (room n : ℕ) → max_head ≤ room → n ≡ length (whole (tags_of tags) line count) → Written n ≡ write_answer (print_line (tags_of tags) [] (counted line count) room)
+  pub counted-written : (room n : ℕ) → max_head ≤ room → n ≡ length (whole (tags_of tags) line count) → Ok n ≡ length_answer (print_line (tags_of tags) [] (counted line count) room)
   counted-written room n h e =
       print_written (tags_of tags) [] (counted line count) (line_fields line count) (line_fields_lem line count) true (inside_nothing L.Nothing 0 refl) refl (fitting tags are line count room h) refl n e
 

@@ -1,4 +1,5 @@
 -- The line of a record's fields is the model's line, and what the printer answers. Assumes nothing.
+use Rattle.std.specs.Prelude.{Some, None, Ok, Err}
 use Prim.Native.Nat.{ℕ, ◌+◌, ◌-◌, ◌*◌, ◌^◌, ◌≤◌, ◌<◌, min}
 use mathlib.Core.Path.{◌≡◌, refl, sym, ap, ◌∙◌}
 use mathlib.Core.List.{List, [], ◌∷◌, ◌++◌, map, append_assoc, append-nil}
@@ -13,9 +14,6 @@ use Rattle.model.specs.declared.Kind.{Kind}
 use Rattle.model.specs.declared.Kind.TheVariants as Kd
 use Rattle.model.specs.declared.Part.{Part}
 use Rattle.model.specs.declared.Refusal.{Refusal}
-use Rattle.model.specs.declared.EndLine.TheVariants as E
-use Rattle.model.specs.declared.Taken.TheVariants as T
-use Rattle.model.specs.declared.Checksum.TheVariants as C
 use Rattle.model.specs.declared.Record.{Record}
 use Rattle.model.specs.declared.Record.TheVariants.{TestName, SourceFile, FunctionName, FunctionData, FunctionsFound, FunctionsHit, BranchData, BranchesFound, BranchesHit, LineData, LinesFound, LinesHit, EndOfRecord}
 use Rattle.model.specs.Bytes.{Bytes, ascii, joined}
@@ -25,8 +23,8 @@ use Rattle.model.specs.Record as Model
 use Rattle.model.specs.Line.{print_end, print_fields, print_taken, print_checksum, print_record}
 use Rattle.model.specs.Limits.{u64_max}
 use Rattle.model.specs.Output.{written, output_after}
-use Rattle.model.specs.Calls.{write_answer}
-use Rattle.model.specs.Parts.{end_in, part_of, taken_in, checksum_in, record_in, print_line}
+use Rattle.model.specs.Calls.{length_answer}
+use Rattle.model.specs.Parts.{given_in, part_of, checksum_in, record_in, print_line}
 use Rattle.format.specs.Put.{over}
 use Rattle.format.proofs.PutLaws.{written-fits}
 use Rattle.record_display.specs.Fields.{FieldsOf, separated, number_texts, last_len, last_field, inside, sep_after, head_of, max_head, fields_text, line_text, Fitting, needed_at, kind_of, numbers_of, last_of}
@@ -34,7 +32,6 @@ use Rattle.record_display.specs.Lines.{line_of, line_in}
 use Rattle.record_display.specs.declared.fields.Last.{Last}
 use Rattle.record_display.specs.declared.fields.Last.TheVariants as L
 use Rattle.record_display.specs.declared.fields.Fields.{Fields}
-use Rattle.model.specs.declared.WriteAnswer.TheVariants.{Written, Refused}
 use Rattle.record_display.proofs.RecordFieldLaws.{after-numbers, fields_len, line_len}
 
 inside-most : (t : Bytes) (l : Last) → inside (length t) l ≡ true → length t * 1 < 2 ^ 63 → last_len l ≤ 9223372036854775808
@@ -78,32 +75,32 @@ module _ (t : Bytes) where
   record_outside (FunctionData n p) e = rw (part_not p e)
   record_outside (FunctionsFound n) e = no_way e
   record_outside (FunctionsHit n) e = no_way e
-  record_outside (BranchData l b c (T.Given n)) e = no_way e
-  record_outside (BranchData l b c T.Absent) e = no_way e
+  record_outside (BranchData l b c (Some n)) e = no_way e
+  record_outside (BranchData l b c None) e = no_way e
   record_outside (BranchesFound n) e = no_way e
   record_outside (BranchesHit n) e = no_way e
-  record_outside (LineData l n (C.Given p)) e = rw (part_not p e)
-  record_outside (LineData l n C.Absent) e = no_way e
+  record_outside (LineData l n (Some p)) e = rw (part_not p e)
+  record_outside (LineData l n None) e = no_way e
   record_outside (LinesFound n) e = no_way e
   record_outside (LinesHit n) e = no_way e
   record_outside EndOfRecord e = no_way e
 
 module _ (tag : Kind → Bytes) (t : Bytes) where
   record_inside : (a : Record) → inside (length t) (last_of a) ≡ true → (made : Model.Record) × (record_in t a ≡ accepted made) × (print_record tag made ++ (10 ∷ []) ≡ printed tag t a)
-  unfolding inside record_in end_in taken_in checksum_in print_record print_fields print_end print_taken print_checksum joined printed separated last_field
+  unfolding inside record_in given_in checksum_in print_record print_fields print_end print_taken print_checksum joined printed separated last_field
   record_inside (TestName p) e = (Model.test_name (take p.len (drop p.start t)), rw (part-there t p e), line_fields_lem tag Kd.TestName (take p.len (drop p.start t)) [])
   record_inside (SourceFile p) e = (Model.source_file (take p.len (drop p.start t)), rw (part-there t p e), line_fields_lem tag Kd.SourceFile (take p.len (drop p.start t)) [])
-  record_inside (FunctionName n (E.Given l) p) e = (Model.function_name n (some l) (take p.len (drop p.start t)), rw (part-there t p e), line_fields_lem tag Kd.FunctionName (decimal n) (decimal l ∷ take p.len (drop p.start t) ∷ []))
-  record_inside (FunctionName n E.Absent p) e = (Model.function_name n none (take p.len (drop p.start t)), rw (part-there t p e), line_fields_lem tag Kd.FunctionName (decimal n) (take p.len (drop p.start t) ∷ []))
+  record_inside (FunctionName n (Some l) p) e = (Model.function_name n (some l) (take p.len (drop p.start t)), rw (part-there t p e), line_fields_lem tag Kd.FunctionName (decimal n) (decimal l ∷ take p.len (drop p.start t) ∷ []))
+  record_inside (FunctionName n None p) e = (Model.function_name n none (take p.len (drop p.start t)), rw (part-there t p e), line_fields_lem tag Kd.FunctionName (decimal n) (take p.len (drop p.start t) ∷ []))
   record_inside (FunctionData n p) e = (Model.function_data n (take p.len (drop p.start t)), rw (part-there t p e), line_fields_lem tag Kd.FunctionData (decimal n) (take p.len (drop p.start t) ∷ []))
   record_inside (FunctionsFound n) e = (Model.functions_found n, refl, line_fields_lem tag Kd.FunctionsFound (decimal n) [])
   record_inside (FunctionsHit n) e = (Model.functions_hit n, refl, line_fields_lem tag Kd.FunctionsHit (decimal n) [])
-  record_inside (BranchData l b c (T.Given n)) e = (Model.branch_data l b c (some n), refl, line_fields_lem tag Kd.BranchData (decimal l) (decimal b ∷ decimal c ∷ decimal n ∷ []))
-  record_inside (BranchData l b c T.Absent) e = (Model.branch_data l b c none, refl, line_fields_lem tag Kd.BranchData (decimal l) (decimal b ∷ decimal c ∷ ascii "-" ∷ []))
+  record_inside (BranchData l b c (Some n)) e = (Model.branch_data l b c (some n), refl, line_fields_lem tag Kd.BranchData (decimal l) (decimal b ∷ decimal c ∷ decimal n ∷ []))
+  record_inside (BranchData l b c None) e = (Model.branch_data l b c none, refl, line_fields_lem tag Kd.BranchData (decimal l) (decimal b ∷ decimal c ∷ ascii "-" ∷ []))
   record_inside (BranchesFound n) e = (Model.branches_found n, refl, line_fields_lem tag Kd.BranchesFound (decimal n) [])
   record_inside (BranchesHit n) e = (Model.branches_hit n, refl, line_fields_lem tag Kd.BranchesHit (decimal n) [])
-  record_inside (LineData l n (C.Given p)) e = (Model.line_data l n (some (take p.len (drop p.start t))), rw (part-there t p e), line_fields_lem tag Kd.LineData (decimal l) (decimal n ∷ take p.len (drop p.start t) ∷ []))
-  record_inside (LineData l n C.Absent) e = (Model.line_data l n none, refl, line_fields_lem tag Kd.LineData (decimal l) (decimal n ∷ []))
+  record_inside (LineData l n (Some p)) e = (Model.line_data l n (some (take p.len (drop p.start t))), rw (part-there t p e), line_fields_lem tag Kd.LineData (decimal l) (decimal n ∷ take p.len (drop p.start t) ∷ []))
+  record_inside (LineData l n None) e = (Model.line_data l n none, refl, line_fields_lem tag Kd.LineData (decimal l) (decimal n ∷ []))
   record_inside (LinesFound n) e = (Model.lines_found n, refl, line_fields_lem tag Kd.LinesFound (decimal n) [])
   record_inside (LinesHit n) e = (Model.lines_hit n, refl, line_fields_lem tag Kd.LinesHit (decimal n) [])
   record_inside EndOfRecord e = (Model.end_of_record, refl, ap (λ (l : Bytes). l ++ (10 ∷ [])) (sym (append-nil (tag Kd.EndOfRecord))))
@@ -148,8 +145,8 @@ module _ (tag : Kind → Bytes) (t : Bytes) (a : Record) (s : Fields) (w : Field
     tested_of : (d : Bool) → r ≡ d → inside (length t) (last_of a) ≡ d
     tested_of d e = ap (inside (length t)) (sym w.last) ∙ sym tested ∙ e
 
-    pub print_outside : (room : ℕ) (q : Refusal) → r ≡ false → q ≡ needed_at PartOutside 0 → Refused q ≡ write_answer (print_line tag t a room)
-    unfolding write_answer
+    pub print_outside : (room : ℕ) (q : Refusal) → r ≡ false → q ≡ needed_at PartOutside 0 → Err q ≡ length_answer (print_line tag t a room)
+    unfolding length_answer
     print_outside room q e f = rw (line-outside tag t a room (tested_of false e), f)
 
     pub none_measured : r ≡ false → 0 ≡ length (line_in tag t a)
@@ -184,8 +181,8 @@ module _ (tag : Kind → Bytes) (t : Bytes) (a : Record) (s : Fields) (w : Field
           unfolding written
           short = line-inside tag t a room (tested_of true yes) ∙ rw (← needed, lt-leb n room too_long)
 
-          pub print_short : (q : Refusal) → n ≤ max_head + last_len s.last → length t * 1 < 2 ^ 63 → q ≡ needed_at OutputTooShort n → Refused q ≡ write_answer (print_line tag t a room)
-          unfolding write_answer
+          pub print_short : (q : Refusal) → n ≤ max_head + last_len s.last → length t * 1 < 2 ^ 63 → q ≡ needed_at OutputTooShort n → Err q ≡ length_answer (print_line tag t a room)
+          unfolding length_answer
           print_short q few b e =
               let m : min n u64_max ≡ n = omega (arith, last-most b) in
               rw (short, e, m)
@@ -205,8 +202,8 @@ module _ (tag : Kind → Bytes) (t : Bytes) (a : Record) (s : Fields) (w : Field
         pub print_room : length (line_text tag t s.kind s.numbers s.count s.last) ≤ room
         print_room = rw fields_printed room_enough
 
-        pub print_written : (n : ℕ) → n ≡ length (line_text tag t s.kind s.numbers s.count s.last) → Written n ≡ write_answer (print_line tag t a room)
-        unfolding write_answer
+        pub print_written : (n : ℕ) → n ≡ length (line_text tag t s.kind s.numbers s.count s.last) → Ok n ≡ length_answer (print_line tag t a room)
+        unfolding length_answer
         print_written n e = rw (fits_in, e, fields_printed)
 
       pub print_out : {f : Bool} (old out : Bytes) → Fitting tag s (length old) f → f ≡ true → out ≡ over (line_text tag t s.kind s.numbers s.count s.last) old → out ≡ output_after (print_line tag t a (length old)) old
@@ -229,13 +226,13 @@ module _ (tag : Kind → Bytes) (old : Bytes) where
   answer_out (accepted m) h = rw (written-fits (print_record tag m ++ (10 ∷ [])) (length old) h)
   answer_out (refused r) h = refl
 
-  answer_written : (made : Answer Model.Record) (n : ℕ) → length (line_of tag made) ≤ length old → Written n ≡ write_answer (answer made) → n ≡ length (line_of tag made)
-  unfolding write_answer
+  answer_written : (made : Answer Model.Record) (n : ℕ) → length (line_of tag made) ≤ length old → Ok n ≡ length_answer (answer made) → n ≡ length (line_of tag made)
+  unfolding length_answer
   answer_written (accepted m) n h e = let q = rw (written-fits (print_record tag m ++ (10 ∷ [])) (length old) h) at e in cc
   answer_written (refused r) n h e = cc
 
-  answer_refused : (made : Answer Model.Record) (q : Refusal) → length (line_of tag made) ≤ length old → Refused q ≡ write_answer (answer made) → line_of tag made ≡ []
-  unfolding write_answer
+  answer_refused : (made : Answer Model.Record) (q : Refusal) → length (line_of tag made) ≤ length old → Err q ≡ length_answer (answer made) → line_of tag made ≡ []
+  unfolding length_answer
   answer_refused (accepted m) q h e = let q = rw (written-fits (print_record tag m ++ (10 ∷ [])) (length old) h) at e in cc
   answer_refused (refused r) q h e = refl
 
@@ -244,10 +241,10 @@ module _ (tag : Kind → Bytes) (old : Bytes) where
     unfolding print_line line_in
     lent_out = answer_out (record_in t a) room
 
-    pub lent_written : (n : ℕ) → Written n ≡ write_answer (print_line tag t a (length old)) → n ≡ length (line_in tag t a)
+    pub lent_written : (n : ℕ) → Ok n ≡ length_answer (print_line tag t a (length old)) → n ≡ length (line_in tag t a)
     unfolding print_line line_in
     lent_written n e = answer_written (record_in t a) n room e
 
-    pub lent-refused : (q : Refusal) → Refused q ≡ write_answer (print_line tag t a (length old)) → line_in tag t a ≡ []
+    pub lent-refused : (q : Refusal) → Err q ≡ length_answer (print_line tag t a (length old)) → line_in tag t a ≡ []
     unfolding print_line line_in
     lent-refused q e = answer_refused (record_in t a) q room e

@@ -1,4 +1,5 @@
 -- A record's fields, and the line that its fields make. Assumes nothing.
+use Rattle.std.specs.Prelude.{Option}
 use Prim.Native.Nat.{ℕ, zero, suc, ◌+◌, ◌-◌, ◌*◌, ◌^◌, ◌≤◌, ◌<◌}
 use mathlib.Core.Path.{◌≡◌, refl, sym, ap, ◌∙◌}
 use mathlib.Core.List.{List, [], ◌∷◌, ◌++◌, map, append_assoc, append-nil}
@@ -12,10 +13,7 @@ use mir.Val.{Fits}
 use mir.Syntax.{w64}
 use borrow.Author.Tests.{leb-true, le-leb}
 use Rattle.model.specs.declared.Kind.{Kind}
-use Rattle.model.specs.declared.EndLine.{EndLine}
 use Rattle.model.specs.declared.Part.{Part}
-use Rattle.model.specs.declared.Taken.{Taken}
-use Rattle.model.specs.declared.Checksum.{Checksum}
 use Rattle.model.specs.declared.Record.{Record}
 use Rattle.model.specs.declared.Record.TheVariants.{FunctionName, BranchData, LineData}
 use Rattle.model.specs.Bytes.{Bytes}
@@ -34,13 +32,13 @@ use Rattle.format.proofs.OverLaws.{second-room, last_within, last_out, last-kept
 pub fields_is : (a b : Record) (s : Fields) → a ≡ b → FieldsOf b s → FieldsOf a s
 fields_is a b s e h = rw e h
 
-pub fields_end : (n : ℕ) (t u : EndLine) (p : Part) (s : Fields) → t ≡ u → FieldsOf (FunctionName n u p) s → FieldsOf (FunctionName n t p) s
+pub fields_end : (n : ℕ) (t u : Option ℕ) (p : Part) (s : Fields) → t ≡ u → FieldsOf (FunctionName n u p) s → FieldsOf (FunctionName n t p) s
 fields_end n t u p s e h = rw e h
 
-pub fields_taken : (l b c : ℕ) (t u : Taken) (s : Fields) → t ≡ u → FieldsOf (BranchData l b c u) s → FieldsOf (BranchData l b c t) s
+pub fields_taken : (l b c : ℕ) (t u : Option ℕ) (s : Fields) → t ≡ u → FieldsOf (BranchData l b c u) s → FieldsOf (BranchData l b c t) s
 fields_taken l b c t u s e h = rw e h
 
-pub fields_checksum : (l n : ℕ) (t u : Checksum) (s : Fields) → t ≡ u → FieldsOf (LineData l n u) s → FieldsOf (LineData l n t) s
+pub fields_checksum : (l n : ℕ) (t u : Option Part) (s : Fields) → t ≡ u → FieldsOf (LineData l n u) s → FieldsOf (LineData l n t) s
 fields_checksum l n t u s e h = rw e h
 
 pub ruleset field_laws = (fields_is, fields_end, fields_taken, fields_checksum)

@@ -1,16 +1,10 @@
 -- A record as its kind, its numbers and its last field: what the functions of this crate promise each other. Assumes nothing.
-use Rattle.std.specs.Prelude.{ℕ, ◌+◌, ◌≤◌, List, [], ◌∷◌, ◌++◌, map, ◌≡◌, Bool, true, false, cond, leb, eqb, length, take, drop}
+use Rattle.std.specs.Prelude.{ℕ, ◌+◌, ◌≤◌, List, [], ◌∷◌, ◌++◌, map, ◌≡◌, Bool, true, false, cond, leb, eqb, length, take, drop, Option, Some, None}
 use Rattle.model.specs.declared.Fault.{Fault}
 use Rattle.model.specs.declared.Kind.{Kind}
 use Rattle.model.specs.declared.Kind.TheVariants as Kd
 use Rattle.model.specs.declared.Part.{Part}
 use Rattle.model.specs.declared.Refusal.{Refusal}
-use Rattle.model.specs.declared.EndLine.{EndLine}
-use Rattle.model.specs.declared.EndLine.TheVariants as E
-use Rattle.model.specs.declared.Taken.{Taken}
-use Rattle.model.specs.declared.Taken.TheVariants as T
-use Rattle.model.specs.declared.Checksum.{Checksum}
-use Rattle.model.specs.declared.Checksum.TheVariants as C
 use Rattle.model.specs.declared.Record.{Record}
 use Rattle.model.specs.declared.Record.TheVariants.{TestName, SourceFile, FunctionName, FunctionData, FunctionsFound, FunctionsHit, BranchData, BranchesFound, BranchesHit, LineData, LinesFound, LinesHit, EndOfRecord}
 use Rattle.model.specs.Bytes.{Bytes, ascii}
@@ -20,21 +14,21 @@ use Rattle.record_display.specs.declared.fields.Last.TheVariants as L
 use Rattle.record_display.specs.declared.fields.Fields.{Fields}
 
 -- the numbers of a record, then "-" or a text
-abbrev pub end_number : EndLine → List ℕ
-end_number (E.Given n) = n ∷ []
-end_number E.Absent = []
+abbrev pub end_number : Option ℕ → List ℕ
+end_number (Some n) = n ∷ []
+end_number None = []
 
-abbrev pub taken_number : Taken → List ℕ
-taken_number (T.Given n) = n ∷ []
-taken_number T.Absent = []
+abbrev pub taken_number : Option ℕ → List ℕ
+taken_number (Some n) = n ∷ []
+taken_number None = []
 
-abbrev pub taken_last : Taken → Last
-taken_last (T.Given n) = L.Nothing
-taken_last T.Absent = L.Dash
+abbrev pub taken_last : Option ℕ → Last
+taken_last (Some n) = L.Nothing
+taken_last None = L.Dash
 
-abbrev pub checksum_last : Checksum → Last
-checksum_last (C.Given p) = L.Text p
-checksum_last C.Absent = L.Nothing
+abbrev pub checksum_last : Option Part → Last
+checksum_last (Some p) = L.Text p
+checksum_last None = L.Nothing
 
 abbrev pub kind_of : Record → Kind
 kind_of (TestName p) = Kd.TestName

@@ -1,7 +1,6 @@
 -- The line that a lent record prints. Assumes nothing.
-use Rattle.std.specs.Prelude.{[], ◌∷◌, ◌++◌, ℕ}
+use Rattle.std.specs.Prelude.{[], ◌∷◌, ◌++◌, ℕ, None}
 use Rattle.model.specs.declared.Kind.{Kind}
-use Rattle.model.specs.declared.Checksum.TheVariants.{Absent}
 use Rattle.model.specs.declared.Record.{Record as LentRecord}
 use Rattle.model.specs.declared.Record.TheVariants.{LineData}
 use Rattle.model.specs.Bytes.{Bytes, newline}
@@ -21,4 +20,4 @@ line_in tag text lent = line_of tag (record_in text lent)
 
 -- a line's record with no checksum: no part of it lies in a text
 abbrev pub counted : ℕ → ℕ → LentRecord
-counted line count = LineData line count Absent
+counted line count = LineData line count None

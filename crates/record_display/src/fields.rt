@@ -2,7 +2,7 @@
 ghost use Rattle.std.specs.Prelude.{◌≡◌, ◌+◌, ◌≤◌, ◌<◌, true, length};
 ghost use Rattle.record_display.specs.Fields.{FieldsOf, last_len, inside};
 
-use model::{Checksum, EndLine, Kind, Part, Record, Taken};
+use model::{Kind, Part, Record};
 
 // The last field of a record, after its numbers.
 #[derive(Clone, Copy)]
@@ -38,13 +38,13 @@ pub fn fields_of(record: Record) -> Fields
             last: Last::Text(path),
         },
         Record::FunctionName { start, end, name } => match end {
-            EndLine::Given(line) => Fields {
+            Some(line) => Fields {
                 kind: Kind::FunctionName,
                 numbers: [start as u64, line as u64, 0, 0],
                 count: 2,
                 last: Last::Text(name),
             },
-            EndLine::Absent => Fields {
+            None => Fields {
                 kind: Kind::FunctionName,
                 numbers: [start as u64, 0, 0, 0],
                 count: 1,
@@ -75,13 +75,13 @@ pub fn fields_of(record: Record) -> Fields
             branch,
             taken,
         } => match taken {
-            Taken::Given(n) => Fields {
+            Some(n) => Fields {
                 kind: Kind::BranchData,
                 numbers: [line as u64, block as u64, branch as u64, n],
                 count: 4,
                 last: Last::Nothing,
             },
-            Taken::Absent => Fields {
+            None => Fields {
                 kind: Kind::BranchData,
                 numbers: [line as u64, block as u64, branch as u64, 0],
                 count: 3,
@@ -105,13 +105,13 @@ pub fn fields_of(record: Record) -> Fields
             count,
             checksum,
         } => match checksum {
-            Checksum::Given(part) => Fields {
+            Some(part) => Fields {
                 kind: Kind::LineData,
                 numbers: [line as u64, count, 0, 0],
                 count: 2,
                 last: Last::Text(part),
             },
-            Checksum::Absent => Fields {
+            None => Fields {
                 kind: Kind::LineData,
                 numbers: [line as u64, count, 0, 0],
                 count: 2,
@@ -149,10 +149,7 @@ pub fn is_inside(last: Last, n: usize) -> bool
         Last::Text(part) => {
             let start = part.start;
             let len = part.len;
-            if n < start {
-                return false;
-            }
-            len <= n - start
+            start <= n && len <= n - start
         }
     }
 }

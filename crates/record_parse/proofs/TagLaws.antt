@@ -1,4 +1,5 @@
 -- A whole line: its end trimmed, its tag recognised, its body read. Assumes nothing.
+use Rattle.std.specs.Prelude.{Option as LentOption, Result, Some, None, Ok, Err}
 use Prim.Native.Nat.{ℕ, ◌+◌, ◌≤◌}
 use mathlib.Core.Path.{◌≡◌, refl, sym, ap, ◌∙◌}
 use mathlib.Core.List.{List, [], ◌∷◌}
@@ -17,48 +18,45 @@ use Rattle.model.specs.declared.Part.{Part}
 use Rattle.model.specs.declared.Refusal.{Refusal}
 use Rattle.model.specs.declared.Record.{Record as LentRecord}
 use Rattle.model.specs.declared.Record.TheVariants as Lent
-use Rattle.model.specs.declared.LineAnswer.{LineAnswer}
-use Rattle.model.specs.declared.LineAnswer.TheVariants.{Read, Refused}
 use Rattle.model.specs.Bytes.{Bytes, colon, before}
 use Rattle.model.specs.Answer.{Answer, accepted, refused, ◌>>=◌, on_line}
 use Rattle.model.specs.Record.{Record, test_name, source_file, end_of_record}
 use Rattle.model.specs.TagTable.{tags_of, are_tags}
 use Rattle.model.specs.Line.{trimmed, read_one, read_body, body_of, read_trimmed, read_record}
 use Rattle.model.specs.Parts.{lent_from, lent_record, lent_line}
-use Rattle.model.specs.Calls.{line_values, LineCall, line_answer}
+use Rattle.model.specs.Calls.{call_values, ValueCall, call_answer}
 use Rattle.model.specs.contracts.Kind.{the_type}
 use Rattle.model.proofs.TagLaws.{kind_among-tag, kind_among-none}
 use Rattle.model.proofs.TagTableLaws.{tags_lawful}
-use Rattle.model.proofs.CallLaws.{line_exact}
-use Rattle.tag_table.specs.Kinds.{body_at, Tagged, Untagged, FoundIn}
-use Rattle.tag_table.specs.declared.Found.{Found}
-use Rattle.tag_table.specs.declared.Found.TheVariants.{Known, Unknown}
+use Rattle.model.proofs.CallLaws.{call_exact}
+use Rattle.tag_table.specs.Kinds.{body_at, TaggedAs, Untagged, FoundIn}
+use Rattle.tag_table.specs.declared.Tagged.{Tagged}
 use Rattle.record_parse.specs.Answers.{Answers, read, refusal}
 use Rattle.record_parse.specs.Fields.{refused_at, part_from}
 use Rattle.record_parse.specs.Lines.{count_made, count_kind, is_total, TotalOf}
 use Rattle.record_parse.specs.declared.lines.Total.{Total}
 use Rattle.record_parse.specs.declared.lines.Total.TheVariants as Ct
-use Rattle.record_parse.proofs.FieldLaws.{part, part-rest, after_at}
+use Rattle.record_parse.proofs.FieldLaws.{part, part_rest, after_at}
 
 -- ---- the kinds whose body is a text, a number, or is ignored
 
 module _ (line : Bytes) (at : ℕ) (kind : Kind) where
   module _ (p : Part) (is : p ≡ part_from at (part line at)) (there : at ≤ length line) where
-    pub test-body : kind ≡ Kd.TestName → Answers line (Read (Lent.TestName p)) (read_body kind (drop at line))
+    pub test_body : kind ≡ Kd.TestName → Answers line (Ok (Lent.TestName p)) (read_body kind (drop at line))
     unfolding read_body lent_from
-    test-body e = rw e (read (test_name (drop at line)) (Lent.TestName p) (ap (λ (q : Part). Lent.TestName q) (is ∙ part-rest line at there)))
+    test_body e = rw e (read (test_name (drop at line)) (Lent.TestName p) (ap (λ (q : Part). Lent.TestName q) (is ∙ part_rest line at there)))
 
-    pub source_body : kind ≡ Kd.SourceFile → Answers line (Read (Lent.SourceFile p)) (read_body kind (drop at line))
+    pub source_body : kind ≡ Kd.SourceFile → Answers line (Ok (Lent.SourceFile p)) (read_body kind (drop at line))
     unfolding read_body lent_from
-    source_body e = rw e (read (source_file (drop at line)) (Lent.SourceFile p) (ap (λ (q : Part). Lent.SourceFile q) (is ∙ part-rest line at there)))
+    source_body e = rw e (read (source_file (drop at line)) (Lent.SourceFile p) (ap (λ (q : Part). Lent.SourceFile q) (is ∙ part_rest line at there)))
 
-  pub end_body : kind ≡ Kd.EndOfRecord → Answers line (Read Lent.EndOfRecord) (read_body kind (drop at line))
+  pub end_body : kind ≡ Kd.EndOfRecord → Answers line (Ok Lent.EndOfRecord) (read_body kind (drop at line))
   unfolding read_body lent_from
   end_body e = rw e (read end_of_record Lent.EndOfRecord refl)
 
   -- a kind that has a reader of its own
-  pub known-body : (known : Kind) (r : LineAnswer) → kind ≡ known → Answers line r (read_body known (drop at line)) → Answers line r (read_body kind (drop at line))
-  known-body known r e a = rw e a
+  pub known_body : (known : Kind) (r : Result LentRecord Refusal) → kind ≡ known → Answers line r (read_body known (drop at line)) → Answers line r (read_body kind (drop at line))
+  known_body known r e a = rw e a
 
 -- ---- the six kinds that hold one number
 
@@ -106,7 +104,7 @@ holds-total Kd.LinesFound h = refl
 holds-total Kd.LinesHit h = refl
 holds-total Kd.EndOfRecord h = absurd (miss read_as_total 12 tt h)
 
-total_body : {line : Bytes} {r : LineAnswer} (total : Total) (body : Bytes) → Answers line r (read_one (count_made total) body) → Answers line r (read_body (count_kind total) body)
+total_body : {line : Bytes} {r : Result LentRecord Refusal} (total : Total) (body : Bytes) → Answers line r (read_one (count_made total) body) → Answers line r (read_body (count_kind total) body)
 unfolding read_body
 total_body Ct.FunctionsFound body a = a
 total_body Ct.FunctionsHit body a = a
@@ -115,9 +113,9 @@ total_body Ct.BranchesHit body a = a
 total_body Ct.LinesFound body a = a
 total_body Ct.LinesHit body a = a
 
-pub other-body : (line : Bytes) (r : LineAnswer) (kind : Kind) (total : Total) (body : Bytes) → OneOf read_as_total (tag_of the_type kind) → TotalOf kind total
+pub other_body : (line : Bytes) (r : Result LentRecord Refusal) (kind : Kind) (total : Total) (body : Bytes) → OneOf read_as_total (tag_of the_type kind) → TotalOf kind total
     → Answers line r (read_one (count_made total) body) → Answers line r (read_body kind body)
-other-body line r kind total body h t a = rw (← (t.is (holds-total kind h))) (total_body total body a)
+other_body line r kind total body h t a = rw (← (t.is (holds-total kind h))) (total_body total body a)
 
 -- ---- where the body starts
 
@@ -131,51 +129,51 @@ body_is s = rw (after_at colon s, body_of) (go (ltb (length (before colon s)) (l
 
 -- ---- a whole line
 
-answer_is : {line : Bytes} {r : LineAnswer} {x : Answer Record} → Answers line r x → LineCall (x >>= λ made. accepted (lent_from line made)) r
-unfolding line_values
+answer_is : {line : Bytes} {r : Result LentRecord Refusal} {x : Answer Record} → Answers line r x → ValueCall (x >>= λ made. accepted (lent_from line made)) r
+unfolding call_values
 answer_is (read made lent e) = ap (λ (l : LentRecord). accepted l) e
 answer_is (refusal q) = refl
 
 module _ (tags line s : Bytes) (are : are_tags tags ≡ true) (is : s ≡ trimmed line) where
-  trimmed-read : (r : LineAnswer) → Answers s r (read_trimmed (tags_of tags) s) → LineCall (lent_record (tags_of tags) line) r
+  trimmed-read : (r : Result LentRecord Refusal) → Answers s r (read_trimmed (tags_of tags) s) → ValueCall (lent_record (tags_of tags) line) r
   unfolding lent_record read_record
   trimmed-read r a = let b : Answers (trimmed line) r (read_trimmed (tags_of tags) (trimmed line)) = rw is at a in answer_is b
 
-  module _ (found : Found) (f : FoundIn (tags_of tags) s found) where
-    pub record_read : (kind : Kind) (at : ℕ) (r : LineAnswer) → found ≡ Known kind at → Answers s r (read_body kind (drop at s)) → LineCall (lent_record (tags_of tags) line) r
+  module _ (found : LentOption Tagged) (f : FoundIn (tags_of tags) s found) where
+    pub record_read : (kind : Kind) (at : ℕ) (r : Result LentRecord Refusal) → found ≡ Some (record { kind = kind; at = at }) → Answers s r (read_body kind (drop at s)) → ValueCall (lent_record (tags_of tags) line) r
     unfolding read_trimmed
     record_read kind at r e body =
-        let t : Tagged (tags_of tags) s kind at = rw e at f in
+        let t : TaggedAs (tags_of tags) s (record { kind = kind; at = at }) = rw e at f in
         trimmed-read r
         (rw (t.is, kind_among-tag (tags_of tags) (tags_lawful tags are) kind, read_trimmed)
         (rw (t.body, body_is s) at body))
 
-    pub record_unknown : (r : LineAnswer) → found ≡ Unknown → r ≡ refused_at UnknownRecord 0 → LineCall (lent_record (tags_of tags) line) r
+    pub record_unknown : (r : Result LentRecord Refusal) → found ≡ None → r ≡ refused_at UnknownRecord 0 → ValueCall (lent_record (tags_of tags) line) r
     unfolding read_trimmed
     record_unknown r e q =
         let t : Untagged (tags_of tags) s = rw e at f in
         trimmed-read r (rw (kind_among-none (tags_of tags) (before colon s) t.none, read_trimmed, q) (refusal _))
 
-    pub found_within : (kind : Kind) (at : ℕ) → found ≡ Known kind at → at ≤ length s
-    found_within kind at e = let t : Tagged (tags_of tags) s kind at = rw e at f in t.within
+    pub found_within : (kind : Kind) (at : ℕ) → found ≡ Some (record { kind = kind; at = at }) → at ≤ length s
+    found_within kind at e = let t : TaggedAs (tags_of tags) s (record { kind = kind; at = at }) = rw e at f in t.within
 
 -- ---- a lone line is line 1
 
-module _ (tag : Kind → Bytes) (line : Bytes) (got : LineAnswer) (seen : LineCall (lent_record tag line) got) where
-  pub lone_read : (lent : LentRecord) → got ≡ Read lent → LineCall (lent_line tag line) (Read lent)
-  unfolding line_values lent_line
+module _ (tag : Kind → Bytes) (line : Bytes) (got : Result LentRecord Refusal) (seen : ValueCall (lent_record tag line) got) where
+  pub lone_read : (lent : LentRecord) → got ≡ Ok lent → ValueCall (lent_line tag line) (Ok lent)
+  unfolding call_values lent_line
   lone_read lent e = go (lent_record tag line) (rw e at seen)
     where
-      go : (a : Answer LentRecord) → LineCall a (Read lent) → LineCall (on_line 1 a) (Read lent)
+      go : (a : Answer LentRecord) → ValueCall a (Ok lent) → ValueCall (on_line 1 a) (Ok lent)
       go (accepted l) q = q
       go (refused r) q = absurd (not_refused q)
 
-  pub lone_refused : (q : Refusal) → got ≡ Refused q
-      → LineCall (lent_line tag line) (Refused (record { fault = q.fault; text = q.text; line = 1; field = q.field; needed = q.needed }))
-  unfolding line_values line_answer lent_line
-  lone_refused q e = go (lent_record tag line) (sym e ∙ line_exact (lent_record tag line) got seen)
+  pub lone_refused : (q : Refusal) → got ≡ Err q
+      → ValueCall (lent_line tag line) (Err (record { fault = q.fault; text = q.text; line = 1; field = q.field; needed = q.needed }))
+  unfolding call_values call_answer lent_line
+  lone_refused q e = go (lent_record tag line) (sym e ∙ call_exact (lent_record tag line) got seen)
     where
-      go : (a : Answer LentRecord) → Refused q ≡ line_answer a
-          → LineCall (on_line 1 a) (Refused (record { fault = q.fault; text = q.text; line = 1; field = q.field; needed = q.needed }))
+      go : (a : Answer LentRecord) → Err q ≡ call_answer a
+          → ValueCall (on_line 1 a) (Err (record { fault = q.fault; text = q.text; line = 1; field = q.field; needed = q.needed }))
       go (accepted l) p = impossible cc
       go (refused r) p = let z : q ≡ r = cc in rw z

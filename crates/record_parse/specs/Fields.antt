@@ -1,12 +1,10 @@
 -- What the field readers promise, in the model's definitions. Assumes nothing.
-use Rattle.std.specs.Prelude.{ℕ, suc, ◌+◌, ◌≤◌, ◌≡◌, length, Bool, false, cond, [], ◌∷◌, ltb, eqb, if◌then◌else◌}
+use Rattle.model.specs.declared.Record.{Record as LentRecord}
+use Rattle.model.specs.declared.Refusal.{Refusal}
+use Rattle.std.specs.Prelude.{ℕ, suc, ◌+◌, ◌≤◌, ◌≡◌, length, Bool, false, [], ◌∷◌, ltb, eqb, if◌then◌else◌, Option, Result, Some, None, Ok, Err}
 use Rattle.model.specs.declared.Fault.{Fault}
 use Rattle.model.specs.declared.Fault.TheVariants.{FieldNotFound, TooManyFields}
 use Rattle.model.specs.declared.Part.{Part}
-use Rattle.model.specs.declared.Checksum.{Checksum}
-use Rattle.model.specs.declared.Checksum.TheVariants as Ck
-use Rattle.model.specs.declared.LineAnswer.{LineAnswer}
-use Rattle.model.specs.declared.LineAnswer.TheVariants.{Refused}
 use Rattle.model.specs.Bytes.{Bytes, ascii, comma, same_bytes}
 use Rattle.model.specs.Number.{is_digit}
 use Rattle.scan.specs.declared.Number.{Number}
@@ -15,19 +13,22 @@ use Rattle.scan.specs.Scan.{number_in}
 use Rattle.record_parse.specs.declared.fields.Field.{Field}
 use Rattle.record_parse.specs.declared.fields.Field.TheVariants as F
 
-abbrev pub refused_at : Fault → ℕ → LineAnswer
-refused_at fault field = Refused (record { fault = fault; text = 0; line = 0; field = field; needed = 0 })
+abbrev pub refused_at : Fault → ℕ → Result LentRecord Refusal
+refused_at fault field = Err (record { fault = fault; text = 0; line = 0; field = field; needed = 0 })
 
-abbrev pub number_refusal : ℕ → Field → LineAnswer
+abbrev pub number_refusal : ℕ → Field → Result LentRecord Refusal
 number_refusal field (F.Fault fault) = refused_at fault field
 number_refusal field (F.Last value) = refused_at FieldNotFound (field + 1)
 number_refusal field (F.More value next) = refused_at TooManyFields 0
 
 -- a number read in the part of a line from start on: what follows its comma is a position of the line
-abbrev pub in_line : ℕ → Number → Field
-in_line start (N.Last value digits) = F.Last value
-in_line start (N.More value digits) = F.More value (start + digits + 1)
-in_line start (N.Fault fault) = F.Fault fault
+abbrev pub field_of : ℕ → Number → Field
+field_of start (N.Last value digits) = F.Last value
+field_of start (N.More value digits) = F.More value (start + digits + 1)
+
+abbrev pub in_line : ℕ → Result Number Fault → Field
+in_line start (Ok number) = field_of start number
+in_line start (Err fault) = F.Fault fault
 
 -- where the next field starts
 abbrev pub next_of : Field → ℕ
@@ -53,5 +54,5 @@ end_behind seen (b ∷ bs) = if is_digit b then end_behind (suc seen) bs else if
 abbrev pub part_from : ℕ → Bytes → Part
 part_from start rest = record { start = start; len = length rest }
 
-abbrev pub checksum_from : ℕ → Bytes → Checksum
-checksum_from start rest = if same_bytes rest (ascii "-") then Ck.Absent else Ck.Given (part_from start rest)
+abbrev pub checksum_from : ℕ → Bytes → Option Part
+checksum_from start rest = if same_bytes rest (ascii "-") then None else Some (part_from start rest)

@@ -1,9 +1,9 @@
 -- What the readers of the kinds of line promise, in the model's definitions. Assumes nothing.
-use Rattle.std.specs.Prelude.{ℕ, ◌≡◌, Bool, true, false, drop}
+use Rattle.model.specs.declared.Refusal.{Refusal}
+use Rattle.std.specs.Prelude.{ℕ, ◌≡◌, Bool, true, false, drop, Result}
 use Rattle.std.proofs.Math.Option.{some}
 use Rattle.model.specs.declared.Kind.{Kind}
 use Rattle.model.specs.declared.Kind.TheVariants as Kd
-use Rattle.model.specs.declared.LineAnswer.{LineAnswer}
 use Rattle.model.specs.declared.Record.{Record as LentRecord}
 use Rattle.model.specs.declared.Record.TheVariants as Lent
 use Rattle.model.specs.Bytes.{Bytes}
@@ -25,19 +25,19 @@ use Rattle.record_parse.specs.declared.lines.Total.TheVariants as Ct
 use Rattle.record_parse.specs.Answers.{Answers}
 
 -- the answer for every BRDA body whose field 4 is at the front of rest
-pub record TakenRead (line block branch : ℕ) (rest : Bytes) (r : LineAnswer) : Type 0 where
+pub record TakenRead (line block branch : ℕ) (rest : Bytes) (r : Result LentRecord Refusal) : Type 0 where
   pub is : (whole body : Bytes) → from_field 4 body ≡ some rest
       → Answers whole r (taken_field u64_max 4 body >>= λ taken. last_before 5 body (branch_data line block branch taken))
 
 -- ---- FN
 
 -- the answer for every FN body whose field 2, an end line, is at a position of the line
-pub record EndRead (start : ℕ) (line : Bytes) (at : ℕ) (r : LineAnswer) : Type 0 where
+pub record EndRead (start : ℕ) (line : Bytes) (at : ℕ) (r : Result LentRecord Refusal) : Type 0 where
   pub is : (body : Bytes) → from_field 2 body ≡ some (drop at line)
       → Answers line r (number_field u32_max 2 body >>= λ end. text_field 3 body >>= λ name. with_end start end name)
 
 -- the answer for every FN body whose field 2 is at a position of the line
-pub record FunctionRead (start : ℕ) (line : Bytes) (at : ℕ) (r : LineAnswer) : Type 0 where
+pub record FunctionRead (start : ℕ) (line : Bytes) (at : ℕ) (r : Result LentRecord Refusal) : Type 0 where
   pub is : (body : Bytes) → from_field 2 body ≡ some (drop at line) → Answers line r (read_function start body (drop at line))
 
 -- ---- the six kinds that hold one number

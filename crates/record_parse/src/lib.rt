@@ -2,22 +2,22 @@
 #![tactic(auto)]
 
 ghost use Rattle.std.specs.Prelude.{◌≡◌, ◌≤◌, length, drop, true};
-ghost use Rattle.model.specs.TagTable.{tags_of, are_tags};
 ghost use Rattle.model.specs.Line.{read_body};
 ghost use Rattle.model.specs.Parts.{lent_record, lent_line};
 ghost use Rattle.model.specs.Number.{read_field};
-ghost use Rattle.model.specs.Calls.{LineCall, NumberCall};
+ghost use Rattle.model.specs.Calls.{ValueCall};
 ghost use Rattle.record_parse.specs.Answers.{Answers};
 ghost use Rattle.record_parse.specs.Lines.{TotalOf};
+ghost use Rattle.tag_table.specs.Tags.{tag_of};
 
 mod fields;
 mod lines;
 
 use fields::{refused, text_field};
 use lines::Total;
-use model::{Fault, Kind, LineAnswer, NumberAnswer, Record, Refusal};
+use model::{Counted, Fault, Kind, Record, Refusal};
 use scan::Number;
-use tag_table::Found;
+use tag_table::{Tagged, Tags};
 
 // The kind, if it holds one number; any other is taken for LH.
 fn total_of(kind: Kind) -> Total
@@ -34,7 +34,7 @@ fn total_of(kind: Kind) -> Total
 }
 
 // The body of a line of this kind, which starts at a position.
-fn read_body(kind: Kind, line: &[u8], at: usize) -> LineAnswer
+fn read_body(kind: Kind, line: &[u8], at: usize) -> Result<Record, Refusal>
     requires { at ≤ length line.now }
     ensures { Answers line.now result (read_body kind (drop at line.now)) }
 {
@@ -43,36 +43,36 @@ fn read_body(kind: Kind, line: &[u8], at: usize) -> LineAnswer
         Kind::BranchData => lines::read_branch_data(line, at),
         Kind::FunctionData => lines::read_function_data(line, at),
         Kind::FunctionName => lines::read_function_name(line, at),
-        Kind::TestName => LineAnswer::Read(Record::TestName(text_field(at, &line[at..]))),
-        Kind::SourceFile => LineAnswer::Read(Record::SourceFile(text_field(at, &line[at..]))),
-        Kind::EndOfRecord => LineAnswer::Read(Record::EndOfRecord),
+        Kind::TestName => Ok(Record::TestName(text_field(at, &line[at..]))),
+        Kind::SourceFile => Ok(Record::SourceFile(text_field(at, &line[at..]))),
+        Kind::EndOfRecord => Ok(Record::EndOfRecord),
         _ => lines::read_total(total_of(kind), line, at),
     }
 }
 
 // Reads a line; its refusal has no line number yet.
-pub fn read_record(tags: &[u8], line: &[u8]) -> LineAnswer
-    requires { are_tags tags.now ≡ true }
-    ensures { LineCall (lent_record (tags_of tags.now) line.now) result }
+#[tactic(auto, using(crate::proofs::TagLaws::record_read, crate::proofs::TagLaws::record_unknown, crate::proofs::TagLaws::found_within))]
+pub fn read_record(tags: Tags, line: &[u8]) -> Result<Record, Refusal>
+    ensures { ValueCall (lent_record (tag_of tags.entry) line.now) result }
 {
     let s = scan::trim(line);
     match tag_table::kind_of(tags, s) {
-        Found::Known { kind, at } => read_body(kind, s, at),
-        Found::Unknown => refused(Fault::UnknownRecord, 0),
+        Some(Tagged { kind, at }) => read_body(kind, s, at),
+        None => refused(Fault::UnknownRecord, 0),
     }
 }
 
 // Reads a lone line, which is line 1.
-pub fn read_line(tags: &[u8], line: &[u8]) -> LineAnswer
-    requires { are_tags tags.now ≡ true }
-    ensures { LineCall (lent_line (tags_of tags.now) line.now) result }
+#[tactic(auto, using(crate::proofs::TagLaws::lone_read, crate::proofs::TagLaws::lone_refused))]
+pub fn read_line(tags: Tags, line: &[u8]) -> Result<Record, Refusal>
+    ensures { ValueCall (lent_line (tag_of tags.entry) line.now) result }
 {
     let got = read_record(tags, line);
     match got {
-        LineAnswer::Read(record) => LineAnswer::Read(record),
-        LineAnswer::Refused(r) => {
+        Ok(record) => Ok(record),
+        Err(r) => {
             let fault = r.fault;
-            LineAnswer::Refused(Refusal {
+            Err(Refusal {
                 fault,
                 text: r.text,
                 line: 1,
@@ -84,19 +84,20 @@ pub fn read_line(tags: &[u8], line: &[u8]) -> LineAnswer
 }
 
 // Reads one number field, a number up to max: its value, and how many digits were read. A refusal has no place.
-pub fn read_number(field: &[u8], max: u64) -> NumberAnswer
-    ensures { NumberCall (read_field max field.now) result }
+pub fn read_number(field: &[u8], max: u64) -> Result<Counted, Refusal>
+    ensures { ValueCall (read_field max field.now) result }
 {
     if scan::starts_with(field, b",") {
-        return NumberAnswer::Refused(refusal::unplaced(Fault::InvalidDigit));
+        return Err(Refusal::from(Fault::InvalidDigit));
     }
-    let got = scan::read_number(field, max);
-    match got {
-        Number::Last { value, digits } => NumberAnswer::Read { value, digits },
-        Number::More {
-            value: _value,
-            digits: _,
-        } => NumberAnswer::Refused(refusal::unplaced(Fault::InvalidDigit)),
-        Number::Fault(fault) => NumberAnswer::Refused(refusal::unplaced(fault)),
+    match scan::read_number(field, max) {
+        Ok(Number::Last { value, digits }) => Ok(Counted { value, digits }),
+        Ok(
+            Number::More {
+                value: _value,
+                digits: _,
+            },
+        ) => Err(Refusal::from(Fault::InvalidDigit)),
+        Err(fault) => Err(Refusal::from(fault)),
     }
 }

@@ -1,5 +1,7 @@
 // A reader for each kind of line whose body has numbers. Each gets the line, its end trimmed, and where the body starts, and hands
 // the part from there, then the part after each comma, on to the field readers.
+// A field that is refused ends the reading there: `let .. else` takes each answer apart, as the requirements name it (docs/ARCHITECTURE.md,
+// "Forms of code that the requirements name"), and so no `?` stands in its place.
 ghost use Rattle.std.specs.Prelude.{◌≡◌, ◌≤◌, length, drop};
 ghost use Rattle.model.specs.Line.{read_body, read_one};
 ghost use Rattle.model.specs.declared.Kind.TheVariants as Kd;
@@ -11,15 +13,16 @@ use super::fields::{
     Field, begins_with_end, checksum_field, long_field, number_field, number_refusal, refused,
     text_field,
 };
-use model::{Checksum, EndLine, Fault, LineAnswer, Record, Taken};
-use scan_digits::Short;
+use model::{Fault, Part, Record, Refusal};
+use scan::Number;
 
 const MAX_U32: u64 = 4294967295;
 
 const MAX_U64: u64 = 18446744073709551615;
 
 // The end of an FN body that has an end line: that line, which must not be below the start line, and a name.
-fn read_end(line: &[u8], at: usize, start: u32) -> LineAnswer
+#[tactic(auto, using(crate::proofs::FieldLaws::part_end, crate::proofs::LineLaws::end_up, crate::proofs::LineLaws::more_fits, crate::proofs::LineLaws::end_below, crate::proofs::LineLaws::end_given))]
+fn read_end(line: &[u8], at: usize, start: u32) -> Result<Record, Refusal>
     requires { at ≤ length line.now }
     ensures { EndRead start line.now at result }
 {
@@ -33,12 +36,13 @@ fn read_end(line: &[u8], at: usize, start: u32) -> LineAnswer
         return refused(Fault::EndBeforeStart, 0);
     }
     let name = text_field(next, &line[next..]);
-    let end = EndLine::Given(last);
-    LineAnswer::Read(Record::FunctionName { start, end, name })
+    let end = Some(last);
+    Ok(Record::FunctionName { start, end, name })
 }
 
 // What follows FN's start line: an end line and a name, or a name.
-fn read_function(line: &[u8], at: usize, start: u32) -> LineAnswer
+#[tactic(auto, using(crate::proofs::LineLaws::function_end, crate::proofs::LineLaws::function_plain))]
+fn read_function(line: &[u8], at: usize, start: u32) -> Result<Record, Refusal>
     requires { at ≤ length line.now }
     ensures { FunctionRead start line.now at result }
 {
@@ -46,12 +50,12 @@ fn read_function(line: &[u8], at: usize, start: u32) -> LineAnswer
         return read_end(line, at, start);
     }
     let name = text_field(at, &line[at..]);
-    let end = EndLine::Absent;
-    LineAnswer::Read(Record::FunctionName { start, end, name })
+    let end = None;
+    Ok(Record::FunctionName { start, end, name })
 }
 
 // FN: a start line, perhaps an end line, and a name.
-pub(crate) fn read_function_name(line: &[u8], at: usize) -> LineAnswer
+pub(crate) fn read_function_name(line: &[u8], at: usize) -> Result<Record, Refusal>
     requires { at ≤ length line.now }
     ensures { Answers line.now result (read_body Kd.FunctionName (drop at line.now)) }
 {
@@ -64,7 +68,7 @@ pub(crate) fn read_function_name(line: &[u8], at: usize) -> LineAnswer
 }
 
 // FNDA: a count and a name.
-pub(crate) fn read_function_data(line: &[u8], at: usize) -> LineAnswer
+pub(crate) fn read_function_data(line: &[u8], at: usize) -> Result<Record, Refusal>
     requires { at ≤ length line.now }
     ensures { Answers line.now result (read_body Kd.FunctionData (drop at line.now)) }
 {
@@ -78,21 +82,30 @@ pub(crate) fn read_function_data(line: &[u8], at: usize) -> LineAnswer
         return number_refusal(first, 1);
     };
     let name = text_field(rest, &line[rest..]);
-    LineAnswer::Read(Record::FunctionData { count, name })
+    Ok(Record::FunctionData { count, name })
 }
 
 // The end of a BRDA body: a taken count, which `short` has already if it is short, or "-" for none.
-fn read_taken(line: u32, block: u32, branch: u32, short: Short, rest: &[u8]) -> LineAnswer
+#[tactic(auto, using(crate::proofs::LineLaws::taken_short, crate::proofs::LineLaws::taken_dash, crate::proofs::LineLaws::taken_more, crate::proofs::LineLaws::taken_up, crate::proofs::LineLaws::taken_last))]
+fn read_taken(
+    line: u32,
+    block: u32,
+    branch: u32,
+    short: Option<Number>,
+    rest: &[u8],
+) -> Result<Record, Refusal>
     requires { ShortRead rest.now short }
     ensures { TakenRead line block branch rest.now result }
 {
-    if let Short::Last {
-        value: count,
-        digits: _,
-    } = short
+    if let Some(
+        Number::Last {
+            value: count,
+            digits: _,
+        },
+    ) = short
     {
-        let taken = Taken::Given(count);
-        return LineAnswer::Read(Record::BranchData {
+        let taken = Some(count);
+        return Ok(Record::BranchData {
             line,
             block,
             branch,
@@ -100,8 +113,8 @@ fn read_taken(line: u32, block: u32, branch: u32, short: Short, rest: &[u8]) -> 
         });
     }
     if scan::equal(rest, b"-") {
-        let taken = Taken::Absent;
-        return LineAnswer::Read(Record::BranchData {
+        let taken = None;
+        return Ok(Record::BranchData {
             line,
             block,
             branch,
@@ -115,8 +128,8 @@ fn read_taken(line: u32, block: u32, branch: u32, short: Short, rest: &[u8]) -> 
     let Field::Last(count) = fourth else {
         return number_refusal(fourth, 4);
     };
-    let taken = Taken::Given(count);
-    LineAnswer::Read(Record::BranchData {
+    let taken = Some(count);
+    Ok(Record::BranchData {
         line,
         block,
         branch,
@@ -125,7 +138,7 @@ fn read_taken(line: u32, block: u32, branch: u32, short: Short, rest: &[u8]) -> 
 }
 
 // BRDA: line, block, branch and a taken count.
-pub(crate) fn read_branch_data(line: &[u8], at: usize) -> LineAnswer
+pub(crate) fn read_branch_data(line: &[u8], at: usize) -> Result<Record, Refusal>
     requires { at ≤ length line.now }
     ensures { Answers line.now result (read_body Kd.BranchData (drop at line.now)) }
 {
@@ -163,7 +176,7 @@ pub(crate) fn read_branch_data(line: &[u8], at: usize) -> LineAnswer
 }
 
 // DA: a line number, a count and perhaps a checksum.
-pub(crate) fn read_line_data(line: &[u8], at: usize) -> LineAnswer
+pub(crate) fn read_line_data(line: &[u8], at: usize) -> Result<Record, Refusal>
     requires { at ≤ length line.now }
     ensures { Answers line.now result (read_body Kd.LineData (drop at line.now)) }
 {
@@ -176,14 +189,14 @@ pub(crate) fn read_line_data(line: &[u8], at: usize) -> LineAnswer
     let short = scan_digits::short_number(line, &line[next..]);
     let second = number_field(next, &line[next..], short, MAX_U64);
     match second {
-        Field::Last(count) => LineAnswer::Read(Record::LineData {
+        Field::Last(count) => Ok(Record::LineData {
             line: number,
             count,
-            checksum: Checksum::Absent,
+            checksum: None,
         }),
         Field::More { value: count, next } => {
             let checksum = checksum_field(next, &line[next..]);
-            LineAnswer::Read(Record::LineData {
+            Ok(Record::LineData {
                 line: number,
                 count,
                 checksum,
@@ -205,6 +218,7 @@ pub(crate) enum Total {
 }
 
 // The record of a kind that holds one number.
+#[tactic(auto, using(crate::proofs::LineLaws::count_is))]
 fn total_record(kind: Total, n: u32) -> Record
     ensures { result ≡ count_lent kind n }
 {
@@ -219,7 +233,8 @@ fn total_record(kind: Total, n: u32) -> Record
 }
 
 // FNF, FNH, BRF, BRH, LF, LH: one number.
-pub(crate) fn read_total(kind: Total, line: &[u8], at: usize) -> LineAnswer
+#[tactic(auto, using(crate::proofs::FieldLaws::first_field, crate::proofs::FieldLaws::part_end, crate::proofs::LineLaws::count_up, crate::proofs::LineLaws::last_fits, crate::proofs::LineLaws::count_last))]
+pub(crate) fn read_total(kind: Total, line: &[u8], at: usize) -> Result<Record, Refusal>
     requires { at ≤ length line.now }
     ensures { Answers line.now result (read_one (count_made kind) (drop at line.now)) }
 {
@@ -228,5 +243,5 @@ pub(crate) fn read_total(kind: Total, line: &[u8], at: usize) -> LineAnswer
     let Field::Last(value) = first else {
         return number_refusal(first, 1);
     };
-    LineAnswer::Read(total_record(kind, value as u32))
+    Ok(total_record(kind, value as u32))
 }

@@ -1,4 +1,6 @@
 -- Answers by case. Assumes nothing.
+use Rattle.std.specs.Prelude.{Result, Ok, Err}
+use Rattle.model.specs.declared.Record.{Record as LentRecord}
 use Prim.Native.Nat.{ℕ}
 use mathlib.Core.Path.{◌≡◌, sym, ◌∙◌}
 use mathlib.Core.Bool.{true, false}
@@ -8,8 +10,6 @@ use Rattle.model.specs.declared.Fault.{Fault}
 use Rattle.model.specs.declared.Fault.TheVariants.{UnexpectedEof}
 use Rattle.model.specs.declared.Record.{Record}
 use Rattle.model.specs.declared.Refusal.{Refusal}
-use Rattle.model.specs.declared.LineAnswer.{LineAnswer}
-use Rattle.model.specs.declared.LineAnswer.TheVariants as A
 use Rattle.section.specs.declared.State.{State}
 use Rattle.section.specs.declared.Step.{Step}
 use Rattle.section.specs.declared.Step.TheVariants as S
@@ -19,14 +19,14 @@ use Rattle.report_parser.specs.declared.LineStep.TheVariants as L
 use Rattle.report_parser.specs.declared.TextAnswer.TheVariants as T
 use Rattle.report_parser.specs.Reader.{at_line, fault_at, LineRefuses, StepRefuses, RefusedLine, RefusedStep, TextFinished}
 
-module _ (got : LineAnswer) where
-  pub line-refuses : (q : Refusal) → got ≡ A.Refused q → LineRefuses got
+module _ (got : Result LentRecord Refusal) where
+  pub line-refuses : (q : Refusal) → got ≡ Err q → LineRefuses got
   line-refuses q e = rw e tt
 
-  pub line-is-refused : (number : ℕ) (r q : Refusal) → got ≡ A.Refused q → r ≡ at_line number q → RefusedLine number got (L.Refused r)
+  pub line-is-refused : (number : ℕ) (r q : Refusal) → got ≡ Err q → r ≡ at_line number q → RefusedLine number got (L.Refused r)
   line-is-refused number r q e h = rw (e, h)
 
-  pub line-is-read : (made : Record) (number : ℕ) (r : LineStep) → got ≡ A.Read made → LineRefuses got → RefusedLine number got r
+  pub line-is-read : (made : Record) (number : ℕ) (r : LineStep) → got ≡ Ok made → LineRefuses got → RefusedLine number got r
   line-is-read made number r e w = absurd (rw e at w)
 
 module _ (done : Step) where

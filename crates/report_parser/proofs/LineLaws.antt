@@ -1,4 +1,5 @@
 -- One line of the loop, as the code meets it: the line is a part of the text that the code cut. Assumes nothing.
+use Rattle.std.specs.Prelude.{Result, Ok, Err}
 use Prim.Native.Nat.{ℕ, ◌+◌, ◌-◌, ◌^◌, ◌≤◌, ◌<◌}
 use native.Mathlib.Omega.{arith}
 use mathlib.Core.Path.{◌≡◌, sym, ap, ◌∙◌}
@@ -8,16 +9,14 @@ use lib.Seq.{take_all}
 use mir.Val.{Fits}
 use mir.Syntax.{w64}
 use Rattle.model.specs.declared.Kind.{Kind}
-use Rattle.model.specs.declared.LineAnswer.{LineAnswer}
-use Rattle.model.specs.declared.LineAnswer.TheVariants as A
 use Rattle.model.specs.declared.Record.{Record as LentRecord}
 use Rattle.model.specs.declared.Refusal.{Refusal}
 use Rattle.model.specs.declared.Fault.{Fault}
 use Rattle.model.specs.Bytes.{Bytes, newline, before}
 use Rattle.model.specs.Line.{read_record}
 use Rattle.model.specs.Parts.{record_in, lent_record}
-use Rattle.model.specs.Calls.{LineCall, line_answer}
-use Rattle.model.proofs.CallLaws.{line_exact}
+use Rattle.model.specs.Calls.{ValueCall, call_answer}
+use Rattle.model.proofs.CallLaws.{call_exact}
 use Rattle.model.proofs.LentLaws.{record_read, record_refused}
 use Rattle.section.specs.declared.State.{State}
 use Rattle.section.specs.declared.Step.{Step}
@@ -55,30 +54,30 @@ module _ (text : List ℕ) (at len : ℕ) where
   line-end-fits h e b = record { fits = omega (arith, line-end h e) }
 
 -- the answer about the line as the code lends it is that about the line
-as_lent : (tag : Kind → Bytes) (text : List ℕ) (at len : ℕ) (got : LineAnswer) → LineCall (lent_record tag (line_of text at len)) got
-    → got ≡ line_answer (lent_record tag (take len (drop at text)))
-as_lent tag text at len got is = line_exact (lent_record tag (take len (drop at text))) got (rw (line_is text at len) at is)
+as_lent : (tag : Kind → Bytes) (text : List ℕ) (at len : ℕ) (got : Result LentRecord Refusal) → ValueCall (lent_record tag (line_of text at len)) got
+    → got ≡ call_answer (lent_record tag (take len (drop at text)))
+as_lent tag text at len got is = call_exact (lent_record tag (take len (drop at text))) got (rw (line_is text at len) at is)
 
-pub record_at : (tag : Kind → Bytes) (text : List ℕ) (at len : ℕ) (got : LineAnswer) (lent : LentRecord) → got ≡ A.Read lent → LineCall (lent_record tag (line_of text at len)) got
+pub record_at : (tag : Kind → Bytes) (text : List ℕ) (at len : ℕ) (got : Result LentRecord Refusal) (lent : LentRecord) → got ≡ Ok lent → ValueCall (lent_record tag (line_of text at len)) got
     → RecordAt text at len lent
 record_at tag text at len got lent e is =
     let (made, h, p) = record_read tag (take len (drop at text)) got (as_lent tag text at len got is) lent e in
     record { made = made; is = h }
 
-module _ (tag : Kind → Bytes) (text : List ℕ) (at len : ℕ) (got : LineAnswer) (is : LineCall (lent_record tag (line_of text at len)) got) where
-  read_is : got ≡ line_answer (lent_record tag (take len (drop at text)))
+module _ (tag : Kind → Bytes) (text : List ℕ) (at len : ℕ) (got : Result LentRecord Refusal) (is : ValueCall (lent_record tag (line_of text at len)) got) where
+  read_is : got ≡ call_answer (lent_record tag (take len (drop at text)))
   read_is = as_lent tag text at len got is
 
   module _ (ws : List ℕ) (index limit number : ℕ) (st : State) (more : at < length text)
       (cut : len ≡ length (before newline (rest_of text at))) (short : len ≤ length (rest_of text at)) where
-    pub done_refused : (q : Refusal) (r : LineStep) → got ≡ A.Refused q → RefusedLine number got r → LineDone tag text ws ws index limit at number st r
+    pub done_refused : (q : Refusal) (r : LineStep) → got ≡ Err q → RefusedLine number got r → LineDone tag text ws ws index limit at number st r
     done_refused q r e h =
         let a = record_refused tag (take len (drop at text)) got read_is q e in
         let t = line_refused tag text ws index limit at number st more len (cut_is text at len cut) q a in
         let f : r ≡ L.Refused (at_line number q) = rw e at h in
         record { after = rw f t }
 
-    module _ (lent : LentRecord) (e : got ≡ A.Read lent) (ws' : List ℕ) (done : Step) (steps : Steps text ws ws' index limit st lent at len done) where
+    module _ (lent : LentRecord) (e : got ≡ Ok lent) (ws' : List ℕ) (done : Step) (steps : Steps text ws ws' index limit st lent at len done) where
       lent_is : record_in (take len (drop at text)) lent ≡ read_record tag (take len (drop at text))
       lent_is = let (made, h, p) = record_read tag (take len (drop at text)) got read_is lent e in h ∙ sym p
 

@@ -11,16 +11,14 @@ use lib.ListN.{length, take, drop}
 use Rattle.ordmap.proofs.Results.{accepted_inj, bind-accepted, impossible}
 use Rattle.table.specs.declared.Row.{Row}
 use Rattle.model.specs.declared.Part.{Part}
-use Rattle.model.specs.declared.Checksum.{Checksum}
-use Rattle.model.specs.declared.Checksum.TheVariants as Ck
 use Rattle.model.specs.declared.Record.{Record as LentRecord}
 use Rattle.model.specs.declared.Record.TheVariants as Lent
 use Rattle.model.specs.Bytes.{Bytes}
-use Rattle.std.specs.Prelude.{if◌then◌else◌}
+use Rattle.std.specs.Prelude.{if◌then◌else◌, Option, Some, None}
 use Rattle.model.specs.Answer.{Answer, accepted, ◌>>=◌}
 use Rattle.model.specs.Record.{Record, test_name, source_file, function_name, function_data, line_data, end_of_record}
 use Rattle.model.specs.Report.{Item}
-use Rattle.model.specs.Parts.{end_in, part_of, checksum_in, record_in}
+use Rattle.model.specs.Parts.{given_in, part_of, checksum_in, record_in}
 use Rattle.model.specs.Reading.{State as ModelState, enter_item, ignored, effect}
 use Rattle.table_item.specs.Items.{kind_of, function_kind, part_in, PartInside, checksum_part, item_of}
 use Rattle.table_item.specs.Combining.{combine_of, is_calls, calls_of}
@@ -126,13 +124,13 @@ text-read {A = A} len bytes p make {made} e = go (bind-accepted (part_of (take l
     go : (b : Bytes) × (part_of (take len bytes) p ≡ accepted b) × (◌≡◌ {A = Answer A} (accepted (make b)) (accepted made)) → PartWithin len p × (make (part_in bytes p) ≡ made)
     go (b, f, g) = let t = part-read len bytes p f in (t.0, ap make t.1 ∙ accepted_inj g)
 
-checksum-read : (len : ℕ) (bytes : Bytes) (checksum : Checksum) {given : Option Bytes} → checksum_in (take len bytes) checksum ≡ accepted given
+checksum-read : (len : ℕ) (bytes : Bytes) (checksum : Option Part) {given : Option Bytes} → checksum_in (take len bytes) checksum ≡ accepted given
     → ChecksumWithin len checksum × (checksum_part bytes checksum ≡ given)
 unfolding checksum_in
-checksum-read len bytes (Ck.Given p) e = text-read len bytes p (λ b. some b) e
-checksum-read len bytes Ck.Absent e = (tt, accepted_inj e)
+checksum-read len bytes (Some p) e = text-read len bytes p (λ b. some b) e
+checksum-read len bytes None e = (tt, accepted_inj e)
 
-line_read : (len : ℕ) (bytes : Bytes) (line count : ℕ) (checksum : Checksum) {made : Record}
+line_read : (len : ℕ) (bytes : Bytes) (line count : ℕ) (checksum : Option Part) {made : Record}
     → (checksum_in (take len bytes) checksum >>= λ given. accepted (line_data line count given)) ≡ accepted made
     → ChecksumWithin len checksum × (line_data line count (checksum_part bytes checksum) ≡ made)
 line_read len bytes line count checksum {made} e = go (bind-accepted (checksum_in (take len bytes) checksum) (λ given. accepted (line_data line count given)) e)
@@ -147,7 +145,7 @@ read : (len : ℕ) (bytes : Bytes) (lent : LentRecord) {made : Record} → recor
 unfolding record_in effect
 read len bytes (Lent.TestName p) e = let t = text-read len bytes p test_name e in does_as (record { text = t.0; checksum = tt }) (omega arith) t.1 (λ s. refl)
 read len bytes (Lent.SourceFile p) e = let t = text-read len bytes p source_file e in does_as (record { text = t.0; checksum = tt }) (omega arith) t.1 (λ s. refl)
-read len bytes (Lent.FunctionName start end p) e = let t = text-read len bytes p (function_name start (end_in end)) e in does_as (record { text = t.0; checksum = tt }) (omega arith) t.1 (λ s. refl)
+read len bytes (Lent.FunctionName start end p) e = let t = text-read len bytes p (function_name start (given_in end)) e in does_as (record { text = t.0; checksum = tt }) (omega arith) t.1 (λ s. refl)
 read len bytes (Lent.FunctionData count p) e = let t = text-read len bytes p (function_data count) e in does_as (record { text = t.0; checksum = tt }) (omega arith) t.1 (λ s. refl)
 read len bytes (Lent.FunctionsFound found) e = does_as (record { text = omega arith; checksum = tt }) (omega arith) (accepted_inj e) (λ s. refl)
 read len bytes (Lent.FunctionsHit hit) e = does_as (record { text = omega arith; checksum = tt }) (omega arith) (accepted_inj e) (λ s. refl)

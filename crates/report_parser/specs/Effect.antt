@@ -1,17 +1,15 @@
 -- What a record of a line does to the reading state. The line is the part of the text from `at` with `len` bytes. Assumes nothing.
-use Rattle.std.specs.Prelude.{ℕ, ◌+◌, ◌≤◌, ◌≡◌, List, length, drop}
+use Rattle.std.specs.Prelude.{ℕ, ◌+◌, ◌≤◌, ◌≡◌, List, length, drop, Option, Some, None}
 use Rattle.std.proofs.Math.Option.{none, some}
 use Rattle.table.specs.declared.Row.{Row}
 use Rattle.model.specs.declared.Part.{Part}
-use Rattle.model.specs.declared.Checksum.{Checksum}
-use Rattle.model.specs.declared.Checksum.TheVariants as Ck
 use Rattle.model.specs.declared.Record.{Record as LentRecord}
 use Rattle.model.specs.declared.Record.TheVariants as Lent
 use Rattle.model.specs.Bytes.{Bytes}
 use Rattle.model.specs.Answer.{accepted}
 use Rattle.model.specs.Record.{Record}
 use Rattle.model.specs.Report.{extent_at, function_of, Item, function_item, branch_item, line_item}
-use Rattle.model.specs.Parts.{end_in, taken_in, record_in}
+use Rattle.model.specs.Parts.{given_in, record_in}
 use Rattle.model.specs.Reading.{effect}
 use Rattle.table_item.specs.Items.{part, part_in, checksum_part, kind_of, function_kind, item_of, ItemRow}
 use Rattle.section.specs.declared.State.{State}
@@ -55,20 +53,20 @@ text_part (Lent.LinesFound found) = no_part
 text_part (Lent.LinesHit hit) = no_part
 text_part Lent.EndOfRecord = no_part
 
-abbrev pub checksum_of : LentRecord → Checksum
-checksum_of (Lent.TestName p) = Ck.Absent
-checksum_of (Lent.SourceFile p) = Ck.Absent
-checksum_of (Lent.FunctionName start end p) = Ck.Absent
-checksum_of (Lent.FunctionData count p) = Ck.Absent
-checksum_of (Lent.FunctionsFound found) = Ck.Absent
-checksum_of (Lent.FunctionsHit hit) = Ck.Absent
-checksum_of (Lent.BranchData line block branch taken) = Ck.Absent
-checksum_of (Lent.BranchesFound found) = Ck.Absent
-checksum_of (Lent.BranchesHit hit) = Ck.Absent
+abbrev pub checksum_of : LentRecord → Option Part
+checksum_of (Lent.TestName p) = None
+checksum_of (Lent.SourceFile p) = None
+checksum_of (Lent.FunctionName start end p) = None
+checksum_of (Lent.FunctionData count p) = None
+checksum_of (Lent.FunctionsFound found) = None
+checksum_of (Lent.FunctionsHit hit) = None
+checksum_of (Lent.BranchData line block branch taken) = None
+checksum_of (Lent.BranchesFound found) = None
+checksum_of (Lent.BranchesHit hit) = None
 checksum_of (Lent.LineData line count checksum) = checksum
-checksum_of (Lent.LinesFound found) = Ck.Absent
-checksum_of (Lent.LinesHit hit) = Ck.Absent
-checksum_of Lent.EndOfRecord = Ck.Absent
+checksum_of (Lent.LinesFound found) = None
+checksum_of (Lent.LinesHit hit) = None
+checksum_of Lent.EndOfRecord = None
 
 -- FN, FNDA, BRDA and DA add an item
 abbrev pub AddsItem : LentRecord → Type 0
@@ -91,11 +89,11 @@ AddsItem Lent.EndOfRecord = ⊥
 abbrev pub item_in : Bytes → LentRecord → Item
 item_in bytes (Lent.TestName p) = line_item 0 0 none
 item_in bytes (Lent.SourceFile p) = line_item 0 0 none
-item_in bytes (Lent.FunctionName start end p) = function_item (function_of (part_in bytes p) (some (extent_at start (end_in end))) 0)
+item_in bytes (Lent.FunctionName start end p) = function_item (function_of (part_in bytes p) (some (extent_at start (given_in end))) 0)
 item_in bytes (Lent.FunctionData count p) = function_item (function_of (part_in bytes p) none count)
 item_in bytes (Lent.FunctionsFound found) = line_item 0 0 none
 item_in bytes (Lent.FunctionsHit hit) = line_item 0 0 none
-item_in bytes (Lent.BranchData line block branch taken) = branch_item line block branch (taken_in taken)
+item_in bytes (Lent.BranchData line block branch taken) = branch_item line block branch (given_in taken)
 item_in bytes (Lent.BranchesFound found) = line_item 0 0 none
 item_in bytes (Lent.BranchesHit hit) = line_item 0 0 none
 item_in bytes (Lent.LineData line count checksum) = line_item line count (checksum_part bytes checksum)
@@ -108,9 +106,9 @@ item_in bytes Lent.EndOfRecord = line_item 0 0 none
 abbrev pub PartWithin : ℕ → Part → Type 0
 PartWithin len p = p.start + p.len ≤ len
 
-abbrev pub ChecksumWithin : ℕ → Checksum → Type 0
-ChecksumWithin len (Ck.Given p) = PartWithin len p
-ChecksumWithin len Ck.Absent = Unit {0}
+abbrev pub ChecksumWithin : ℕ → Option Part → Type 0
+ChecksumWithin len (Some p) = PartWithin len p
+ChecksumWithin len None = Unit {0}
 
 -- the texts lie in the first len bytes
 pub record TextsWithin (len : ℕ) (lent : LentRecord) : Type 0 where
@@ -121,9 +119,9 @@ pub record TextsWithin (len : ℕ) (lent : LentRecord) : Type 0 where
 abbrev pub moved_part : ℕ → Part → Part
 moved_part at p = record { start = at + p.start; len = p.len }
 
-abbrev pub moved_checksum : ℕ → Checksum → Checksum
-moved_checksum at (Ck.Given p) = Ck.Given (moved_part at p)
-moved_checksum at Ck.Absent = Ck.Absent
+abbrev pub moved_checksum : ℕ → Option Part → Option Part
+moved_checksum at (Some p) = Some (moved_part at p)
+moved_checksum at None = None
 
 -- ---- what a record does
 

@@ -1,11 +1,10 @@
 -- A text read line by line: what holds between two lines, and the answer read back from the words. Assumes nothing.
-use Rattle.std.specs.Prelude.{ℕ, ◌+◌, ◌≤◌, ◌<◌, ◌≡◌, false, cond, List, length, drop}
+use Rattle.model.specs.declared.Record.{Record as LentRecord}
+use Rattle.std.specs.Prelude.{ℕ, ◌+◌, ◌≤◌, ◌<◌, ◌≡◌, false, cond, List, length, drop, Result, Ok, Err}
 use Rattle.model.specs.declared.Kind.{Kind}
 use Rattle.model.specs.declared.Fault.{Fault}
 use Rattle.model.specs.declared.Fault.TheVariants.{UnexpectedEof}
 use Rattle.model.specs.declared.Refusal.{Refusal}
-use Rattle.model.specs.declared.LineAnswer.{LineAnswer}
-use Rattle.model.specs.declared.LineAnswer.TheVariants as A
 use Rattle.model.specs.Bytes.{Bytes}
 use Rattle.model.specs.Answer.{Answer, accepted, refused}
 use Rattle.model.specs.Report.{Report}
@@ -38,18 +37,18 @@ abbrev pub fault_at : ℕ → Fault → Refusal
 fault_at line fault = record { fault = fault; text = 0; line = line; field = 0; needed = 0 }
 
 -- the answer is a refusal
-abbrev pub LineRefuses : LineAnswer → Type 0
-LineRefuses (A.Refused q) = Unit {0}
-LineRefuses (A.Read made) = ⊥
+abbrev pub LineRefuses : Result LentRecord Refusal → Type 0
+LineRefuses (Err q) = Unit {0}
+LineRefuses (Ok made) = ⊥
 
 abbrev pub StepRefuses : Step → Type 0
 StepRefuses (S.Refused fault) = Unit {0}
 StepRefuses (S.Next st) = ⊥
 
 -- r is the answer's refusal, at the line; an answer that is no refusal has none
-abbrev pub RefusedLine : ℕ → LineAnswer → LineStep → Type 0
-RefusedLine number (A.Refused q) r = r ≡ L.Refused (at_line number q)
-RefusedLine number (A.Read made) r = ⊥
+abbrev pub RefusedLine : ℕ → Result LentRecord Refusal → LineStep → Type 0
+RefusedLine number (Err q) r = r ≡ L.Refused (at_line number q)
+RefusedLine number (Ok made) r = ⊥
 
 abbrev pub RefusedStep : ℕ → Step → LineStep → Type 0
 RefusedStep number (S.Refused fault) r = r ≡ L.Refused (fault_at number fault)

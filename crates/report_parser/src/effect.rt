@@ -6,7 +6,7 @@ ghost use Rattle.model.specs.Limits.{u64_max};
 ghost use Rattle.section.specs.Reading.{HoldsState};
 ghost use Rattle.report_parser.specs.Effect.{kind_number, text_part, moved_part, moved_checksum, PartWithin, ChecksumWithin, TextsWithin, RowOf, RecordAt, Steps, AddsItem};
 
-use model::{Checksum, Part, Record};
+use model::{Part, Record};
 use section::{State, Step, on_end_of_record, on_item, on_source_file, on_test_name, open_section};
 use table::Row;
 use table_item::{branch_row, calls_row, line_row, start_row};
@@ -76,13 +76,13 @@ fn move_part(part: Part, at: usize, len: usize) -> Part
     }
 }
 
-fn move_checksum(checksum: Checksum, at: usize, len: usize) -> Checksum
+fn move_checksum(checksum: Option<Part>, at: usize, len: usize) -> Option<Part>
     requires { (at + len ≤ u64_max) × ChecksumWithin len checksum }
     ensures { result ≡ moved_checksum at checksum }
 {
     match checksum {
-        Checksum::Given(part) => Checksum::Given(move_part(part, at, len)),
-        Checksum::Absent => Checksum::Absent,
+        Some(part) => Some(move_part(part, at, len)),
+        None => None,
     }
 }
 
@@ -114,7 +114,7 @@ fn item_row(record: Record, at: usize, len: usize) -> Row
             return line_row(line, count, move_checksum(checksum, at, len));
         }
         _ => {
-            return line_row(0, 0, Checksum::Absent);
+            return line_row(0, 0, None);
         }
     }
 }

@@ -5,12 +5,13 @@
 mod effect;
 
 ghost use Rattle.std.specs.Prelude.{◌≡◌, true, ◌≤◌, ◌<◌, length};
-ghost use Rattle.model.specs.TagTable.{tags_of, are_tags};
 ghost use Rattle.section.specs.Reading.{SectionRoom, HoldsState};
 ghost use Rattle.report_parser.specs.Reader.{at_line, fault_at, LineRefuses, StepRefuses, RefusedLine, RefusedStep, LineDone, TextFinished, TextRead};
+ghost use Rattle.tag_table.specs.Tags.{tag_of};
 
-use model::{Fault, LineAnswer, Refusal};
+use model::{Fault, Record, Refusal};
 use section::{State, Step};
+use tag_table::Tags;
 
 // The state after a line and where the next line starts, or why the text is refused.
 #[derive(Clone, Copy)]
@@ -53,13 +54,13 @@ fn at_line(line: u64, refusal: Refusal) -> Refusal
 }
 
 // A line that is refused ends the reading there. No caller hands over a record that was read.
-fn refused_line(got: LineAnswer, number: u64) -> LineStep
+fn refused_line(got: Result<Record, Refusal>, number: u64) -> LineStep
     requires { LineRefuses got }
     ensures { RefusedLine number got result }
 {
     match got {
-        LineAnswer::Refused(refusal) => LineStep::Refused(at_line(number, refusal)),
-        LineAnswer::Read(_made) => LineStep::Refused(fault_at(number, Fault::UnknownRecord)),
+        Err(refusal) => LineStep::Refused(at_line(number, refusal)),
+        Ok(_made) => LineStep::Refused(fault_at(number, Fault::UnknownRecord)),
     }
 }
 
@@ -76,7 +77,7 @@ fn refused_step(done: Step, number: u64) -> LineStep
 
 // Reads the line that starts at `at`; it has this number.
 fn read_line_at(
-    tags: &[u8],
+    tags: Tags,
     text: &[u8],
     words: &mut [u64],
     index: usize,
@@ -85,13 +86,12 @@ fn read_line_at(
     at: usize,
     number: u64,
 ) -> LineStep
-    requires tags_value { are_tags tags.now ≡ true }
     requires holds_state { HoldsState text.now words.old index limit state × (at < length text.now) }
-    ensures { LineDone (tags_of tags.now) text.now words.old words.new index limit at number state result }
+    ensures { LineDone (tag_of tags.entry) text.now words.old words.new index limit at number state result }
 {
     let len = scan_line::first_line_len(&text[at..]);
     let got = record_parse::read_record(tags, &text[at..at + len]);
-    let LineAnswer::Read(made) = got else {
+    let Ok(made) = got else {
         return refused_line(got, number);
     };
     let done = effect::step(text, words, index, limit, state, made, at, len);
@@ -128,16 +128,15 @@ fn finish_text(
 // Reads the text that starts at `from` into rows at the front of the words, whose index starts at word `index`; there is room for `limit`
 // entries. The rows' names are parts of all that is lent: a bundle's texts are read so that their rows can be compared.
 pub fn read_lines(
-    tags: &[u8],
+    tags: Tags,
     text: &[u8],
     from: usize,
     words: &mut [u64],
     index: usize,
     limit: usize,
 ) -> TextAnswer
-    requires tags_value { are_tags tags.now ≡ true }
     requires section_room { SectionRoom words.old index limit × (from ≤ length text.now) }
-    ensures { TextRead (tags_of tags.now) text.now words.new index limit from result }
+    ensures { TextRead (tag_of tags.entry) text.now words.new index limit from result }
 {
     let mut state = section::start();
     let mut at = from;

@@ -1,11 +1,12 @@
 -- Bundles with revisions, for the calls: `revisions_calls-tables` at the end. Assumes nothing.
+use Rattle.std.specs.Prelude.{Result}
+use Rattle.model.specs.declared.Refusal.{Refusal}
 use Prim.Native.Nat.{ℕ}
 use mathlib.Core.Path.{◌≡◌, sym, ap, ◌∙◌}
 use lib.ListN.{length}
 use Rattle.ordmap.specs.Result.{value}
 use Rattle.ordmap.proofs.Results.{accepted_inj, value-accepted}
 use Rattle.model.specs.declared.Kind.{Kind}
-use Rattle.model.specs.declared.WriteAnswer.{WriteAnswer}
 use Rattle.model.specs.Bytes.{Bytes}
 use Rattle.model.specs.Answer.{Answer}
 use Rattle.model.specs.Tags.{Lawful}

@@ -1,11 +1,9 @@
 -- Bundles with revisions, for what the calls `gather_revisions` and `read_text` return and leave in the lent output. The clauses are those of
 -- crate text_choice's Revisions; `IsWritten` and `Wrote` are demand 3's (crate lcov). Assumes nothing.
-use Rattle.std.specs.Prelude.{ℕ, ◌≤◌, ◌≡◌, ◌↔◌, true, List, length}
+use Rattle.std.specs.Prelude.{ℕ, ◌≤◌, ◌≡◌, ◌↔◌, true, List, length, Result, Ok, Err}
 use Rattle.std.proofs.Math.Option.{none}
 use Rattle.model.specs.declared.Kind.{Kind}
 use Rattle.model.specs.declared.Refusal.{Refusal}
-use Rattle.model.specs.declared.WriteAnswer.{WriteAnswer}
-use Rattle.model.specs.declared.WriteAnswer.TheVariants as Write
 use Rattle.model.specs.Bytes.{Bytes}
 use Rattle.model.specs.Answer.{accepted}
 use Rattle.model.specs.Tags.{default_tag}
@@ -23,32 +21,32 @@ use Rattle.text_choice.specs.Revisions.{gather_revisions, AcceptableRevisions}
 use Rattle.lcov.specs.Demand.{ReadCall, IsWritten, Wrote}
 
 -- a call of `gather_revisions` with so many words of scratch: the very promise of that call
-abbrev pub RevisionsCall : (tag : Kind → Bytes) → Bytes → ℕ → Bytes → Bytes → WriteAnswer → Type 0
+abbrev pub RevisionsCall : (tag : Kind → Bytes) → Bytes → ℕ → Bytes → Bytes → Result ℕ Refusal → Type 0
 RevisionsCall tag bundle words out out' r = WriteCall (gather_revisions tag bundle words (length out)) out out' r
 
 -- a call of `gather_revisions_tagged`, which is lent a table of tags
-abbrev pub RevisionsTagged : Bytes → Bytes → ℕ → Bytes → Bytes → WriteAnswer → Type 0
+abbrev pub RevisionsTagged : Bytes → Bytes → ℕ → Bytes → Bytes → Result ℕ Refusal → Type 0
 RevisionsTagged table bundle words out out' r = WriteCall (tagged table (λ tag. gather_revisions tag bundle words (length out))) out out' r
 
 -- two calls under one entry limit, with outputs of one length, that write alike
 pub record WriteAlike (tag : Kind → Bytes) (a b : Bytes) : Type 0 where
-  pub alike : (words words₂ : ℕ) (out out' out₂ out₂' : Bytes) (r r₂ : WriteAnswer) → entry_limit words₂ ≡ entry_limit words → length out₂ ≡ length out
+  pub alike : (words words₂ : ℕ) (out out' out₂ out₂' : Bytes) (r r₂ : Result ℕ Refusal) → entry_limit words₂ ≡ entry_limit words → length out₂ ≡ length out
       → RevisionsCall tag a words out out' r → RevisionsCall tag b words₂ out₂ out₂' r₂
       → (bytes : Bytes) → Wrote bytes out out' r ↔ Wrote bytes out₂ out₂' r₂
 
 pub record RevisionsCalls (tag : Kind → Bytes) : Type 0 where
   -- accepted exactly when the gather of the chosen texts is to be, and then their joined report is written
-  pub accepts : (bundle : Bytes) (words : ℕ) (out out' : Bytes) (r : WriteAnswer) → RevisionsCall tag bundle words out out' r
+  pub accepts : (bundle : Bytes) (words : ℕ) (out out' : Bytes) (r : Result ℕ Refusal) → RevisionsCall tag bundle words out out' r
       → IsWritten r ↔ ((reports : List Report) × AcceptableRevisions tag bundle words (length out) reports)
-  pub writes : (bundle : Bytes) (words : ℕ) (out out' : Bytes) (r : WriteAnswer) → RevisionsCall tag bundle words out out' r
+  pub writes : (bundle : Bytes) (words : ℕ) (out out' : Bytes) (r : Result ℕ Refusal) → RevisionsCall tag bundle words out out' r
       → (reports : List Report) → AcceptableRevisions tag bundle words (length out) reports → Wrote (print_report tag (joined_report reports)) out out' r
   -- what is not accepted leaves the output
-  pub untouched : (bundle : Bytes) (words : ℕ) (out out' : Bytes) (r : WriteAnswer) → RevisionsCall tag bundle words out out' r
-      → (q : Refusal) → r ≡ Write.Refused q → out' ≡ out
+  pub untouched : (bundle : Bytes) (words : ℕ) (out out' : Bytes) (r : Result ℕ Refusal) → RevisionsCall tag bundle words out out' r
+      → (q : Refusal) → r ≡ Err q → out' ≡ out
   -- what was written is read as the same report, and the same bytes are written
-  pub reads_back : (bundle : Bytes) (words : ℕ) (out out' : Bytes) (r : WriteAnswer) → RevisionsCall tag bundle words out out' r
+  pub reads_back : (bundle : Bytes) (words : ℕ) (out out' : Bytes) (r : Result ℕ Refusal) → RevisionsCall tag bundle words out out' r
       → (reports : List Report) → AcceptableRevisions tag bundle words (length out) reports → (bytes : Bytes) → Wrote bytes out out' r
-      → (words₂ : ℕ) (out₂ out₂' : Bytes) (r₂ : WriteAnswer) → entry_limit words₂ ≡ entry_limit words → length bytes ≤ length out₂
+      → (words₂ : ℕ) (out₂ out₂' : Bytes) (r₂ : Result ℕ Refusal) → entry_limit words₂ ≡ entry_limit words → length bytes ≤ length out₂
       → ReadCall tag bytes words₂ out₂ out₂' r₂
       → (read_text tag (entry_limit words₂) bytes ≡ accepted (joined_report reports)) × Wrote bytes out₂ out₂' r₂
   -- any order, each text taking its run number and revision along
@@ -64,4 +62,4 @@ pub record RevisionsCallsTables : Type 0 where
   pub lent : (table : Bytes) (tag : Kind → Bytes) → load_tags table ≡ accepted tag → RevisionsCalls tag
   -- a call that is lent such a table is a call under its tags
   pub gathers : (table : Bytes) (tag : Kind → Bytes) → load_tags table ≡ accepted tag
-      → (bundle : Bytes) (words : ℕ) (out out' : Bytes) (r : WriteAnswer) → RevisionsTagged table bundle words out out' r ↔ RevisionsCall tag bundle words out out' r
+      → (bundle : Bytes) (words : ℕ) (out out' : Bytes) (r : Result ℕ Refusal) → RevisionsTagged table bundle words out out' r ↔ RevisionsCall tag bundle words out out' r

@@ -26,7 +26,7 @@ use Rattle.table_section.specs.Splice.{with_section, Spliced}
 use Rattle.table_section.proofs.RangeLaws.{range-before, range_in, range-behind, range-ends}
 use Rattle.table_section.proofs.HeaderLaws.{HeaderAs, header-tag}
 use Rattle.table_section.proofs.ReplaceLaws.{Compared}
-use Rattle.table_section.proofs.SectionLaws.{lower_at, higher_at, parts, closed_section, closed_parts, closed_ordered, closed_same, closed_keys, closed_each, closed_places}
+use Rattle.table_section.proofs.SectionLaws.{lower_at, higher_at, closed_section, closed_parts, closed_ordered, closed_same, closed_keys, closed_each, closed_places}
 use Rattle.section_commit.specs.declared.KeptSizes.{KeptSizes}
 use Rattle.section_commit.specs.Commit.{SameNameBytes, merge_reports, live_entries_of, kept_at, InParts, KeptSections, SameReport, Committed}
 use Rattle.section_commit.proofs.HeldLaws.{live-entries-each, live-entries_cong, same_from, partition_as, cached_as}

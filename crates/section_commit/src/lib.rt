@@ -34,10 +34,11 @@ pub const DELTA_ENTRIES: usize = 1024;
 fn with_position(key: Row, place: usize, n: usize) -> Row
     ensures { result ≡ with_position key place n }
 {
-    let mut header = key;
-    header.k1 = place as u64;
-    header.k2 = n as u64;
-    header
+    Row {
+        k1: place as u64,
+        k2: n as u64,
+        ..key
+    }
 }
 
 // The insert position in main of the delta's j-th entry. A header row has it cached; an item shares that of the entry
@@ -62,7 +63,7 @@ fn position_of(
     }
     if 0 < j {
         let before = table::get(words, index, used, main + (j - 1));
-        if compare::is_equal(compare_sections(text, entry, before)) {
+        if compare_sections(text, entry, before).is_eq() {
             return words[spare + (j - 1)] as usize;
         }
     }
@@ -92,7 +93,7 @@ fn section_rest(
         return 0;
     }
     let last = table::get(words, index, used, kept.main + (j + n));
-    if compare::is_equal(compare_sections(text, first, last)) {
+    if compare_sections(text, first, last).is_eq() {
         return n;
     }
     0
@@ -103,11 +104,7 @@ fn fill(words: &mut [u64], at: usize, n: usize, value: u64)
     requires { at + n ≤ length words.old }
     ensures { Filled words.old words.new at n value }
 {
-    let mut i = 0;
-    while i < n {
-        words[at + i] = value;
-        i += 1;
-    }
+    words[at..at + n].fill(value);
 }
 
 // Writes the delta's insert positions to the words from `spare` on, for many entries of a section at once.
@@ -123,6 +120,7 @@ fn write_positions(
     ensures { PositionsWritten text.now words.old words.new index spare kept.main kept.delta }
 {
     let mut j = 0;
+    // A `while`: it moves by the entries of a section.
     while j < kept.delta {
         let place = position_of(text, words, index, used, spare, kept, j);
         let rest = section_rest(text, words, index, used, kept, j);
@@ -149,7 +147,7 @@ fn merge_delta(
     KeptSizes {
         main: kept.main + kept.delta,
         delta: 0,
-        tombstones: kept.tombstones,
+        ..kept
     }
 }
 
@@ -236,14 +234,13 @@ fn commit_in_place(
     let header = header_row(words, index, used, 0, lo, range.hi, key);
     let deleted = kept.tombstones + mark_deleted(words, index, used, lo, range.hi);
     let taken = EqualRange {
-        lo: lo,
+        lo,
         hi: lo + (n + 1),
     };
     splice(words, index, used, spare, 0, all, taken, n, header);
     KeptSizes {
-        main: kept.main,
-        delta: kept.delta,
         tombstones: deleted - (n + 1),
+        ..kept
     }
 }
 
@@ -263,7 +260,7 @@ fn commit_delta(
 ) -> KeptSizes
     requires kept_sections { KeptSections text.now words.old index used kept × SortedItems text.now words.old index used (kept.main + kept.delta + 1) n × (n ≢ 0) }
     requires equal_range { IsEqualRange text.now (rows_from words.old index 0) kept.main (key_of text.now key) range.lo range.hi }
-    requires equal_range_2 { IsEqualRange text.now (rows_from words.old index kept.main) kept.delta (key_of text.now key) position position }
+    requires delta_range { IsEqualRange text.now (rows_from words.old index kept.main) kept.delta (key_of text.now key) position position }
     requires names_in_bounds { NamesInBounds text.now key × (key.tag ≡ 0) × (index + used ≤ spare) × (spare + used + used ≤ length words.old) }
     ensures { Committed text.now words.old words.new index used kept n key result }
 {
@@ -279,7 +276,7 @@ fn commit_delta(
         words, index, used, spare, main, kept.delta, among, n, header,
     );
     KeptSizes {
-        main: main,
+        main,
         delta: grown,
         tombstones: deleted,
     }
@@ -318,9 +315,8 @@ fn commit(
     let header = with_position(key, range.lo, n);
     let grown = splice(words, index, used, spare, main, delta, among, n, header);
     KeptSizes {
-        main: main,
         delta: grown,
-        tombstones: kept.tombstones,
+        ..kept
     }
 }
 
@@ -342,11 +338,12 @@ fn with_known_test(
     }
     let first = table::get(words, index, used, 0);
     let tests = table_item::compare_parts(text, first.test, first.test_len, key.test, key.test_len);
-    if compare::is_equal(tests) {
-        let mut known = key;
-        known.test = first.test;
-        known.test_len = first.test_len;
-        return known;
+    if tests.is_eq() {
+        return Row {
+            test: first.test,
+            test_len: first.test_len,
+            ..key
+        };
     }
     key
 }
@@ -382,7 +379,7 @@ pub fn commit_section(
             return KeptSizes {
                 main: grown,
                 delta: 0,
-                tombstones: kept.tombstones,
+                ..kept
             };
         }
     }

@@ -1,5 +1,5 @@
 -- Words that are written only inside the slots. Assumes nothing.
-use Rattle.std.proofs.Common.{◌≡◌, ℕ, ◌+◌, ◌-◌, ◌<◌, ◌≤◌, List, set, refl, ◌∙◌, arith, get_or-set_other}
+use Rattle.std.proofs.Common.{◌≡◌, ℕ, ◌+◌, ◌<◌, ◌≤◌, List, ◌∙◌, arith}
 use Rattle.table.specs.declared.Row.{Row}
 use Rattle.table.specs.Rows.{UnchangedOutside}
 use Rattle.table.specs.Store.{row}
@@ -7,22 +7,8 @@ use Rattle.table.proofs.StoreLaws.{behind-rows}
 use Rattle.table_item.specs.Items.{ItemInBounds}
 use Rattle.table_item.specs.SortedItems.{SortedItems}
 
-pub kept-none : (ws : List ℕ) (lo hi : ℕ) → UnchangedOutside ws ws lo hi
-kept-none ws lo hi = record { below = λ j l. refl; above = λ j l. refl }
-
 pub kept_trans : {ws ws₁ ws₂ : List ℕ} {lo hi : ℕ} → UnchangedOutside ws ws₁ lo hi → UnchangedOutside ws₁ ws₂ lo hi → UnchangedOutside ws ws₂ lo hi
 kept_trans κ κ₁ = record { below = λ j l. κ₁.below j l ∙ κ.below j l; above = λ j l. κ₁.above j l ∙ κ.above j l }
-
--- one word more in front
-pub kept_lower : {ws ws' : List ℕ} (lo n : ℕ) → 0 < n → UnchangedOutside ws ws' (lo + 1) (lo + 1 + (n - 1)) → UnchangedOutside ws ws' lo (lo + n)
-kept_lower lo n h κ = record { below = λ j p. κ.below j (omega arith); above = λ j p. κ.above j (omega arith) }
-
--- one more word is written, at q
-pub kept_set : {ws₀ ws : List ℕ} {lo hi : ℕ} (q v : ℕ) → UnchangedOutside ws₀ ws lo hi → lo ≤ q → q < hi → UnchangedOutside ws₀ (set ws q v) lo hi
-kept_set {ws₀} {ws} q v κ l h = record {
-  below = λ j p. get_or-set_other ws q j v 0 (omega arith) ∙ κ.below j p;
-  above = λ j p. get_or-set_other ws q j v 0 (omega arith) ∙ κ.above j p;
-}
 
 -- a row that is read while words behind the index are written is an item, as it was before
 pub row-inner : {text ws ws' : List ℕ} {index used at n lo hi i : ℕ} {r : Row} → SortedItems text ws index used at n → UnchangedOutside ws ws' lo hi

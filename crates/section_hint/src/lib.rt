@@ -27,6 +27,7 @@ fn mix(hash: u64) -> u64 {
 fn hash_words(name: &[u8]) -> u64 {
     let mut hash = name.len() as u64;
     let mut i = 0;
+    // A `while`: it moves by eight, as far as eight bytes are left.
     while i + 8 <= name.len() {
         hash = mix(hash ^ compare::word(name, i));
         i += 8;
@@ -37,10 +38,8 @@ fn hash_words(name: &[u8]) -> u64 {
 // The hash of a name: eight bytes at a time, and then one by one.
 fn hash_name(name: &[u8]) -> u64 {
     let mut hash = hash_words(name);
-    let mut i = name.len() / 8 * 8;
-    while i < name.len() {
-        hash = mix(hash ^ (name[i] as u64));
-        i += 1;
+    for byte in &name[name.len() / 8 * 8..] {
+        hash = mix(hash ^ u64::from(*byte));
     }
     hash
 }
@@ -84,11 +83,7 @@ fn clear(words: &mut [u64], from: usize, size: usize)
     requires { from + size ≤ length words.old }
     ensures { UnchangedOutside words.old words.new from (from + size) }
 {
-    let mut i = 0;
-    while i < size {
-        words[from + i] = 0;
-        i += 1;
-    }
+    words[from..from + size].fill(0);
 }
 
 // Puts a position into the first empty slot for its hash, unless that is too far.
@@ -97,14 +92,12 @@ fn put_hint(words: &mut [u64], from: usize, size: usize, hash: u64, i: usize)
     ensures { UnchangedOutside words.old words.new from (from + size) }
 {
     let mut slot = first_slot(hash, size);
-    let mut probes = 0;
-    while probes < MAX_PROBES {
+    for _probe in 0..MAX_PROBES {
         if words[from + slot] == 0 {
-            words[from + slot] = std::num::wrapping_add_u64(hash % HALF * HALF, (i as u64) + 1);
+            words[from + slot] = (hash % HALF * HALF).wrapping_add(i as u64 + 1);
             return;
         }
         slot = next_slot(slot, size);
-        probes += 1;
     }
 }
 
@@ -124,11 +117,9 @@ fn fill_slots(
     ensures { UnchangedOutside words.old words.new from (from + size) }
 {
     clear(words, from, size);
-    let mut i = 0;
-    while i < n {
+    for i in 0..n {
         let row = table::get(words, index, used, at + i);
         put_hint(words, from, size, hash_key(text, row), i);
-        i += 1;
     }
 }
 
@@ -138,17 +129,15 @@ fn find_slot(text: &[u8], words: &[u64], from: usize, size: usize, row: Row) -> 
 {
     let hash = hash_key(text, row);
     let mut slot = first_slot(hash, size);
-    let mut probes = 0;
-    while probes < MAX_PROBES {
+    for _probe in 0..MAX_PROBES {
         let hint = words[from + slot];
         if hint == 0 {
             return usize::MAX;
         }
         if hint / HALF == hash % HALF {
-            return std::num::wrapping_sub_u64(hint % HALF, 1) as usize;
+            return (hint % HALF).wrapping_sub(1) as usize;
         }
         slot = next_slot(slot, size);
-        probes += 1;
     }
     usize::MAX
 }

@@ -3,7 +3,7 @@ use mathlib.Core.Path.{◌≡◌, refl, sym, ap, ap₂, ◌∙◌}
 use mathlib.Core.Logic.{◌≢◌}
 use mathlib.Core.Bool.{Bool, true, false, cond}
 use mathlib.Core.List.{List, [], ◌∷◌, ◌++◌}
-use Prim.Native.Nat.{ℕ, ◌+◌, ◌-◌, ◌≤◌, ◌<◌, min}
+use Prim.Native.Nat.{ℕ, ◌+◌, ◌-◌, ◌≤◌, ◌<◌}
 use native.Mathlib.Omega.{arith}
 use lib.ListN.{length}
 use lib.Dec.{compare_is_eq}
@@ -28,19 +28,16 @@ use Rattle.section_upsert.proofs.ItemLaws.{same_key}
 use Rattle.section_upsert.proofs.RangeLaws.{same-items}
 use Rattle.table_item.specs.Items.{item_of, ItemRow}
 use Rattle.table_item.specs.SortedItems.{item_from, items_at}
-use Rattle.table_item.specs.declared.Combined.{Combined}
-use Rattle.table_item.specs.declared.Combined.TheVariants.{One}
+use Rattle.std.specs.Prelude.{Result, Ok, Err, Option as LentOption, Some}
 use Rattle.table_item.specs.Combining.{combine_of, seen_one, InnerOne, is_calls, calls_of, renewed}
 use Rattle.table_item.proofs.SearchLaws.{found-last}
-use Rattle.section_upsert.specs.declared.UpsertOutcome.{UpsertOutcome}
-use Rattle.section_upsert.specs.declared.UpsertOutcome.TheVariants as E
+use Rattle.section_upsert.specs.declared.PartSizes.{PartSizes}
+use Rattle.section_upsert.specs.Upserted.{parts}
 use Rattle.section_upsert.specs.MainDelta.{all_at}
 use Rattle.section_upsert.specs.Upserted.{Upserted as Exact}
 use Rattle.section_upsert.proofs.UpsertLaws.{within-fits, within-past, upserted_last}
 use Rattle.section_tail.specs.declared.OpenSizes.{OpenSizes}
-use Rattle.section_tail.specs.declared.Outcome.{Outcome}
-use Rattle.section_tail.specs.declared.Outcome.TheVariants.{Items, Refused}
-use Rattle.section_tail.specs.Tail.{include, include_all, end_of, items_of, calls_in, calls_at, more_calls, with_tail, CallsWithin, RowOfLine, OpenSection, TailFlushed}
+use Rattle.section_tail.specs.Tail.{include, include_all, end_of, items_of, calls_in, calls_at, more_calls, with_tail, CallsWithin, RowOfLine, OpenSection}
 use Rattle.section_tail.specs.RowAdded.{RowAdded}
 use Rattle.section_tail.proofs.TailLaws.{included_last}
 use Rattle.section_tail.proofs.CallLaws.{key_calls, key-calls, calls-append, calls-one, added-calls, line_included, calls_exact, renewed-calls, include_twice}
@@ -125,8 +122,8 @@ module _ {text ws : List ℕ} {index used spare at : ℕ} {s : OpenSizes} (r : R
   -- ---- the tail is empty
 
   module _ (z : s.tail ≡ 0) {ws' : List ℕ} where
-    pub exact_items : {n p turns : ℕ} → Exact text ws ws' index used spare at s.main s.delta r adds (E.Items n p)
-        → RowAdded text ws ws' index used spare at s r adds (Items (record { main = n; delta = p; tail = 0; flushes = turns; calls = more_calls adds s.calls r.count }))
+    pub exact_items : {n p turns : ℕ} → Exact text ws ws' index used spare at s.main s.delta r adds (parts n p)
+        → RowAdded text ws ws' index used spare at s r adds (Ok (record { main = n; delta = p; tail = 0; flushes = turns; calls = more_calls adds s.calls r.count }))
     exact_items {n} {p} {turns} ε = record {
       items = held';
       still = included_none s' refl ε.still (more_within (held-calls κ) (added-calls adds e held (λ'.adding text) entered));
@@ -144,15 +141,15 @@ module _ {text ws : List ℕ} {index used spare at : ℕ} {s : OpenSizes} (r : R
             let (l, a, w) = bind-accepted (add item_key compare_bytes (combine_of adds) e held) (λ items. within used (at + length items) items) (sym held') in
             a ∙ ap accepted (within_same used (at + length l) l w)
 
-    pub exact_refused : {fault : Fault} → Exact text ws ws' index used spare at s.main s.delta r adds (E.Refused fault)
-        → RowAdded text ws ws' index used spare at s r adds (Refused fault)
+    pub exact_refused : {fault : Fault} → Exact text ws ws' index used spare at s.main s.delta r adds (Err fault)
+        → RowAdded text ws ws' index used spare at s r adds (Err fault)
     exact_refused ε = record { items = ε.items ∙ ap counted (sym (none_included text ws index at s z)); still = tt; others = ε.others }
 
     -- the row comes after the last
     pub after_last : {last : Row} {turns : ℕ} → s.delta ≡ 0 → s.main ≢ 0 → at + s.main < used → ItemRow text r
         → last ≡ row ws index (at + (s.main - 1)) → is_less (compare_items (item_of text last) (item_of text r)) ≡ true
         → Store ws' index used → Updated (row ws index) (row ws' index) used (at + s.main) r
-        → RowAdded text ws ws' index used spare at s r adds (Items (record { main = s.main + 1; delta = 0; tail = 0; flushes = turns; calls = more_calls adds s.calls r.count }))
+        → RowAdded text ws ws' index used spare at s r adds (Ok (record { main = s.main + 1; delta = 0; tail = 0; flushes = turns; calls = more_calls adds s.calls r.count }))
     after_last {last} y n l ι f b σ π =
         exact_items (upserted_last text ws index used spare at s.main s.delta r adds κ.parts ws' y
         (found-last κ.parts.main n (ap (λ (x : Row). is_less (compare_items (item_of text x) (item_of text r))) (sym f) ∙ b)).is l ι σ π)
@@ -181,7 +178,7 @@ module _ {text ws : List ℕ} {index used spare at : ℕ} {s : OpenSizes} (r : R
       -- the row is appended
       pub included_next : {turns : ℕ} → place ≡ end_of at s → s.delta ≡ 0 → place < used → Updated (row ws index) (row ws' index) used place r
           → RowAdded text ws ws' index used spare at s r adds
-          (Items (record { main = s.main; delta = s.delta; tail = s.tail + 1; flushes = turns; calls = more_calls adds s.calls r.count }))
+          (Ok (record { main = s.main; delta = s.delta; tail = s.tail + 1; flushes = turns; calls = more_calls adds s.calls r.count }))
       included_next {turns} p y l π =
           let κ' = appended_open κ r p y l w ι σ π kept turns more (more-fits f) enough in
           record {
@@ -192,9 +189,9 @@ module _ {text ws : List ℕ} {index used spare at : ℕ} {s : OpenSizes} (r : R
 
       -- the row is combined with the last one of the tail
       pub included_last-row : {last both : Row} → place + 1 ≡ end_of at s → s.tail ≢ 0 → last ≡ row ws index place → adds ≡ true → compare_is_eq (compare_items (item_of text r) (item_of text last)) ≡ true
-          → seen_one text (One both) ≡ combine_of adds (item_of text last) (item_of text r) → (ItemRow text last → ItemRow text r → ItemRow text both)
+          → seen_one text (Some both) ≡ combine_of adds (item_of text last) (item_of text r) → (ItemRow text last → ItemRow text r → ItemRow text both)
           → Updated (row ws index) (row ws' index) used place both
-          → RowAdded text ws ws' index used spare at s r adds (Items (with_tail s 0 (more_calls adds s.calls r.count)))
+          → RowAdded text ws ws' index used spare at s r adds (Ok (with_tail s 0 (more_calls adds s.calls r.count)))
       included_last-row {last} {both} p t g a q m ι' π = record {
         items = tail_added s' κ' held';
         still = κ';
@@ -278,34 +275,24 @@ module _ {text ws : List ℕ} {index used spare at : ℕ} {s : OpenSizes} (r : R
 
 -- ---- the tail is flushed first
 
-pub after_emptied : {text ws ws₁ ws₂ : List ℕ} {index used spare at : ℕ} {s s₁ : OpenSizes} {r : Row} {adds : Bool} {a : Outcome}
-    → TailFlushed text ws ws₁ index used spare at s s₁ → RowAdded text ws₁ ws₂ index used spare at s₁ r adds a
-    → RowAdded text ws ws₂ index used spare at s r adds a
-after_emptied {text} {used = used} {at = at} {r = r} {adds = adds} η ε = record {
-  items = ε.items
-      ∙ ap (λ (l : List Item). bind (add item_key compare_bytes (combine_of adds) (item_of text r) l) (λ items. within used (at + length items) items)) η.items;
-  still = ε.still;
-  others = λ k x y. ε.others k x y ∙ η.others k x y;
-}
-
 -- ---- answers
 
 -- the answer as a match has it
-pub exact_as : {text ws ws' : List ℕ} {index used spare at n p : ℕ} {r : Row} {adds : Bool} {a b : UpsertOutcome} → a ≡ b
+pub exact_as : {text ws ws' : List ℕ} {index used spare at n p : ℕ} {r : Row} {adds : Bool} {a b : Result PartSizes Fault} → a ≡ b
     → Exact text ws ws' index used spare at n p r adds a → Exact text ws ws' index used spare at n p r adds b
 exact_as e ε = rw e at ε
 
 -- the combined row as a match has it
-pub inner_made : {text : List ℕ} {a : Combined} {both last r : Row} → a ≡ One both → (ItemRow text last → ItemRow text r → InnerOne text a) → ItemRow text last → ItemRow text r → ItemRow text both
+pub inner_made : {text : List ℕ} {a : LentOption Row} {both last r : Row} → a ≡ Some both → (ItemRow text last → ItemRow text r → InnerOne text a) → ItemRow text last → ItemRow text r → ItemRow text both
 inner_made {text} e h x y = rw e at (h x y)
 
 -- the sizes as they were computed
 pub sizes_as : {text ws ws' : List ℕ} {index used spare at : ℕ} {s t t' : OpenSizes} {r : Row} {adds : Bool} → t' ≡ t
-    → RowAdded text ws ws' index used spare at s r adds (Items t) → RowAdded text ws ws' index used spare at s r adds (Items t')
+    → RowAdded text ws ws' index used spare at s r adds (Ok t) → RowAdded text ws ws' index used spare at s r adds (Ok t')
 sizes_as e ρ = rw e ρ
 
 -- the calls as they were computed
 pub calls_as : {text ws ws' : List ℕ} {index used spare at n p t turns calls calls' : ℕ} {s : OpenSizes} {r : Row} {adds : Bool} → calls' ≡ calls
-    → RowAdded text ws ws' index used spare at s r adds (Items (record { main = n; delta = p; tail = t; flushes = turns; calls = calls }))
-    → RowAdded text ws ws' index used spare at s r adds (Items (record { main = n; delta = p; tail = t; flushes = turns; calls = calls' }))
+    → RowAdded text ws ws' index used spare at s r adds (Ok (record { main = n; delta = p; tail = t; flushes = turns; calls = calls }))
+    → RowAdded text ws ws' index used spare at s r adds (Ok (record { main = n; delta = p; tail = t; flushes = turns; calls = calls' }))
 calls_as e ρ = rw e ρ

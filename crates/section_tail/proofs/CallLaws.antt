@@ -2,11 +2,11 @@
 use mathlib.Core.Path.{◌≡◌, refl, sym, ap, ◌∙◌}
 use mathlib.Core.Bool.{Bool, true, false, not, cond}
 use mathlib.Core.List.{List, [], ◌∷◌, ◌++◌}
-use Prim.Native.Nat.{ℕ, ◌+◌, ◌-◌, ◌%◌, ◌≤◌, ◌<◌, min, Ordering}
+use Prim.Native.Nat.{ℕ, ◌+◌, ◌-◌, ◌%◌, ◌≤◌, ◌<◌, Ordering}
 use native.Mathlib.Omega.{arith}
 use lib.Dec.{compare_is_eq, leb, ltb}
 use borrow.Author.Tests.{le-leb, ltb-true}
-use Rattle.ordmap.specs.Result.{Result, accepted, bind, map_accepted}
+use Rattle.ordmap.specs.Result.{accepted, bind, map_accepted}
 use Rattle.ordmap.specs.Keyed.{by_order, with_key, add}
 use Rattle.ordmap.proofs.Results.{accepted_inj, not_accepted, impossible, map_accepted-accepted}
 use Rattle.model.specs.declared.Fault.TheVariants.{CallOverflow}

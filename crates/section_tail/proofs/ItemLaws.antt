@@ -11,7 +11,7 @@ use Rattle.table.specs.Store.{row, Store}
 use Rattle.table.proofs.PlaceLaws.{by-lt}
 use Rattle.table.proofs.TabulateLaws.{length-tabulate, tabulate_cong, tabulate-split}
 use Rattle.model.specs.Report.{Item}
-use Rattle.table_item.specs.declared.Found.TheVariants.{Insert}
+use Rattle.std.specs.Prelude.{Err}
 use Rattle.table_item.specs.Items.{item_of, ItemRow}
 use Rattle.table_item.specs.SortedItems.{item_at, item_from, items_at, place}
 use Rattle.section_upsert.specs.MainDelta.{merge_items, all_at, MainDelta}
@@ -138,7 +138,7 @@ module _ (text ws ws' : List ℕ) (index : ℕ) where
         delta = same_open text ws ws' index (at + n) p high used' π.delta σ l;
         positions = λ j m. ap₂ place (ap (item_of text) (s (at + n + j) (omega arith) (omega arith))) (same-items text ws ws' index at n low)
             ∙ π.positions j m
-            ∙ ap Insert (sym (κ.above (spare + j) (omega arith)));
+            ∙ ap Err (sym (κ.above (spare + j) (omega arith)));
       }
     where
       low : Unchanged (row ws index) (row ws' index) at (at + n)

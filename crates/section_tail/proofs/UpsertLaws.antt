@@ -2,7 +2,7 @@
 use mathlib.Core.Path.{◌≡◌, refl, sym, ap, ap₂, ◌∙◌}
 use mathlib.Core.Logic.{◌≢◌}
 use mathlib.Core.Bool.{Bool, true, false}
-use mathlib.Core.List.{List, [], ◌∷◌}
+use mathlib.Core.List.{List, []}
 use Prim.Native.Nat.{ℕ, ◌+◌, ◌-◌, ◌≤◌, ◌<◌}
 use native.Mathlib.Omega.{arith}
 use lib.ListN.{length}
@@ -15,12 +15,11 @@ use Rattle.ordmap.specs.Keyed.{add}
 use Rattle.ordmap.proofs.Results.{accepted_inj, not_accepted}
 use Rattle.model.specs.declared.Fault.{Fault}
 use Rattle.model.specs.Answer.{Answer}
-use Rattle.model.specs.Limits.{u64_max}
 use Rattle.model.specs.Bytes.{compare_bytes}
 use Rattle.model.specs.Report.{Item, item_key, compare_items, within}
 use Rattle.table_item.specs.Items.{item_of, ItemRow}
 use Rattle.model.specs.Order.{is_less}
-use Rattle.table_item.specs.declared.Found.TheVariants.{Insert}
+use Rattle.std.specs.Prelude.{Result, Err}
 use Rattle.table_item.specs.Combining.{Adds, combine_of, is_calls}
 use Rattle.table_item.proofs.RowLaws.{calls-function}
 use Rattle.table_item.specs.SortedItems.{item_from, items_at, SortedItems, place}
@@ -30,8 +29,8 @@ use Rattle.table.proofs.StoreLaws.{behind-store, behind-rows}
 use Rattle.section_presort.specs.SortKeys.{Rows}
 use Rattle.section_presort.specs.Presorted.{Presorted}
 use Rattle.section_presort.proofs.ComposeLaws.{presorted_items}
-use Rattle.section_upsert.specs.declared.UpsertOutcome.{UpsertOutcome}
-use Rattle.section_upsert.specs.declared.UpsertOutcome.TheVariants.{Items, Refused}
+use Rattle.section_upsert.specs.declared.PartSizes.{PartSizes}
+use Rattle.section_upsert.specs.Upserted.{parts}
 use Rattle.section_upsert.specs.MainDelta.{all_at, MainDelta, InsertedAt, DeltaMerged}
 use Rattle.section_upsert.proofs.RangeLaws.{inserted_open, same-items, same_open}
 use Rattle.section_upsert.specs.Upserted.{seen, Upserted}
@@ -52,7 +51,7 @@ adds-calls adds r c = go adds (c [])
     go true q = calls-function [] r (sym q)
     go false q = tt
 
-module _ {text ws ws' : List ℕ} {index used spare at i : ℕ} (s : OpenSizes) {r : Row} {a : UpsertOutcome} (π : MainDelta text ws index used spare at s.main s.delta)
+module _ {text ws ws' : List ℕ} {index used spare at i : ℕ} (s : OpenSizes) {r : Row} {a : Result PartSizes Fault} (π : MainDelta text ws index used spare at s.main s.delta)
     (l : s.main + s.delta ≤ i) (h : at + i < used) (e : r ≡ row ws index (at + i)) (fits : RowFits text ws index at i s)
     {adds : Bool} (c : (text : List ℕ) → adds ≡ is_calls (item_of text r)) (ε : Upserted text ws ws' index used spare at s.main s.delta r adds a) where
   abbrev whole : List Item
@@ -73,13 +72,13 @@ module _ {text ws ws' : List ℕ} {index used spare at i : ℕ} (s : OpenSizes) 
       ∙ line_included adds (item_from text ws index at i) whole (ap (λ (x : Row). is_calls (item_of text x)) (sym e) ∙ sym (c text)) (λ q. fits))
       ∙ within-fits used (at + length more) more (omega (arith, more-length))
 
-  pub never_refused : {C : Type 0} {fault : Fault} → a ≡ Refused fault → C
+  pub never_refused : {C : Type 0} {fault : Fault} → a ≡ Err fault → C
   never_refused q = absurd (not_accepted (ap (seen text ws' index at) (sym q) ∙ answer))
 
-  pub one_more : {n p turns : ℕ} → a ≡ Items n p → OneUpserted text ws ws' index used spare at i s (record { main = n; delta = p; tail = 0; flushes = turns; calls = s.calls })
+  pub one_more : {n p turns : ℕ} → a ≡ parts n p → OneUpserted text ws ws' index used spare at i s (record { main = n; delta = p; tail = 0; flushes = turns; calls = s.calls })
   one_more {n} {p} {turns} q = go (rw q at ε) (accepted_inj (ap (seen text ws' index at) (sym q) ∙ answer))
     where
-      go : Upserted text ws ws' index used spare at s.main s.delta r adds (Items n p) → all_at text ws' index at n p ≡ more
+      go : Upserted text ws ws' index used spare at s.main s.delta r adds (parts n p) → all_at text ws' index at n p ≡ more
           → OneUpserted text ws ws' index used spare at i s (record { main = n; delta = p; tail = 0; flushes = turns; calls = s.calls })
       go η f = record {
         items = f;
@@ -156,18 +155,13 @@ pub none_open : {text ws : List ℕ} {index used at : ℕ} → Store ws index us
 unfolding tabulate
 none_open σ l = record { store = σ; room = omega arith; inner = λ k m. absurd (omega arith); sorted = tt }
 
--- two rows as they were read
-pub rises_as : (text ws : List ℕ) (index at k : ℕ) {x y : Row} {r : Bool} → x ≡ row ws index (at + (k - 1)) → y ≡ row ws index (at + k)
-    → r ≡ is_less (compare_items (item_of text x) (item_of text y)) → r ≡ true → is_less (compare_items (item_from text ws index at (k - 1)) (item_from text ws index at k)) ≡ true
-rises_as text ws index at k e f g t = rw (e, f) at (sym g ∙ t)
-
 -- sorted items and one more that is greater than they are
 pub open_next : {text ws : List ℕ} {index used at : ℕ} (k : ℕ) → SortedItems text ws index used at k → at + k < used → ItemRow text (row ws index (at + k))
     → (k ≢ 0 → is_less (compare_items (item_from text ws index at (k - 1)) (item_from text ws index at k)) ≡ true) → SortedItems text ws index used at (k + 1)
 open_next {text} {ws} {index} {used} {at} k ο l ι b =
     inserted_open text ws index used at k (row ws index (at + k)) false ο k (omega arith) here ws last ο.store l ι
   where
-    here : Insert k ≡ place (item_from text ws index at k) (items_at text ws index at k)
+    here : Err k ≡ place (item_from text ws index at k) (items_at text ws index at k)
     here = by-eq k 0 (λ z. rw z (found_none {n = 0} refl).is) (λ z. (found-last ο z (b z)).is)
 
     last : InsertedAt (λ j. row ws index (at + j)) (λ j. row ws index (at + j)) k k (row ws index (at + k))
@@ -176,9 +170,6 @@ open_next {text} {ws} {index} {used} {at} k ο l ι b =
 module _ {text ws₀ ws : List ℕ} {index used spare at counted i : ℕ} {s : OpenSizes} (ρ : Upserting text ws₀ ws index used spare at counted s i) (l : at + i < used) where
   same_row : row ws index (at + i) ≡ row ws₀ index (at + i)
   same_row = ρ.behind (at + i) (omega arith) l
-
-  pub upserting_inner : ItemRow text (row ws₀ index (at + i)) → ItemRow text (row ws index (at + i))
-  upserting_inner ι = rw same_row ι
 
   -- the calls of one row fit if those of all do
   pub upserting_fits : {m : ℕ} → i < m → CallsFit (items_at text ws₀ index at m) → RowFits text ws index at i s
@@ -208,16 +199,6 @@ module _ {text ws₀ ws : List ℕ} {index used spare at counted i : ℕ} {s : O
     others = λ k x y. ο.others k x y ∙ ρ.others k x y;
     behind = λ k x y. ο.behind k (omega arith) y ∙ ρ.behind k (omega arith) y;
   }
-
-pub upserting_done : {text ws₀ ws : List ℕ} {index used spare at counted i m : ℕ} {s : OpenSizes} → Upserting text ws₀ ws index used spare at counted s i → i ≡ m
-    → AllUpserted text ws₀ ws index used spare at m counted s
-upserting_done {text} {ws₀} {index = index} {at = at} ρ e = record {
-  items = ρ.items ∙ ap (λ (k : ℕ). include_all [] (items_at text ws₀ index at k)) e;
-  still = ρ.still;
-  none = ρ.none;
-  calls = ρ.calls;
-  others = ρ.others;
-}
 
 -- ---- the tail
 
@@ -270,7 +251,7 @@ hinted {text} {ws} {ws₁} {ws₂} {index} {used} {spare} {at} {s = s} {r = r} l
         positions = λ j h. ap₂ place (ap (item_of text) (same (at + r.main + j) (omega (arith, parts.delta.room))))
             (same-items text ws₁ ws₂ index at r.main (λ k a b. same k (omega (arith, parts.main.room))))
             ∙ parts.positions j h
-            ∙ ap Insert (sym (κ.below (spare + j) (omega arith)));
+            ∙ ap Err (sym (κ.below (spare + j) (omega arith)));
       })
       (λ h. rw (same-held text ws₁ ws₂ index at r (λ k a b. same k (omega (arith, η.still.room)))) (held-calls η.still h));
   none = η.none;

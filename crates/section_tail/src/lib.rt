@@ -16,9 +16,8 @@ ghost use Rattle.section_tail.specs.Tail.{more_calls, with_tail, with_one_more, 
 ghost use Rattle.section_tail.specs.RowAdded.{RowAdded};
 
 use model::Fault;
-use section_upsert::UpsertOutcome;
 use table::Row;
-use table_item::{Combined, combine, comes_before, compare_items, is_calls};
+use table_item::{combine, comes_before, compare_items, is_calls};
 
 // The sizes of main, delta and tail of the open section; how often its tail was started, plus HINTED where it has hints, which only guides
 // speed; and the sum of the calls of all FNDA lines so far, u64::MAX where it does not fit.
@@ -29,13 +28,6 @@ pub struct OpenSizes {
     pub tail: usize,
     pub flushes: usize,
     pub calls: u64,
-}
-
-// The sizes after a row was added, or why the row is refused.
-#[derive(Clone, Copy)]
-pub enum Outcome {
-    Items(OpenSizes),
-    Refused(Fault),
 }
 
 // A section that flushes its tail so often upserts every further row, which bounds the worst case.
@@ -80,10 +72,8 @@ fn with_one_more(sizes: OpenSizes) -> OpenSizes
 {
     OpenSizes {
         main: sizes.main + 1,
-        delta: sizes.delta,
         tail: 0,
-        flushes: sizes.flushes,
-        calls: sizes.calls,
+        ..sizes
     }
 }
 
@@ -134,15 +124,14 @@ fn upsert_next(
         row,
         is_calls(row),
     );
-    let UpsertOutcome::Items(main, delta) = got else {
+    let Ok(parts) = got else {
         return sizes;
     };
     OpenSizes {
-        main: main,
-        delta: delta,
+        main: parts.main,
+        delta: parts.delta,
         tail: 0,
-        flushes: sizes.flushes,
-        calls: sizes.calls,
+        ..sizes
     }
 }
 
@@ -166,13 +155,10 @@ fn upsert_all(
         main: n,
         delta: 0,
         tail: 0,
-        flushes: before.flushes,
-        calls: before.calls,
+        ..before
     };
-    let mut i = n;
-    while i < m {
+    for i in n..m {
         sizes = upsert_next(text, words, index, used, spare, at, sizes, i);
-        i += 1;
     }
     sizes
 }
@@ -212,15 +198,12 @@ fn sorted_prefix_len(
     requires { Store words.now index used × (at + m ≤ used) × ((i : ℕ) → i < m → ItemRow text.now (row words.now index (at + i))) }
     ensures { SortedItems text.now words.now index used at result × (result ≤ m) }
 {
-    let mut k = 0;
-    while k < m {
-        if is_ascending_at(text, words, index, used, at, k) {
-            k += 1;
-        } else {
+    for k in 0..m {
+        if !is_ascending_at(text, words, index, used, at, k) {
             return k;
         }
     }
-    k
+    m
 }
 
 // Flushes the tail: upserts its rows into main and delta. The rows of real texts ascend by kind: then they are only sorted by it.
@@ -260,11 +243,7 @@ fn more_calls(calls: u64, row: Row, accumulate: bool) -> u64
     if !accumulate {
         return calls;
     }
-    let count = row.count;
-    if u64::MAX - calls < count {
-        return u64::MAX;
-    }
-    calls + count
+    calls.saturating_add(row.count)
 }
 
 // Whether the calls with those of one more row are known to fit.
@@ -288,7 +267,7 @@ fn joins(text: &[u8], last: Row, row: Row, accumulate: bool) -> bool
     if last.k2 != row.k2 {
         return false;
     }
-    compare::is_equal(compare_items(text, row, last))
+    compare_items(text, row, last).is_eq()
 }
 
 // Upserts a row where the tail is empty; position `hint` is tried first.
@@ -303,29 +282,23 @@ fn upsert_row(
     hint: usize,
     row: Row,
     accumulate: bool,
-) -> Outcome
+) -> Result<OpenSizes, Fault>
     requires open_section { OpenSection text.now words.old index used spare at sizes × (sizes.tail ≡ 0) × ItemRow text.now row × RowOfLine accumulate row }
     requires used_bound { (index + used ≤ spare) × (spare + used + used ≤ length words.old) }
     ensures { RowAdded text.now words.old words.new index used spare at sizes row accumulate result }
 {
     let n = sizes.main;
     let p = sizes.delta;
-    match section_upsert::upsert(
+    let parts = section_upsert::upsert(
         text, words, index, used, spare, at, n, p, hint, row, accumulate,
-    ) {
-        UpsertOutcome::Items(main, delta) => {
-            return Outcome::Items(OpenSizes {
-                main: main,
-                delta: delta,
-                tail: 0,
-                flushes: sizes.flushes,
-                calls: more_calls(sizes.calls, row, accumulate),
-            });
-        }
-        UpsertOutcome::Refused(fault) => {
-            return Outcome::Refused(fault);
-        }
-    }
+    )?;
+    Ok(OpenSizes {
+        main: parts.main,
+        delta: parts.delta,
+        tail: 0,
+        flushes: sizes.flushes,
+        calls: more_calls(sizes.calls, row, accumulate),
+    })
 }
 
 // The sizes with `more` rows in the tail and the calls of a row.
@@ -334,11 +307,9 @@ fn with_tail(sizes: OpenSizes, more: usize, row: Row, accumulate: bool) -> OpenS
     ensures { result ≡ with_tail sizes more (more_calls accumulate sizes.calls row.count) }
 {
     OpenSizes {
-        main: sizes.main,
-        delta: sizes.delta,
         tail: sizes.tail + more,
-        flushes: sizes.flushes,
         calls: more_calls(sizes.calls, row, accumulate),
+        ..sizes
     }
 }
 
@@ -396,11 +367,8 @@ pub fn flush_midway(
     let size = used + used - HINTS_START;
     section_hint::fill(text, words, index, used, at, n, from, size);
     OpenSizes {
-        main: n,
-        delta: all.delta,
-        tail: all.tail,
         flushes: HINTED + all.flushes % HINTED,
-        calls: all.calls,
+        ..all
     }
 }
 
@@ -452,7 +420,7 @@ fn append_or_flush(
     sizes: OpenSizes,
     row: Row,
     accumulate: bool,
-) -> Outcome
+) -> Result<OpenSizes, Fault>
     requires open_section { OpenSection text.now words.old index used spare at sizes × (sizes.tail ≢ 0) × ItemRow text.now row × RowOfLine accumulate row }
     requires used_bound { (index + used ≤ spare) × (spare + used + used ≤ length words.old) }
     ensures { RowAdded text.now words.old words.new index used spare at sizes row accumulate result }
@@ -462,16 +430,16 @@ fn append_or_flush(
         if accumulate {
             let last = table::get(words, index, used, end - 1);
             if joins(text, last, row, accumulate) {
-                if let Combined::One(both) = combine(last, row, accumulate) {
+                if let Some(both) = combine(last, row, accumulate) {
                     table::put(words, index, used, end - 1, both);
-                    return Outcome::Items(with_tail(sizes, 0, row, accumulate));
+                    return Ok(with_tail(sizes, 0, row, accumulate));
                 }
             }
         }
         if end < used {
             if !flushes_first(words, index, used, end, sizes, row) {
                 table::put(words, index, used, end, row);
-                return Outcome::Items(with_tail(sizes, 1, row, accumulate));
+                return Ok(with_tail(sizes, 1, row, accumulate));
             }
         }
     }
@@ -493,7 +461,7 @@ fn append_sorted(
     sizes: OpenSizes,
     row: Row,
     accumulate: bool,
-) -> Outcome
+) -> Result<OpenSizes, Fault>
     requires open_section { OpenSection text.now words.old index used spare at sizes × (sizes.tail ≡ 0) × ItemRow text.now row × RowOfLine accumulate row }
     requires delta_value { (sizes.delta ≡ 0) × (sizes.main ≢ 0) × (at + sizes.main < used) }
     requires used_bound { (index + used ≤ spare) × (spare + used + used ≤ length words.old) }
@@ -503,7 +471,7 @@ fn append_sorted(
     let last = table::get(words, index, used, at + (n - 1));
     if comes_before(text, last, row) {
         table::put(words, index, used, at + n, row);
-        return Outcome::Items(OpenSizes {
+        return Ok(OpenSizes {
             main: n + 1,
             delta: 0,
             tail: 0,
@@ -516,12 +484,11 @@ fn append_sorted(
     if starts_tail(sizes, hint, joined) {
         if calls_fit(sizes.calls, row, accumulate) {
             table::put(words, index, used, at + n, row);
-            return Outcome::Items(OpenSizes {
-                main: n,
-                delta: sizes.delta,
+            return Ok(OpenSizes {
                 tail: sizes.tail + 1,
                 flushes: sizes.flushes + 1,
                 calls: more_calls(sizes.calls, row, accumulate),
+                ..sizes
             });
         }
     }
@@ -542,7 +509,7 @@ pub fn add_row(
     sizes: OpenSizes,
     row: Row,
     accumulate: bool,
-) -> Outcome
+) -> Result<OpenSizes, Fault>
     requires open_section { OpenSection text.now words.old index used spare at sizes × ItemRow text.now row × RowOfLine accumulate row }
     requires used_bound { (index + used ≤ spare) × (spare + used + used ≤ length words.old) }
     ensures { RowAdded text.now words.old words.new index used spare at sizes row accumulate result }

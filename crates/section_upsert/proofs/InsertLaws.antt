@@ -1,5 +1,5 @@
 -- What `combine_at` and `insert_delta` do to the words. Assumes nothing.
-use mathlib.Core.Path.{◌≡◌, sym, ap, subst, ◌∙◌}
+use mathlib.Core.Path.{◌≡◌, ◌∙◌}
 use mathlib.Core.Bool.{Bool}
 use mathlib.Core.List.{List}
 use Prim.Native.Nat.{ℕ, suc, ◌+◌, ◌-◌, ◌≤◌, ◌<◌}
@@ -11,26 +11,12 @@ use Rattle.table.specs.Places.{Updated, RowsMoved}
 use Rattle.table.specs.Rows.{word, UnchangedOutside, Moved}
 use Rattle.table.specs.Store.{row, Store}
 use Rattle.table.proofs.StoreLaws.{behind-store, behind-rows}
-use Rattle.table_item.specs.declared.Combined.{Combined}
-use Rattle.table_item.specs.Items.{item_of, ItemRow}
-use Rattle.table_item.specs.Combining.{combine_of, seen_one, InnerOne}
+use Rattle.std.specs.Prelude.{Option as LentOption}
 use Rattle.section_upsert.specs.MainDelta.{DeltaInserted}
-use Rattle.section_upsert.specs.Upserted.{PutOne, RowCombined}
-
--- what `combine` answers, put where the old row is
-pub replacing : {ws ws' : List ℕ} {index used i : ℕ} {r old : Row} {adds : Bool} {a b : Combined} → old ≡ row ws index i
-    → ((text : List ℕ) → seen_one text a ≡ combine_of adds (item_of text old) (item_of text r)) → ((text : List ℕ) → ItemRow text old → ItemRow text r → InnerOne text a)
-    → a ≡ b → Store ws' index used → PutOne ws ws' index used i b → UnchangedOutside ws ws' 0 (index + used) → RowCombined ws ws' index used i r adds b
-replacing {r = r} {adds = adds} o item inner e σ ρ κ = record {
-  item = λ text. ap (seen_one text) (sym e) ∙ item text ∙ ap (λ (x : Row). combine_of adds (item_of text x) (item_of text r)) o;
-  inner = λ text ι ι'. subst (λ (x : Combined). InnerOne text x) e (inner text (rw o ι) ι');
-  store = σ;
-  rows = ρ;
-  spare = κ;
-}
+use Rattle.section_upsert.specs.Upserted.{RowCombined}
 
 -- the answer as a match has it
-pub replacing_as : {ws ws' : List ℕ} {index used i : ℕ} {r : Row} {adds : Bool} {a b : Combined} → a ≡ b → RowCombined ws ws' index used i r adds a
+pub replacing_as : {ws ws' : List ℕ} {index used i : ℕ} {r : Row} {adds : Bool} {a b : LentOption Row} → a ≡ b → RowCombined ws ws' index used i r adds a
     → RowCombined ws ws' index used i r adds b
 replacing_as e χ = rw e at χ
 

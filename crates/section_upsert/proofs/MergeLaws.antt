@@ -20,7 +20,7 @@ use Rattle.model.proofs.Read.{replace_keyed}
 use Rattle.table_item.specs.Items.{item_of, ItemRow}
 use Rattle.table_item.specs.SortedItems.{item_from, items_at}
 use Rattle.table_item.proofs.SearchLaws.{sorted_at}
-use Rattle.section_upsert.specs.MainDelta.{merge_items, MainDelta, DeltaMerged}
+use Rattle.section_upsert.specs.MainDelta.{MainDelta, DeltaMerged}
 use Rattle.section_upsert.proofs.ItemLaws.{flip_gt, Apart, union_added}
 use Rattle.section_upsert.proofs.PlaceLaws.{Between, between, between_absent, apart-tabulate}
 

@@ -10,8 +10,7 @@ use Rattle.ordmap.specs.Keyed.{by_order, Sorted}
 use Rattle.ordmap.proofs.Results.{impossible}
 use Rattle.model.specs.Bytes.{compare_bytes}
 use Rattle.model.specs.Report.{Item, item_key, compare_items}
-use Rattle.table_item.specs.declared.Found.{Found}
-use Rattle.table_item.specs.declared.Found.TheVariants.{At, Insert}
+use Rattle.std.specs.Prelude.{Result, Ok, Err}
 use Rattle.table_item.specs.SortedItems.{place, next}
 use Rattle.table_item.proofs.SearchLaws.{sorted_at}
 use Rattle.section_upsert.proofs.ItemLaws.{less-less, same_left, same-right, Absent, Apart}
@@ -24,7 +23,7 @@ pub record Between (e : Item) (f : ℕ → Item) (n i : ℕ) : Type 0 where
   pub below : (k : ℕ) → k < i → compare_items e (f k) ≡ Ordering.gt
   pub above : (k : ℕ) → i ≤ k → k < n → compare_items e (f k) ≡ Ordering.lt
 
-pub between : (e : Item) (f : ℕ → Item) (n i : ℕ) → Sorted item_key compare_bytes (tabulate f n) → place e (tabulate f n) ≡ Insert i → Between e f n i
+pub between : (e : Item) (f : ℕ → Item) (n i : ℕ) → Sorted item_key compare_bytes (tabulate f n) → place e (tabulate f n) ≡ Err i → Between e f n i
 unfolding tabulate place compare_items
 between e f zero i s q =
     let z : 0 ≡ i = cc in
@@ -35,9 +34,9 @@ between e f (suc n) i s q = go (compare_items e (f 0)) refl q (λ j r. between e
     behind o zero l = o
     behind o (suc k) l = less-less e (f 0) (f (suc k)) o (sorted_at item_key compare_bytes f (suc n) s 0 (suc k) (omega arith) l)
 
-    later : compare_items e (f 0) ≡ Ordering.gt → (p : Found) → next p ≡ Insert i → ((j : ℕ) → p ≡ Insert j → Between e (λ k. f (suc k)) n j) → Between e f (suc n) i
-    later o (At j) r ih = impossible cc
-    later o (Insert j) r ih =
+    later : compare_items e (f 0) ≡ Ordering.gt → (p : Result ℕ ℕ) → next p ≡ Err i → ((j : ℕ) → p ≡ Err j → Between e (λ k. f (suc k)) n j) → Between e f (suc n) i
+    later o (Ok j) r ih = impossible cc
+    later o (Err j) r ih =
         let z : suc j ≡ i = cc in
         subst (λ (m : ℕ). Between e f (suc n) m) z (record { most = omega (arith, β.most); below = below; above = above })
       where
@@ -52,8 +51,8 @@ between e f (suc n) i s q = go (compare_items e (f 0)) refl q (λ j r. between e
         above zero l m = absurd (omega arith)
         above (suc k) l m = β.above k (omega arith) (omega arith)
 
-    go : (o : Ordering) → compare_items e (f 0) ≡ o → by_order o (Insert 0) (At 0) (next (place e (tabulate (λ k. f (suc k)) n))) ≡ Insert i
-        → ((j : ℕ) → place e (tabulate (λ k. f (suc k)) n) ≡ Insert j → Between e (λ k. f (suc k)) n j) → Between e f (suc n) i
+    go : (o : Ordering) → compare_items e (f 0) ≡ o → by_order o (Err 0) (Ok 0) (next (place e (tabulate (λ k. f (suc k)) n))) ≡ Err i
+        → ((j : ℕ) → place e (tabulate (λ k. f (suc k)) n) ≡ Err j → Between e (λ k. f (suc k)) n j) → Between e f (suc n) i
     go Ordering.lt o r ih =
         let z : 0 ≡ i = cc in
         subst (λ (m : ℕ). Between e f (suc n) m) z (record { most = omega arith; below = λ k l. absurd (omega arith); above = λ k l m. behind o k m })
@@ -62,17 +61,17 @@ between e f (suc n) i s q = go (compare_items e (f 0)) refl q (λ j r. between e
 
 -- ---- a key at position i
 
-pub placed_key : (e : Item) (f : ℕ → Item) (n i : ℕ) → place e (tabulate f n) ≡ At i → compare_items e (f i) ≡ Ordering.eq
+pub placed_key : (e : Item) (f : ℕ → Item) (n i : ℕ) → place e (tabulate f n) ≡ Ok i → compare_items e (f i) ≡ Ordering.eq
 unfolding tabulate place
 placed_key e f zero i q = impossible cc
 placed_key e f (suc n) i q = go (compare_items e (f 0)) refl q (λ j r. placed_key e (λ k. f (suc k)) n j r)
   where
-    later : (p : Found) → next p ≡ At i → ((j : ℕ) → p ≡ At j → compare_items e (f (suc j)) ≡ Ordering.eq) → compare_items e (f i) ≡ Ordering.eq
-    later (At j) r ih = let z : suc j ≡ i = cc in subst (λ (m : ℕ). compare_items e (f m) ≡ Ordering.eq) z (ih j refl)
-    later (Insert j) r ih = impossible cc
+    later : (p : Result ℕ ℕ) → next p ≡ Ok i → ((j : ℕ) → p ≡ Ok j → compare_items e (f (suc j)) ≡ Ordering.eq) → compare_items e (f i) ≡ Ordering.eq
+    later (Ok j) r ih = let z : suc j ≡ i = cc in subst (λ (m : ℕ). compare_items e (f m) ≡ Ordering.eq) z (ih j refl)
+    later (Err j) r ih = impossible cc
 
-    go : (o : Ordering) → compare_items e (f 0) ≡ o → by_order o (Insert 0) (At 0) (next (place e (tabulate (λ k. f (suc k)) n))) ≡ At i
-        → ((j : ℕ) → place e (tabulate (λ k. f (suc k)) n) ≡ At j → compare_items e (f (suc j)) ≡ Ordering.eq) → compare_items e (f i) ≡ Ordering.eq
+    go : (o : Ordering) → compare_items e (f 0) ≡ o → by_order o (Err 0) (Ok 0) (next (place e (tabulate (λ k. f (suc k)) n))) ≡ Ok i
+        → ((j : ℕ) → place e (tabulate (λ k. f (suc k)) n) ≡ Ok j → compare_items e (f (suc j)) ≡ Ordering.eq) → compare_items e (f i) ≡ Ordering.eq
     go Ordering.lt o r ih = impossible cc
     go Ordering.eq o r ih = let z : 0 ≡ i = cc in subst (λ (m : ℕ). compare_items e (f m) ≡ Ordering.eq) z o
     go Ordering.gt o r ih = later (place e (tabulate (λ k. f (suc k)) n)) r ih
@@ -84,7 +83,7 @@ pub place-keys : (e e' : Item) → item_key e' ≡ item_key e → (f g : ℕ →
 unfolding tabulate place
 place-keys e e' q f g zero h = refl
 place-keys e e' q f g (suc n) h =
-    ap₂ (λ (o : Ordering) (p : Found). by_order o (Insert 0) (At 0) (next p)) (same_left e' e (g 0) q ∙ same-right (g 0) (f 0) e (h 0 (omega arith)))
+    ap₂ (λ (o : Ordering) (p : Result ℕ ℕ). by_order o (Err 0) (Ok 0) (next p)) (same_left e' e (g 0) q ∙ same-right (g 0) (f 0) e (h 0 (omega arith)))
     (place-keys e e' q (λ k. f (suc k)) (λ k. g (suc k)) n (λ k l. h (suc k) (omega arith)))
 
 -- ---- as lists

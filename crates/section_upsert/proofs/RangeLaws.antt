@@ -19,8 +19,7 @@ use Rattle.model.specs.Answer.{Answer}
 use Rattle.model.specs.Report.{Item, item_key, compare_items}
 use Rattle.model.proofs.KeyOrder.{bytes-order}
 use Rattle.model.proofs.Read.{replace_keyed, add_calls_keyed}
-use Rattle.table_item.specs.declared.Found.{Found}
-use Rattle.table_item.specs.declared.Found.TheVariants.{At, Insert}
+use Rattle.std.specs.Prelude.{Result, Ok, Err}
 use Rattle.table_item.specs.Items.{item_of, ItemRow}
 use Rattle.table_item.specs.SortedItems.{item_from, items_at, SortedItems, place, next}
 use Rattle.table_item.specs.Combining.{combine_of}
@@ -31,9 +30,9 @@ use Rattle.section_upsert.proofs.PlaceLaws.{placed_key}
 -- ---- `add` by the place
 
 module _ (combine : Item → Item → Answer Item) (e : Item) where
-  abbrev at_place : Found → List Item → Answer (List Item)
-  at_place (At i) l = map_accepted (λ y. set l i y) (combine (get_or l i e) e)
-  at_place (Insert i) l = accepted (take i l ++ e ∷ drop i l)
+  abbrev at_place : Result ℕ ℕ → List Item → Answer (List Item)
+  at_place (Ok i) l = map_accepted (λ y. set l i y) (combine (get_or l i e) e)
+  at_place (Err i) l = accepted (take i l ++ e ∷ drop i l)
 
   add-place : (l : List Item) → add item_key compare_bytes combine e l ≡ at_place (place e l) l
   unfolding place compare_items
@@ -44,9 +43,9 @@ module _ (combine : Item → Item → Answer Item) (e : Item) where
       later i (accepted y) = refl
       later i (refused n) = refl
 
-      past : (p : Found) → map_accepted (λ ys. x ∷ ys) (at_place p xs) ≡ at_place (next p) (x ∷ xs)
-      past (At i) = later i (combine (get_or xs i e) e)
-      past (Insert i) = refl
+      past : (p : Result ℕ ℕ) → map_accepted (λ ys. x ∷ ys) (at_place p xs) ≡ at_place (next p) (x ∷ xs)
+      past (Ok i) = later i (combine (get_or xs i e) e)
+      past (Err i) = refl
 
       go : (o : Ordering) → compare_items e x ≡ o → add item_key compare_bytes combine e xs ≡ at_place (place e xs) xs
           → add item_key compare_bytes combine e (x ∷ xs) ≡ at_place (place e (x ∷ xs)) (x ∷ xs)
@@ -92,11 +91,11 @@ module _ (text ws : List ℕ) (index used at n : ℕ) (r : Row) (adds : Bool) (�
   still-sorted l added ws' m rows = rw rows (add-sorted item_key compare_bytes (combine_of adds) bytes-order (keyed adds) e run l ο.sorted added)
 
   -- the key is at position i
-  module _ (i : ℕ) (i<n : i < n) (q : At i ≡ place e run) where
+  module _ (i : ℕ) (i<n : i < n) (q : Ok i ≡ place e run) where
     pub run_at : add item_key compare_bytes (combine_of adds) (item_of text r) (items_at text ws index at n)
         ≡ map_accepted (λ y. set (items_at text ws index at n) i y) (combine_of adds (item_from text ws index at i) (item_of text r))
     run_at =
-        add-place (combine_of adds) e run ∙ ap (λ (p : Found). at_place (combine_of adds) e p run) (sym q)
+        add-place (combine_of adds) e run ∙ ap (λ (p : Result ℕ ℕ). at_place (combine_of adds) e p run) (sym q)
         ∙ ap (λ (x : Item). map_accepted (λ y. set run i y) (combine_of adds x e)) (get_d_tabulate f n i e i<n)
 
     module _ (ws' : List ℕ) (both : Row) (m : accepted (item_of text both) ≡ combine_of adds (f i) e) (π : Updated (row ws index) (row ws' index) used (at + i) both) where
@@ -133,14 +132,14 @@ module _ (text ws : List ℕ) (index used at n : ℕ) (r : Row) (adds : Bool) (�
       }
 
   -- the key is to go to place i
-  module _ (i : ℕ) (i≤n : i ≤ n) (q : Insert i ≡ place e run) (ws' : List ℕ) (ι : InsertedAt (λ k. row ws index (at + k)) (λ k. row ws' index (at + k)) n i r) where
+  module _ (i : ℕ) (i≤n : i ≤ n) (q : Err i ≡ place e run) (ws' : List ℕ) (ι : InsertedAt (λ k. row ws index (at + k)) (λ k. row ws' index (at + k)) n i r) where
     longer : items_at text ws' index at (n + 1) ≡ take i run ++ e ∷ drop i run
     longer =
         ap (items_at text ws' index at) (let z : n + 1 ≡ suc n = omega arith in z)
         ∙ tabulate-insert (item_from text ws' index at) f n i e i≤n (λ k l. ap (item_of text) (ι.below k l)) (ap (item_of text) ι.here) (λ k l m. ap (item_of text) (ι.up k l m))
 
     more : adding run ≡ accepted (take i run ++ e ∷ drop i run)
-    more = add-place (combine_of adds) e run ∙ ap (λ (p : Found). at_place (combine_of adds) e p run) (sym q)
+    more = add-place (combine_of adds) e run ∙ ap (λ (p : Result ℕ ℕ). at_place (combine_of adds) e p run) (sym q)
 
     pub inserted_added : add item_key compare_bytes (combine_of adds) (item_of text r) (items_at text ws index at n) ≡ accepted (items_at text ws' index at (n + 1))
     inserted_added = more ∙ ap accepted (sym longer)

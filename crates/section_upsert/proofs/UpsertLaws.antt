@@ -21,14 +21,12 @@ use Rattle.model.specs.declared.Fault.TheVariants.{CallOverflow, TooManyEntries}
 use Rattle.model.specs.Bytes.{compare_bytes}
 use Rattle.model.specs.Answer.{Answer, refuse}
 use Rattle.model.specs.Report.{Item, item_key, compare_items, within}
-use Rattle.table_item.specs.declared.Found.TheVariants.{At, Insert}
-use Rattle.table_item.specs.declared.Combined.TheVariants.{One, Overflow}
+use Rattle.std.specs.Prelude.{Ok, Err, Some, None}
 use Rattle.table_item.specs.Items.{item_of, ItemRow}
 use Rattle.table_item.specs.SortedItems.{item_from, items_at, SortedItems, place}
 use Rattle.table_item.specs.Combining.{combine_of}
-use Rattle.section_upsert.specs.declared.UpsertOutcome.TheVariants.{Items, Refused}
 use Rattle.section_upsert.specs.MainDelta.{insert, merge_items, all_at, MainDelta, InsertedAt, DeltaInserted}
-use Rattle.section_upsert.specs.Upserted.{RowCombined, Upserted}
+use Rattle.section_upsert.specs.Upserted.{RowCombined, parts, Upserted}
 use Rattle.section_upsert.proofs.ItemLaws.{same_key, key-same, Absent, union_absent, length-insert, length_union, add_absent, add-main, add-delta}
 use Rattle.section_upsert.proofs.PlaceLaws.{between, between_absent, placed_key, place-keys, absent_tabulate}
 use Rattle.section_upsert.proofs.MergeLaws.{parts_between, parts-apart, main_now}
@@ -93,7 +91,7 @@ module _ (text ws : List ℕ) (index used spare at n p : ℕ) (r : Row) (adds : 
 
   upserted : (ws' : List ℕ) (n' p' : ℕ) → adding whole ≡ accepted (all_at text ws' index at n' p') → MainDelta text ws' index used spare at n' p'
       → Unchanged (row ws index) (row ws' index) 0 at → Unchanged (row ws index) (row ws' index) (at + n + p + 1) used
-      → Upserted text ws ws' index used spare at n p r adds (Items n' p')
+      → Upserted text ws ws' index used spare at n p r adds (parts n' p')
   upserted ws' n' p' q π' s b = record {
     items = sym (ap counted q ∙ within-fits used (at + length (all_at text ws' index at n' p')) (all_at text ws' index at n' p') (omega (arith, parts-length π', π'.delta.room)));
     still = π';
@@ -103,7 +101,7 @@ module _ (text ws : List ℕ) (index used spare at n p : ℕ) (r : Row) (adds : 
 
   -- no row is free
   pub upserted_full : (ws' : List ℕ) → Unchanged (row ws index) (row ws' index) 0 used → Absent (item_of text r) (items_at text ws index at n)
-      → Absent (item_of text r) (items_at text ws index (at + n) p) → used ≤ at + n + p → Upserted text ws ws' index used spare at n p r adds (Refused TooManyEntries)
+      → Absent (item_of text r) (items_at text ws index (at + n) p) → used ≤ at + n + p → Upserted text ws ws' index used spare at n p r adds (Err TooManyEntries)
   upserted_full ws' s a b l =
       let c : Absent e whole = union_absent e main delta a b in
       record {
@@ -115,7 +113,7 @@ module _ (text ws : List ℕ) (index used spare at n p : ℕ) (r : Row) (adds : 
 
   -- ---- the key is at position i of main
 
-  module _ (i : ℕ) (i<n : i < n) (q : At i ≡ place e main) where
+  module _ (i : ℕ) (i<n : i < n) (q : Ok i ≡ place e main) where
     not_delta : Absent e delta
     not_delta = absent_tabulate e h p (λ j l x. go j l (key-same (h j) (f i) (sym (same_key e (h j) x) ∙ same_key e (f i) (placed_key e f n i (sym q)))))
       where
@@ -125,8 +123,8 @@ module _ (text ws : List ℕ) (index used spare at n p : ℕ) (r : Row) (adds : 
             (λ m. let z : Ordering.gt ≡ Ordering.eq = sym ((parts_between π j l).below i m) ∙ x in impossible cc)
             (λ m. let z : Ordering.lt ≡ Ordering.eq = sym ((parts_between π j l).above i m i<n) ∙ x in impossible cc)
 
-    pub upserted_main : {ws' : List ℕ} {both : Row} → ItemRow text r → RowCombined ws ws' index used (at + i) r adds (One both) → index + used ≤ spare
-        → Upserted text ws ws' index used spare at n p r adds (Items n p)
+    pub upserted_main : {ws' : List ℕ} {both : Row} → ItemRow text r → RowCombined ws ws' index used (at + i) r adds (Some both) → index + used ≤ spare
+        → Upserted text ws ws' index used spare at n p r adds (parts n p)
     upserted_main {ws'} {both} inner χ b =
         upserted ws' n p
         (add-main (combine_of adds) (keyed adds) e main delta not_delta
@@ -137,7 +135,7 @@ module _ (text ws : List ℕ) (index used spare at n p : ℕ) (r : Row) (adds : 
           delta = same_open text ws ws' index (at + n) p same used π.delta χ.store π.delta.room;
           positions = λ j l. place-keys (h j) (item_from text ws' index (at + n) j) (ap item_key (ap (item_of text) (same (at + n + j) (omega arith) (omega arith)))) f (item_from text ws' index at) n
               (replaced-keys text ws index used at n r adds π.main i i<n q ws' both (χ.item text) χ.rows)
-              ∙ π.positions j l ∙ ap Insert (sym (χ.spare.above (spare + j) (omega arith)));
+              ∙ π.positions j l ∙ ap Err (sym (χ.spare.above (spare + j) (omega arith)));
         })
         (λ k x y. χ.rows.others k (omega (arith, π.main.room)) (omega arith))
         (λ k x y. χ.rows.others k y (omega arith))
@@ -145,7 +143,7 @@ module _ (text ws : List ℕ) (index used spare at n p : ℕ) (r : Row) (adds : 
         same : Unchanged (row ws index) (row ws' index) (at + n) (at + n + p)
         same k x y = χ.rows.others k (omega (arith, π.delta.room)) (omega arith)
 
-    pub overflow_main : {ws' : List ℕ} → RowCombined ws ws' index used (at + i) r adds Overflow → Upserted text ws ws' index used spare at n p r adds (Refused CallOverflow)
+    pub overflow_main : {ws' : List ℕ} → RowCombined ws ws' index used (at + i) r adds None → Upserted text ws ws' index used spare at n p r adds (Err CallOverflow)
     overflow_main χ = record {
       items = sym (ap counted (add-main (combine_of adds) (keyed adds) e main delta not_delta
           ∙ ap (map_accepted (λ l. merge_items l delta)) (run_at text ws index used at n r adds π.main i i<n q ∙ ap (λ (a : Answer Item). map_accepted (λ y. set main i y) a) (sym (χ.item text)))));
@@ -156,7 +154,7 @@ module _ (text ws : List ℕ) (index used spare at n p : ℕ) (r : Row) (adds : 
 
   -- ---- the key is not in main; its insert position there is i
 
-  module _ (i : ℕ) (a : Insert i ≡ place e main) where
+  module _ (i : ℕ) (a : Err i ≡ place e main) where
     pub not_main : Absent (item_of text r) (items_at text ws index at n)
     not_main = between_absent (between e f n i π.main.sorted (sym a))
 
@@ -164,9 +162,9 @@ module _ (text ws : List ℕ) (index used spare at n p : ℕ) (r : Row) (adds : 
     to_delta = add-delta main (combine_of adds) (keyed adds) e delta not_main π.delta.sorted
 
     -- the key is at position k of the delta
-    module _ (k : ℕ) (k<p : k < p) (q : At k ≡ place e delta) where
-      pub upserted_delta : {ws' : List ℕ} {both : Row} → ItemRow text r → RowCombined ws ws' index used (at + n + k) r adds (One both) → index + used ≤ spare
-          → Upserted text ws ws' index used spare at n p r adds (Items n p)
+    module _ (k : ℕ) (k<p : k < p) (q : Ok k ≡ place e delta) where
+      pub upserted_delta : {ws' : List ℕ} {both : Row} → ItemRow text r → RowCombined ws ws' index used (at + n + k) r adds (Some both) → index + used ≤ spare
+          → Upserted text ws ws' index used spare at n p r adds (parts n p)
       upserted_delta {ws'} {both} inner χ b =
           upserted ws' n p
           (to_delta ∙ ap (map_accepted (merge_items main)) (replaced-added text ws index used (at + n) p r adds π.delta k k<p q ws' both (χ.item text) χ.rows)
@@ -176,7 +174,7 @@ module _ (text ws : List ℕ) (index used spare at n p : ℕ) (r : Row) (adds : 
             delta = replaced_open text ws index used (at + n) p r adds π.delta k k<p q ws' both (χ.item text) χ.rows χ.store (χ.inner text (π.delta.inner k k<p) inner);
             positions = λ j l. place-keys (h j) (item_from text ws' index (at + n) j) (replaced-keys text ws index used (at + n) p r adds π.delta k k<p q ws' both (χ.item text) χ.rows j l) f (item_from text ws' index at) n
                 (λ o x. ap item_key (ap (item_of text) (same (at + o) (omega arith) (omega arith))))
-                ∙ π.positions j l ∙ ap Insert (sym (χ.spare.above (spare + j) (omega arith)));
+                ∙ π.positions j l ∙ ap Err (sym (χ.spare.above (spare + j) (omega arith)));
           })
           (λ o x y. χ.rows.others o (omega (arith, π.main.room)) (omega arith))
           (λ o x y. χ.rows.others o y (omega arith))
@@ -184,7 +182,7 @@ module _ (text ws : List ℕ) (index used spare at n p : ℕ) (r : Row) (adds : 
           same : Unchanged (row ws index) (row ws' index) at (at + n)
           same o x y = χ.rows.others o (omega (arith, π.main.room)) (omega arith)
 
-      pub overflow_delta : {ws' : List ℕ} → RowCombined ws ws' index used (at + n + k) r adds Overflow → Upserted text ws ws' index used spare at n p r adds (Refused CallOverflow)
+      pub overflow_delta : {ws' : List ℕ} → RowCombined ws ws' index used (at + n + k) r adds None → Upserted text ws ws' index used spare at n p r adds (Err CallOverflow)
       overflow_delta χ = record {
         items = sym (ap counted (to_delta ∙ ap (map_accepted (merge_items main)) (run_at text ws index used (at + n) p r adds π.delta k k<p q ∙ ap (λ (x : Answer Item). map_accepted (λ y. set delta k y) x) (sym (χ.item text)))));
         still = tt;
@@ -193,12 +191,12 @@ module _ (text ws : List ℕ) (index used spare at n p : ℕ) (r : Row) (adds : 
       }
 
     -- its insert position in the delta is k
-    module _ (k : ℕ) (k≤p : k ≤ p) (q : Insert k ≡ place e delta) where
-      pub delta_full : used ≤ at + n + p → Upserted text ws ws index used spare at n p r adds (Refused TooManyEntries)
+    module _ (k : ℕ) (k≤p : k ≤ p) (q : Err k ≡ place e delta) where
+      pub delta_full : used ≤ at + n + p → Upserted text ws ws index used spare at n p r adds (Err TooManyEntries)
       delta_full l = upserted_full ws (λ o x y. refl) not_main (between_absent (between e h p k π.delta.sorted (sym q))) l
 
       pub upserted_inserted : (ws' : List ℕ) → at + n + p < used → ItemRow text r → DeltaInserted ws ws' index used spare (at + n) p k i r
-          → Upserted text ws ws' index used spare at n p r adds (Items n (p + 1))
+          → Upserted text ws ws' index used spare at n p r adds (parts n (p + 1))
       upserted_inserted ws' l ι ν =
           upserted ws' n (p + 1)
           (to_delta ∙ ap (map_accepted (merge_items main)) (inserted_added text ws index used (at + n) p r adds π.delta k k≤p q ws' ν.rows)
@@ -225,17 +223,17 @@ module _ (text ws : List ℕ) (index used spare at n p : ℕ) (r : Row) (adds : 
           items = same-items text ws ws' index at n same
 
           -- an item and its place, as they were
-          noted : (j : ℕ) (x : Item) (w : ℕ) → item_from text ws' index (at + n) j ≡ x → word ws' (spare + j) ≡ w → place x main ≡ Insert w
-              → place (item_from text ws' index (at + n) j) (items_at text ws' index at n) ≡ Insert (word ws' (spare + j))
-          noted j x w u v t = ap₂ place u items ∙ t ∙ ap Insert (sym v)
+          noted : (j : ℕ) (x : Item) (w : ℕ) → item_from text ws' index (at + n) j ≡ x → word ws' (spare + j) ≡ w → place x main ≡ Err w
+              → place (item_from text ws' index (at + n) j) (items_at text ws' index at n) ≡ Err (word ws' (spare + j))
+          noted j x w u v t = ap₂ place u items ∙ t ∙ ap Err (sym v)
 
   -- ---- the key is greater than all, and the delta is empty
 
-  pub last_full : p ≡ 0 → Insert n ≡ place (item_of text r) (items_at text ws index at n) → used ≤ at + n → Upserted text ws ws index used spare at n p r adds (Refused TooManyEntries)
+  pub last_full : p ≡ 0 → Err n ≡ place (item_of text r) (items_at text ws index at n) → used ≤ at + n → Upserted text ws ws index used spare at n p r adds (Err TooManyEntries)
   last_full z a l = upserted_full ws (λ o x y. refl) (not_main n a) (absent_tabulate e h p (λ j m. absurd (omega arith))) (omega arith)
 
-  pub upserted_last : (ws' : List ℕ) → p ≡ 0 → Insert n ≡ place (item_of text r) (items_at text ws index at n) → at + n < used → ItemRow text r
-      → Store ws' index used → Updated (row ws index) (row ws' index) used (at + n) r → Upserted text ws ws' index used spare at n p r adds (Items (n + 1) 0)
+  pub upserted_last : (ws' : List ℕ) → p ≡ 0 → Err n ≡ place (item_of text r) (items_at text ws index at n) → at + n < used → ItemRow text r
+      → Store ws' index used → Updated (row ws index) (row ws' index) used (at + n) r → Upserted text ws ws' index used spare at n p r adds (parts (n + 1) 0)
   upserted_last ws' z a l ι σ ρ =
       upserted ws' (n + 1) 0
       (ap adding (none-delta text ws index at n z) ∙ inserted_added text ws index used at n r adds π.main n (omega arith) a ws' last
@@ -251,8 +249,8 @@ module _ (text ws : List ℕ) (index used spare at n p : ℕ) (r : Row) (adds : 
 
 -- what was upserted, after the merge
 pub upserted_interleaved : {text ws ws₁ ws₂ : List ℕ} {index used spare at n p : ℕ} {r : Row} {adds : Bool} (m k : ℕ) → m + k ≤ n + p + 1
-    → Upserted text ws ws₁ index used spare at n p r adds (Items m k) → Store ws₂ index used
-    → Interleaved (row ws₁ index) (row ws₂ index) (λ j. word ws₁ (spare + j)) used at m k → Upserted text ws ws₂ index used spare at n p r adds (Items (m + k) 0)
+    → Upserted text ws ws₁ index used spare at n p r adds (parts m k) → Store ws₂ index used
+    → Interleaved (row ws₁ index) (row ws₂ index) (λ j. word ws₁ (spare + j)) used at m k → Upserted text ws ws₂ index used spare at n p r adds (parts (m + k) 0)
 upserted_interleaved {text} {ws} {ws₁} {ws₂} {index} {used} {spare} {at} m k l ε σ ω =
     let ς = main_now ε.still σ ω in
     record {

@@ -1,6 +1,6 @@
 -- The items of the open section in two sorted parts: main, and behind it the delta, whose insert positions in main are
 -- in spare words. Assumes nothing.
-use Rattle.std.specs.Prelude.{ℕ, suc, ◌+◌, ◌≤◌, ◌<◌, ◌≡◌, List, [], ◌∷◌}
+use Rattle.std.specs.Prelude.{ℕ, suc, ◌+◌, ◌≤◌, ◌<◌, ◌≡◌, List, [], ◌∷◌, Err}
 use Rattle.table.specs.declared.Row.{Row}
 use Rattle.table.specs.Places.{Unchanged}
 use Rattle.table.specs.Rows.{word}
@@ -8,7 +8,6 @@ use Rattle.table.specs.Store.{row, Store}
 use Rattle.ordmap.specs.Keyed.{by_order}
 use Rattle.model.specs.Bytes.{Bytes}
 use Rattle.model.specs.Report.{Item, compare_items}
-use Rattle.table_item.specs.declared.Found.TheVariants.{Insert}
 use Rattle.table_item.specs.SortedItems.{item_from, items_at, SortedItems, place}
 
 -- ---- one list of two
@@ -34,7 +33,7 @@ all_at text ws index at n p = merge_items (items_at text ws index at n) (items_a
 pub record MainDelta (text ws : List ℕ) (index used spare at n p : ℕ) : Type 0 where
   pub main : SortedItems text ws index used at n
   pub delta : SortedItems text ws index used (at + n) p
-  pub positions : (j : ℕ) → j < p → place (item_from text ws index (at + n) j) (items_at text ws index at n) ≡ Insert (word ws (spare + j))
+  pub positions : (j : ℕ) → j < p → place (item_from text ws index (at + n) j) (items_at text ws index at n) ≡ Err (word ws (spare + j))
 
 -- of n elements, x is inserted at position k, and those from there on are shifted up by one
 pub record InsertedAt {A : Type 0} (f g : ℕ → A) (n k : ℕ) (x : A) : Type 0 where

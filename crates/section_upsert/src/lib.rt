@@ -4,9 +4,8 @@
 // lines rarely move main.
 #![tactic(auto)]
 
-ghost use Rattle.std.specs.Prelude.{◌+◌, ◌≤◌, ◌<◌, length};
+ghost use Rattle.std.specs.Prelude.{◌+◌, ◌≤◌, ◌<◌, length, Err};
 ghost use Rattle.table.specs.Store.{Store};
-ghost use Rattle.table_item.specs.declared.Found.TheVariants.{Insert};
 ghost use Rattle.table_item.specs.Items.{item_of, ItemRow};
 ghost use Rattle.table_item.specs.SortedItems.{FoundPlace};
 ghost use Rattle.table_item.specs.Combining.{Adds};
@@ -15,9 +14,9 @@ ghost use Rattle.section_upsert.specs.Upserted.{RowCombined, Upserted};
 
 use model::Fault;
 use table::Row;
-use table_item::{Combined, Found, combine, find_item};
+use table_item::{combine, find_item};
 
-// Combines the row at position i with another of its key, unless their counts overflow.
+// Combines the row at position i with another of its key: the row that they make, none where their counts do not add.
 fn combine_at(
     words: &mut [u64],
     index: usize,
@@ -25,17 +24,14 @@ fn combine_at(
     i: usize,
     row: Row,
     accumulate: bool,
-) -> Combined
+) -> Option<Row>
     requires { Store words.old index used × (i < used) × Adds accumulate row }
     ensures { RowCombined words.old words.new index used i row accumulate result }
 {
     let old = table::get(words, index, used, i);
-    let made = combine(old, row, accumulate);
-    let Combined::One(both) = made else {
-        return Combined::Overflow;
-    };
+    let both = combine(old, row, accumulate)?;
     table::put(words, index, used, i, both);
-    Combined::One(both)
+    Some(both)
 }
 
 // The delta is merged into main when it has this many items.
@@ -60,15 +56,15 @@ fn insert_delta(
 {
     table::put(words, index, used, from + p, row);
     table::move_row(words, index, used, from + k, from + p);
-    table::copy_backward(words, spare + k, spare + k + 1, p - k);
+    table::copy_words(words, spare + k, spare + k + 1, p - k);
     words[spare + k] = i as u64;
 }
 
-// The sizes of main and delta, or why the row is refused.
+// The sizes of main and delta.
 #[derive(Clone, Copy)]
-pub enum UpsertOutcome {
-    Items(usize, usize),
-    Refused(Fault),
+pub struct PartSizes {
+    pub main: usize,
+    pub delta: usize,
 }
 
 // Upserts a row that main, of n items, does not have into the delta, of p items. Its insert position in main is i.
@@ -84,30 +80,32 @@ fn upsert_delta(
     i: usize,
     row: Row,
     accumulate: bool,
-) -> UpsertOutcome
+) -> Result<PartSizes, Fault>
     requires main_delta { MainDelta text.now words.old index used spare at n p × ItemRow text.now row × Adds accumulate row }
-    requires used_bound { (index + used ≤ spare) × (spare + used + used ≤ length words.old) × FoundPlace text.now words.old index at n (item_of text.now row) (Insert i) }
+    requires used_bound { (index + used ≤ spare) × (spare + used + used ≤ length words.old) × FoundPlace text.now words.old index at n (item_of text.now row) (Err i) }
     ensures { Upserted text.now words.old words.new index used spare at n p row accumulate result }
 {
     match find_item(text, words, index, used, at + n, p, p, row) {
-        Found::At(k) => match combine_at(words, index, used, at + n + k, row, accumulate) {
-            Combined::One(_both) => {
-                return UpsertOutcome::Items(n, p);
-            }
-            Combined::Overflow => {
-                return UpsertOutcome::Refused(Fault::CallOverflow);
-            }
+        Ok(k) => match combine_at(words, index, used, at + n + k, row, accumulate) {
+            Some(_both) => Ok(PartSizes { main: n, delta: p }),
+            None => Err(Fault::CallOverflow),
         },
-        Found::Insert(k) => {
+        Err(k) => {
             if used <= at + n + p {
-                return UpsertOutcome::Refused(Fault::TooManyEntries);
+                return Err(Fault::TooManyEntries);
             }
             insert_delta(words, index, used, spare, at + n, p, k, i, row);
             if p + 1 < DELTA_ITEMS {
-                return UpsertOutcome::Items(n, p + 1);
+                return Ok(PartSizes {
+                    main: n,
+                    delta: p + 1,
+                });
             }
             table_interleave::interleave(words, index, used, at, n, p + 1, spare);
-            return UpsertOutcome::Items(n + (p + 1), 0);
+            Ok(PartSizes {
+                main: n + (p + 1),
+                delta: 0,
+            })
         }
     }
 }
@@ -126,33 +124,30 @@ pub fn upsert(
     hint: usize,
     row: Row,
     accumulate: bool,
-) -> UpsertOutcome
+) -> Result<PartSizes, Fault>
     requires main_delta { MainDelta text.now words.old index used spare at n p × ItemRow text.now row × Adds accumulate row }
     requires used_bound { (index + used ≤ spare) × (spare + used + used ≤ length words.old) }
     ensures { Upserted text.now words.old words.new index used spare at n p row accumulate result }
 {
     match find_item(text, words, index, used, at, n, hint, row) {
-        Found::At(i) => match combine_at(words, index, used, at + i, row, accumulate) {
-            Combined::One(_both) => {
-                return UpsertOutcome::Items(n, p);
-            }
-            Combined::Overflow => {
-                return UpsertOutcome::Refused(Fault::CallOverflow);
-            }
+        Ok(i) => match combine_at(words, index, used, at + i, row, accumulate) {
+            Some(_both) => Ok(PartSizes { main: n, delta: p }),
+            None => Err(Fault::CallOverflow),
         },
-        Found::Insert(i) => {
-            if p == 0 {
-                if i == n {
-                    if used <= at + n {
-                        return UpsertOutcome::Refused(Fault::TooManyEntries);
-                    }
-                    table::put(words, index, used, at + n, row);
-                    return UpsertOutcome::Items(n + 1, 0);
+        Err(i) => {
+            if p == 0 && i == n {
+                if used <= at + n {
+                    return Err(Fault::TooManyEntries);
                 }
+                table::put(words, index, used, at + n, row);
+                return Ok(PartSizes {
+                    main: n + 1,
+                    delta: 0,
+                });
             }
-            return upsert_delta(
+            upsert_delta(
                 text, words, index, used, spare, at, n, p, i, row, accumulate,
-            );
+            )
         }
     }
 }

@@ -15,15 +15,6 @@ by-lt a b f g = elim (dec_lt a b) [ yes e ↦ f e | no n ↦ g (omega arith) ]
 
 -- ---- a block that is moved
 
--- nothing comes past nothing
-pub moved_none : {A : Type 0} {f : ℕ → A} {used to from n : ℕ} → to ≡ from → RowsMoved f f used to from n
-moved_none {A} {f} {used} {to} {from} {n} e = record {
-  below = λ k l h. refl;
-  there = λ k m l h q. let z : k ≡ m = omega arith in rw z;
-  up = λ k m l h q. absurd (omega arith);
-  above = λ k l h. refl;
-}
-
 -- a move of one reading of the positions is a move of every reading that agrees with it
 pub moved_along : {A B : Type 0} {f g : ℕ → A} (f' g' : ℕ → B) {used to from n : ℕ} → to ≤ from → from + n ≤ used
     → ((k m : ℕ) → m < used → g k ≡ f m → g' k ≡ f' m) → RowsMoved f g used to from n → RowsMoved f' g' used to from n
@@ -112,10 +103,6 @@ swapped_along f' g' a b c d along τ = record {
   first = λ k m p q e. along k m (omega arith) (τ.first k m p q e);
   above = λ k p q. along k k q (τ.above k p q);
 }
-
-pub swapped_as : {A : Type 0} {f g : ℕ → A} {used lo hi hi' mid end end' : ℕ} → BlocksSwapped f g used lo hi mid end → hi ≡ hi' → end ≡ end'
-    → BlocksSwapped f g used lo hi' mid end'
-swapped_as τ e d = rw (e, d) at τ
 
 -- ---- two blocks that change places
 

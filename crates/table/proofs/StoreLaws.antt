@@ -1,5 +1,5 @@
 -- Laws of rows in the order of an index: what a step does to the words is what its contract says of the rows. Assumes nothing.
-use mathlib.Core.Path.{◌≡◌, refl, sym, ap, ◌∙◌}
+use mathlib.Core.Path.{◌≡◌, sym, ap, ◌∙◌}
 use mathlib.Core.Logic.{◌≢◌}
 use mathlib.Core.List.{List}
 use Prim.Native.Nat.{ℕ, ◌+◌, ◌*◌, ◌-◌, ◌≤◌, ◌<◌}
@@ -7,7 +7,7 @@ use native.Mathlib.Omega.{arith}
 use lib.ListN.{length, set, length-set}
 use lib.Seq.{get_or-set_same, get_or-set_other}
 use Rattle.table.specs.declared.Row.{Row}
-use Rattle.table.specs.Places.{Unchanged, Shifted, Updated, RowsMoved, BlocksSwapped}
+use Rattle.table.specs.Places.{Unchanged, Updated, RowsMoved, BlocksSwapped}
 use Rattle.table.specs.Rows.{row_words, word, row_at, UnchangedOutside, Moved, Written}
 use Rattle.table.specs.Store.{number, Store, row}
 use Rattle.table.proofs.PlaceLaws.{by-eq, moved_along, moved-index, swapped_along, exchanged_index}

@@ -1,4 +1,4 @@
--- Laws of words that are moved, and of a row that is written. Assumes nothing.
+-- Laws of a row that is written, and of those that are not. Assumes nothing.
 use mathlib.Core.Path.{◌≡◌, refl, ap, ◌∙◌}
 use mathlib.Core.Logic.{◌≢◌}
 use mathlib.Core.List.{List, [], ◌∷◌}
@@ -8,42 +8,12 @@ use native.Mathlib.Omega.{arith}
 use lib.ListN.{length, set, length-set}
 use lib.Seq.{get_or-set_same, get_or-set_other, sets}
 use Rattle.table.specs.declared.Row.{Row}
-use Rattle.table.specs.Rows.{row_words, word, words_of, row_from, row_at, UnchangedOutside, Moved, Written}
-use Rattle.table.proofs.PlaceLaws.{by-eq, by-lt}
+use Rattle.table.specs.Rows.{row_words, word, words_of, row_from, row_at, UnchangedOutside, Written}
+use Rattle.table.proofs.PlaceLaws.{by-lt}
 
 -- what is kept outside some words is kept outside more
 pub kept_wider : {ws ws' : List ℕ} {lo hi lo' hi' : ℕ} → UnchangedOutside ws ws' lo hi → lo' ≤ lo → hi ≤ hi' → UnchangedOutside ws ws' lo' hi'
 kept_wider κ l h = record { below = λ j p. κ.below j (omega arith); above = λ j p. κ.above j (omega arith) }
-
--- ---- words that are moved
-
-pub moved_none : (ws : List ℕ) (from to : ℕ) → Moved ws ws from to 0
-moved_none ws from to = record {
-  shifted = λ k m l h e. absurd (omega arith);
-  kept = record { below = λ j h. refl; above = λ j h. refl };
-}
-
--- one more word, from p to q, next to the n that went from from to to: those at to' are now n', which came from from'
-pub record Next (from to n from' to' n' p q : ℕ) : Type 0 where
-  pub inside : (to' ≤ q) × (q < to' + n') × (to' ≤ to) × (to + n ≤ to' + n')
-  pub others : (k : ℕ) → to' ≤ k → k < to' + n' → k ≢ q → (to ≤ k) × (k < to + n)
-  pub shifts : (from' + to ≡ from + to') × (p + to' ≡ from' + q)
-
-pub moved-one : {ws₀ ws : List ℕ} {from to n from' to' n' p q : ℕ} → Next from to n from' to' n' p q → Moved ws₀ ws from to n
-    → q < length ws → word ws p ≡ word ws₀ p → Moved ws₀ (set ws q (word ws p)) from' to' n'
-moved-one {ws₀} {ws} {p = p} {q = q} ν μ room same = record {
-  shifted = λ k m l h e. by-eq k q
-      (λ x. let y : m ≡ p = omega arith in rw (x, y) (get_or-set_same ws q (word ws p) 0 room ∙ same))
-      (λ x. let (a, b) = ν.others k l h x in get_or-set_other ws q k (word ws p) 0 x ∙ μ.shifted k m a b (omega arith));
-  kept = record {
-    below = λ j l. get_or-set_other ws q j (word ws p) 0 (omega arith) ∙ μ.kept.below j (omega arith);
-    above = λ j l. get_or-set_other ws q j (word ws p) 0 (omega arith) ∙ μ.kept.above j (omega arith);
-  };
-}
-
--- the same move, its places and number by equations
-pub moved_as : {ws ws' : List ℕ} {from to n from' to' n' : ℕ} → Moved ws ws' from to n → from ≡ from' → to ≡ to' → n ≡ n' → Moved ws ws' from' to' n'
-moved_as μ e f g = rw (e, f, g) at μ
 
 -- ---- a row that is written
 

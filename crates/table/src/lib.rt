@@ -4,7 +4,7 @@
 // move. The words behind the index are spare: `push_row`, `put` and `move_row` leave them unchanged.
 #![tactic(auto)]
 
-ghost use Rattle.std.specs.Prelude.{◌≡◌, ◌⊎◌, ◌+◌, ◌*◌, ◌≤◌, ◌<◌, length};
+ghost use Rattle.std.specs.Prelude.{◌≡◌, ◌+◌, ◌*◌, ◌≤◌, ◌<◌, length};
 ghost use Rattle.table.specs.Places.{Unchanged, Updated, RowsMoved, BlocksSwapped};
 ghost use Rattle.table.specs.Rows.{row_words, row_at, UnchangedOutside, Moved, Written};
 ghost use Rattle.table.specs.Store.{Store, row};
@@ -12,7 +12,7 @@ ghost use Rattle.table.specs.Store.{Store, row};
 // The number of words of a row: `row_words` in specs/Rows.antt.
 pub const ROW_WORDS: usize = 9;
 
-// The word of a row that holds its tag: `tag_Word`.
+// The word of a row that holds its tag: `tag_word`.
 pub const TAG_WORD: usize = 4;
 
 // One entry. A name is an offset and a length in the lent text. The tag is twice the kind, plus one where the optional value is
@@ -24,7 +24,7 @@ pub const TAG_WORD: usize = 4;
 // | function | name, offset            | name, length    | start, end line | calls | end line   |
 // | branch   | line                    | block           | branch          | taken | taken      |
 // | line     | line                    | checksum, offset| checksum, length| runs  | checksum   |
-#[derive(Clone, Copy)]
+#[derive(Clone, Copy, Default)]
 pub struct Row {
     pub test: u64,
     pub test_len: u64,
@@ -71,28 +71,12 @@ fn write_row(words: &mut [u64], j: usize, row: Row)
     words[p + 8] = row.count;
 }
 
-// Copies n words in ascending order: the destination starts no later than the source, or behind its end.
-pub fn copy_forward(words: &mut [u64], from: usize, to: usize, n: usize)
-    requires { (from + n ≤ length words.old) × (to + n ≤ length words.old) × ((to ≤ from) ⊎ (from + n ≤ to)) }
+// Copies n words. The two ranges may overlap.
+pub fn copy_words(words: &mut [u64], from: usize, to: usize, n: usize)
+    requires { (from + n ≤ length words.old) × (to + n ≤ length words.old) }
     ensures { Moved words.old words.new from to n }
 {
-    let mut i = 0;
-    while i < n {
-        words[to + i] = words[from + i];
-        i += 1;
-    }
-}
-
-// Copies n words in descending order: the destination starts no earlier than the source.
-pub fn copy_backward(words: &mut [u64], from: usize, to: usize, n: usize)
-    requires { (from ≤ to) × (to + n ≤ length words.old) }
-    ensures { Moved words.old words.new from to n }
-{
-    let mut i = n;
-    while 0 < i {
-        i -= 1;
-        words[to + i] = words[from + i];
-    }
+    words.copy_within(from..from + n, to);
 }
 
 // The i-th row in the index's order.
@@ -133,7 +117,7 @@ pub fn move_row(words: &mut [u64], index: usize, used: usize, to: usize, from: u
     ensures spare { UnchangedOutside words.old words.new 0 (index + used) }
 {
     let number = words[index + from];
-    copy_backward(words, index + to, index + to + 1, from - to);
+    copy_words(words, index + to, index + to + 1, from - to);
     words[index + to] = number;
 }
 
@@ -147,14 +131,14 @@ fn move_block(
     n: usize,
     spare: usize,
 )
-    requires store_2 { Store words.old index used × (to ≤ from) × (from + n ≤ used) }
+    requires store { Store words.old index used × (to ≤ from) × (from + n ≤ used) }
     requires used_bound { (index + used ≤ spare) × (spare + n ≤ length words.old) }
     ensures store { Store words.new index used }
     ensures rows { RowsMoved (row words.old index) (row words.new index) used to from n }
 {
-    copy_forward(words, index + from, spare, n);
-    copy_backward(words, index + to, index + to + n, from - to);
-    copy_forward(words, spare, index + to, n);
+    copy_words(words, index + from, spare, n);
+    copy_words(words, index + to, index + to + n, from - to);
+    copy_words(words, spare, index + to, n);
 }
 
 // Swaps the n rows at `lo` and the n at `mid`. `spare` is the offset of n free words.
@@ -167,14 +151,14 @@ fn swap_equal_blocks(
     n: usize,
     spare: usize,
 )
-    requires store_2 { Store words.old index used × (lo + n ≤ mid) × (mid + n ≤ used) }
+    requires store { Store words.old index used × (lo + n ≤ mid) × (mid + n ≤ used) }
     requires used_bound { (index + used ≤ spare) × (spare + n ≤ length words.old) }
     ensures store { Store words.new index used }
     ensures rows { BlocksSwapped (row words.old index) (row words.new index) used lo (lo + n) mid (mid + n) }
 {
-    copy_forward(words, index + lo, spare, n);
-    copy_forward(words, index + mid, index + lo, n);
-    copy_forward(words, spare, index + mid, n);
+    copy_words(words, index + lo, spare, n);
+    copy_words(words, index + mid, index + lo, n);
+    copy_words(words, spare, index + mid, n);
 }
 
 // Swaps the first and the last of three adjacent blocks, which start at lo, hi and mid; the last ends at `end`. Where these two are of
@@ -189,7 +173,7 @@ pub fn swap_blocks(
     end: usize,
     spare: usize,
 )
-    requires store_2 { Store words.old index used × (lo ≤ hi) × (hi ≤ mid) × (mid ≤ end) × (end ≤ used) }
+    requires store { Store words.old index used × (lo ≤ hi) × (hi ≤ mid) × (mid ≤ end) × (end ≤ used) }
     requires used_bound { (index + used ≤ spare) × (spare + end ≤ length words.old) }
     ensures store { Store words.new index used }
     ensures rows { BlocksSwapped (row words.old index) (row words.new index) used lo hi mid end }

@@ -1,6 +1,6 @@
 -- The loop of `interleave`: from the last of the p to the first, it moves up those of the n that belong behind it.
 -- Assumes nothing.
-use mathlib.Core.Path.{◌≡◌, refl, sym, ap, ◌∙◌}
+use mathlib.Core.Path.{◌≡◌, ap, ◌∙◌}
 use mathlib.Core.List.{List}
 use Prim.Native.Nat.{ℕ, ◌+◌, ◌-◌, ◌≤◌, ◌<◌}
 use native.Mathlib.Omega.{arith}
@@ -45,24 +45,6 @@ module _ {ws ws₀ : List ℕ} {index used at n p spare : ℕ} (φ : Fits ws ind
 
   pub saved_fits : Fits ws₀ index used at n p spare
   saved_fits = record { rows = φ.rows; behind = φ.behind; room = omega (arith, φ.room); rising = rising_as same-places φ.rising }
-
-  pub interleaving_start : Interleaving ws₀ ws₀ index used at n p spare p n
-  interleaving_start = record {
-    size = refl;
-    most = omega arith;
-    top = omega arith;
-    low = λ k l. saved_fits.rising.most k l;
-    high = λ k l m. absurd (omega arith);
-    places = λ k l. refl;
-    saved = λ k l.
-        μ.shifted (spare + p + k) (index + (at + n + k)) (omega arith) (omega arith) (omega arith)
-        ∙ sym (same_numbers (at + n + k) (omega (arith, φ.rows)));
-    below = λ k l. refl;
-    new = λ k l m. absurd (omega arith);
-    old = λ i c l m r. absurd (omega arith);
-    above = λ k l m. refl;
-    behind = λ k l. refl;
-  }
 
 module _ {ws₀ ws : List ℕ} {index used at n p spare : ℕ} (φ : Fits ws₀ index used at n p spare) where
   module _ {before hi : ℕ} (j : ℕ) (place : ℕ) (was : before ≡ j + 1) (η : Interleaving ws₀ ws index used at n p spare before hi)

@@ -8,7 +8,6 @@ use Prim.Native.Nat.{Ordering}
 use lib.Dec.{compare_is_eq}
 use Rattle.ordmap.specs.Result.{Result, accepted, bind}
 use Rattle.ordmap.specs.Keyed.{Order, Sorted, find, with_key, join_all, add, add_all, Keyed}
-use Rattle.ordmap.proofs.Results.{accepted_inj}
 use Rattle.ordmap.proofs.Maps.{keys-equal}
 use Rattle.ordmap.proofs.Sizes.{add_all-append}
 use Rattle.ordmap.proofs.Exact.{add_all-exactly}

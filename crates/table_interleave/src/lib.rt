@@ -18,18 +18,16 @@ pub fn interleave(
     p: usize,
     spare: usize,
 )
-    requires store_2 { Store words.old index used × (at + n + p ≤ used) }
+    requires store { Store words.old index used × (at + n + p ≤ used) }
     requires used_bound { (index + used ≤ spare) × (spare + p + p ≤ length words.old) × Ascending (λ j. word words.old (spare + j)) n p }
     ensures store { Store words.new index used }
     ensures rows { Interleaved (row words.old index) (row words.new index) (λ j. word words.old (spare + j)) used at n p }
 {
-    table::copy_forward(words, index + at + n, spare + p, p);
-    let mut j = p;
+    table::copy_words(words, index + at + n, spare + p, p);
     let mut hi = n;
-    while 0 < j {
-        j -= 1;
+    for j in (0..p).rev() {
         let place = words[spare + j] as usize;
-        table::copy_backward(
+        table::copy_words(
             words,
             index + at + place,
             index + at + place + j + 1,

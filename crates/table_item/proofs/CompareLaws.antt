@@ -37,35 +37,6 @@ less-is a b = go (compare a b) (says a b)
     go Ordering.eq h = le-ltb a b (omega arith)
     go Ordering.gt h = le-ltb a b (omega arith)
 
--- two numbers that differ decide
-first_decides : (a b : ℕ) (o : Ordering) → a ≢ b → ltb a b ≡ is_less (lex (compare a b) o)
-first_decides a b o n = less-is a b ∙ go (compare a b) (says a b)
-  where
-    go : (p : Ordering) → Says p a b → is_less p ≡ is_less (lex p o)
-    go Ordering.lt h = refl
-    go Ordering.eq h = absurd (n h)
-    go Ordering.gt h = refl
-
--- and two that are the same do not
-next_decides : (a b : ℕ) (o : Ordering) → a ≡ b → lex (compare a b) o ≡ o
-next_decides a b o e = ap (λ (p : Ordering). lex p o) (said Ordering.eq a b e)
-
--- three numbers each, as two branches have them
-module _ (x y : Row) where
-  abbrev compare_branches : Ordering
-  compare_branches = lex (compare x.k1 y.k1) (lex (compare x.k2 y.k2) (compare x.k3 y.k3))
-
-  pub branch-first : x.k1 ≢ y.k1 → ltb x.k1 y.k1 ≡ is_less compare_branches
-  branch-first n = first_decides x.k1 y.k1 (lex (compare x.k2 y.k2) (compare x.k3 y.k3)) n
-
-  pub branch-second : x.k1 ≡ y.k1 → x.k2 ≢ y.k2 → ltb x.k2 y.k2 ≡ is_less compare_branches
-  branch-second e n = first_decides x.k2 y.k2 (compare x.k3 y.k3) n ∙ ap is_less (sym (next_decides x.k1 y.k1 (lex (compare x.k2 y.k2) (compare x.k3 y.k3)) e))
-
-  pub branch-third : x.k1 ≡ y.k1 → x.k2 ≡ y.k2 → ltb x.k3 y.k3 ≡ is_less compare_branches
-  branch-third e f =
-      less-is x.k3 y.k3
-      ∙ ap is_less (sym (next_decides x.k1 y.k1 (lex (compare x.k2 y.k2) (compare x.k3 y.k3)) e ∙ next_decides x.k2 y.k2 (compare x.k3 y.k3) f))
-
 -- ---- keys
 
 -- the key after the kind

@@ -12,7 +12,7 @@ use Rattle.model.specs.Bytes.{Bytes}
 use Rattle.model.specs.Answer.{Answer, accepted, refuse, ◌>>=◌}
 use Rattle.model.specs.Report.{Function, updated, Item, section_item, function_item, branch_item, line_item, count_of, sum}
 use Rattle.model.specs.Reading.{add_calls}
-use Rattle.table_item.specs.Items.{kind_of, function_kind, by_kind, function_in, item_of, ItemRow}
+use Rattle.table_item.specs.Items.{kind_of, function_kind, by_kind, function_in, item_of}
 use Rattle.table_item.specs.Combining.{Adds, combine_of}
 
 abbrev pub with_count : Row → ℕ → Row
@@ -27,9 +27,6 @@ with_count r n = record {
   k3 = r.k3;
   count = n;
 }
-
-pub inner-count : {text : Bytes} {r : Row} (n : ℕ) → ItemRow text r → ItemRow text (with_count r n)
-inner-count n ι = record { good = record { kind = ι.good.kind; name = ι.good.name; checksum = ι.good.checksum }; inner = ι.inner }
 
 pub function-item : (text : Bytes) (r : Row) → kind_of r ≡ function_kind
     → item_of text r ≡ function_item (function_in text r)

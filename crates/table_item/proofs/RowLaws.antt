@@ -1,7 +1,8 @@
 -- The rows of FN, FNDA, BRDA and DA are items. Assumes nothing.
+use Rattle.std.specs.Prelude.{Option as LentOption, Some, None}
 use mathlib.Core.Path.{◌≡◌, refl, sym, ap, ap₂, ◌∙◌}
 use mathlib.Core.Logic.{◌≢◌}
-use mathlib.Core.Bool.{Bool, true, false}
+use mathlib.Core.Bool.{true, false}
 use mathlib.Core.Option.{Option, none, some}
 use lib.Dec.{eqb, compare_is_eq}
 use Prim.Native.Nat.compare
@@ -12,36 +13,27 @@ use Rattle.table.specs.declared.Row.{Row}
 use Rattle.ordmap.proofs.Results.{impossible}
 use Rattle.model.specs.declared.Part.{Part}
 use Rattle.model.specs.Bytes.{Bytes}
-use Rattle.model.specs.declared.EndLine.{EndLine}
-use Rattle.model.specs.declared.EndLine.TheVariants as El
-use Rattle.model.specs.declared.Taken.{Taken}
-use Rattle.model.specs.declared.Taken.TheVariants as Tk
-use Rattle.model.specs.declared.Checksum.{Checksum}
-use Rattle.model.specs.declared.Checksum.TheVariants as Ck
-use Rattle.model.specs.Parts.{end_in, taken_in}
+use Rattle.model.specs.Parts.{given_in}
 use Rattle.model.specs.Report.{extent_at, Extent, Function, function_of, updated, extent_of, given_end, end_of, section_item, function_item, branch_item, line_item}
 use Rattle.table_item.proofs.CountLaws.{function-item}
 use Rattle.table_item.specs.Combining.{no_extent, is_calls}
 use Rattle.table_item.specs.Items.{part, kind_of, function_kind, by_kind, if_given, line_numbers, extent_tag, extent_word, extent_in, start_key, function_in, part_in, item_of, PartInside, checksum_part, ChecksumInside, item_row, Makes}
 
-pub word-is : (start : ℕ) (a b : EndLine) (n : ℕ) → a ≡ b → n ≡ extent_word start b → n ≡ extent_word start a
-word-is start a b n e h = rw e h
-
 module _ (p : Part) (start : ℕ) (small : start < line_numbers) where
-  start-made : (end : EndLine)
-      → Makes (item_row (extent_tag end) p.start p.len (extent_word start end) 0) (λ text. function_item (function_of (part_in text p) (some (extent_at start (end_in end))) 0)) (λ text. PartInside text p)
-  unfolding item_of end_in
-  start-made (El.Given line) =
+  start-made : (end : LentOption ℕ)
+      → Makes (item_row (extent_tag end) p.start p.len (extent_word start end) 0) (λ text. function_item (function_of (part_in text p) (some (extent_at start (given_in end))) 0)) (λ text. PartInside text p)
+  unfolding item_of given_in
+  start-made (Some line) =
       let low : (start + line * line_numbers) % line_numbers ≡ start = omega (arith, small) in
       let high : (start + line * line_numbers) / line_numbers ≡ line = omega (arith, small) in
       record {
         is = λ text. ap₂ (λ (s l : ℕ). function_item (function_of (part_in text p) (some (extent_at s (some l))) 0)) low high;
         inner = λ text i. omega arith;
       }
-  start-made El.Absent = rw add-one (record { is = λ text. refl; inner = λ text i. omega arith })
+  start-made None = rw add-one (record { is = λ text. refl; inner = λ text i. omega arith })
 
-  pub start-row-made : {r : Row} {tag word : ℕ} (end : EndLine) → tag ≡ extent_tag end → word ≡ extent_word start end → r ≡ item_row tag p.start p.len word 0
-      → Makes r (λ text. function_item (function_of (part_in text p) (some (extent_at start (end_in end))) 0)) (λ text. PartInside text p)
+  pub start-row-made : {r : Row} {tag word : ℕ} (end : LentOption ℕ) → tag ≡ extent_tag end → word ≡ extent_word start end → r ≡ item_row tag p.start p.len word 0
+      → Makes r (λ text. function_item (function_of (part_in text p) (some (extent_at start (given_in end))) 0)) (λ text. PartInside text p)
   start-row-made end e f q = rw (q, e, f) (start-made end)
 
 -- ---- what a row tells of its function
@@ -96,8 +88,8 @@ module _ (r : Row) where
         let one : r.tag % 2 ≡ 1 = omega arith in
         add-one (r.k3 % line_numbers) ∙ sym (ap start_key (function-extent text ∙ ap (λ (m : ℕ). extent_in m r.k3) one))
 
-  pub no_end : r.tag ≢ 3 → (text : Bytes) → end_in El.Absent ≡ end_of (item_of text r)
-  unfolding end_in
+  pub no_end : r.tag ≢ 3 → (text : Bytes) → given_in None ≡ end_of (item_of text r)
+  unfolding given_in
   no_end e text = go (kind_of r) (r.tag % 2) (λ q. omega arith) r.k3 ∙ sym (ap given_end (extent-is text r))
     where
       go : (k m : ℕ) → (k ≡ function_kind → m ≡ 0) → (n : ℕ) → none ≡ given_end (extent_by k m n)
@@ -108,8 +100,8 @@ module _ (r : Row) where
       go (suc (suc zero)) m f n = refl
       go (suc (suc (suc k))) m f n = refl
 
-  pub some_end : r.tag ≡ 3 → (text : Bytes) → end_in (El.Given (r.k3 / line_numbers)) ≡ end_of (item_of text r)
-  unfolding end_in item_of extent_of
+  pub some_end : r.tag ≡ 3 → (text : Bytes) → given_in (Some (r.k3 / line_numbers)) ≡ end_of (item_of text r)
+  unfolding given_in item_of extent_of
   some_end e text = rw e
 
 -- ---- rows of FNDA
@@ -179,24 +171,24 @@ pub calls-made : {r : Row} (p : Part) (count : ℕ) → r ≡ item_row 2 p.start
 unfolding item_of
 calls-made p count e = rw e (record { is = λ text. refl; inner = λ text h. omega arith })
 
-module _ (line block branch : ℕ) {r : Row} {taken : Taken} where
-  pub taken_made : (count : ℕ) → taken ≡ Tk.Given count → r ≡ item_row 5 line block branch count
-      → Makes r (λ text. branch_item line block branch (taken_in taken)) (λ text. Unit {0})
-  unfolding item_of taken_in
+module _ (line block branch : ℕ) {r : Row} {taken : LentOption ℕ} where
+  pub taken_made : (count : ℕ) → taken ≡ Some count → r ≡ item_row 5 line block branch count
+      → Makes r (λ text. branch_item line block branch (given_in taken)) (λ text. Unit {0})
+  unfolding item_of given_in
   taken_made count f e = rw (e, f) (record { is = λ text. refl; inner = λ text h. omega arith })
 
-  pub untaken_made : taken ≡ Tk.Absent → r ≡ item_row 4 line block branch 0
-      → Makes r (λ text. branch_item line block branch (taken_in taken)) (λ text. Unit {0})
-  unfolding item_of taken_in
+  pub untaken_made : taken ≡ None → r ≡ item_row 4 line block branch 0
+      → Makes r (λ text. branch_item line block branch (given_in taken)) (λ text. Unit {0})
+  unfolding item_of given_in
   untaken_made f e = rw (e, f) (record { is = λ text. refl; inner = λ text h. omega arith })
 
-module _ (line count : ℕ) {r : Row} {checksum : Checksum} where
-  pub checksum-made : (p : Part) → checksum ≡ Ck.Given p → r ≡ item_row 7 line p.start p.len count
+module _ (line count : ℕ) {r : Row} {checksum : LentOption Part} where
+  pub checksum-made : (p : Part) → checksum ≡ Some p → r ≡ item_row 7 line p.start p.len count
       → Makes r (λ text. line_item line count (checksum_part text checksum)) (λ text. ChecksumInside text checksum)
   unfolding item_of
   checksum-made p f e = rw (e, f) (record { is = λ text. refl; inner = λ text h. omega arith })
 
-  pub line_made : checksum ≡ Ck.Absent → r ≡ item_row 6 line 0 0 count
+  pub line_made : checksum ≡ None → r ≡ item_row 6 line 0 0 count
       → Makes r (λ text. line_item line count (checksum_part text checksum)) (λ text. ChecksumInside text checksum)
   unfolding item_of
   line_made f e = rw (e, f) (record { is = λ text. refl; inner = λ text h. omega arith })

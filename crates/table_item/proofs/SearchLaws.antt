@@ -6,6 +6,7 @@ use mathlib.Core.List.{List}
 use Prim.Native.Nat.{ℕ, zero, suc, ◌+◌, ◌-◌, ◌≤◌, ◌<◌, Ordering}
 use native.Mathlib.Omega.{arith}
 use lib.Dec.{compare_is_eq}
+use Rattle.std.specs.Prelude.{Result, Ok, Err}
 use Rattle.table.specs.declared.Row.{Row}
 use Rattle.table.specs.Places.{tabulate, PartitionPoint}
 use Rattle.table.specs.Store.{row}
@@ -18,8 +19,6 @@ use Rattle.model.specs.Order.{is_less}
 use Rattle.model.specs.Bytes.{compare_bytes}
 use Rattle.model.specs.Report.{Item, item_key, compare_items}
 use Rattle.model.proofs.KeyOrder.{bytes-order}
-use Rattle.table_item.specs.declared.Found.{Found}
-use Rattle.table_item.specs.declared.Found.TheVariants.{At, Insert}
 use Rattle.table_item.specs.Items.{item_of}
 use Rattle.table_item.specs.SortedItems.{item_from, SortedItems, place, next, FoundPlace}
 
@@ -97,7 +96,7 @@ module _ (f : ℕ → Item) (e : Item) where
 
 module _ (e : Item) where
   pub place-insert : (f : ℕ → Item) (n i : ℕ) → i ≤ n → ((k : ℕ) → k < i → compare_items e (f k) ≡ Ordering.gt) → (i < n → compare_items e (f i) ≡ Ordering.lt)
-      → place e (tabulate f n) ≡ Insert i
+      → place e (tabulate f n) ≡ Err i
   unfolding tabulate place
   place-insert f zero zero h below here = refl
   place-insert f zero (suc i) h below here = absurd (omega arith)
@@ -106,7 +105,7 @@ module _ (e : Item) where
       rw (below 0 (omega arith)) (ap next (place-insert (λ k. f (suc k)) n i (omega arith) (λ k l. below (suc k) (omega arith)) (λ l. here (omega arith))))
 
   pub place_at : (f : ℕ → Item) (n i : ℕ) → i < n → ((k : ℕ) → k < i → compare_items e (f k) ≡ Ordering.gt) → compare_items e (f i) ≡ Ordering.eq
-      → place e (tabulate f n) ≡ At i
+      → place e (tabulate f n) ≡ Ok i
   unfolding tabulate place
   place_at f zero i h below here = absurd (omega arith)
   place_at f (suc n) zero h below here = rw here
@@ -118,28 +117,32 @@ pub before_as : (text ws : List ℕ) (index at k : ℕ) (e : Item) {x : Row} {r 
     → Before (item_from text ws index at) e k ≡ b
 before_as text ws index at k e f g t = rw f at (sym g ∙ t)
 
+pub equal_as : (text ws : List ℕ) (index at k : ℕ) (e : Item) {x : Row} {r b : Bool} → x ≡ row ws index (at + k) → r ≡ compare_is_eq (compare_items e (item_of text x)) → r ≡ b
+    → compare_is_eq (compare_items e (item_from text ws index at k)) ≡ b
+equal_as text ws index at k e f g t = rw f at (sym g ∙ t)
+
 -- ---- the answers of the search
 
 -- the answer as a match has it
-pub placed_as : {text ws : List ℕ} {index at n : ℕ} {e : Item} {r q : Found} → r ≡ q → FoundPlace text ws index at n e r → FoundPlace text ws index at n e q
+pub placed_as : {text ws : List ℕ} {index at n : ℕ} {e : Item} {r q : Result ℕ ℕ} → r ≡ q → FoundPlace text ws index at n e r → FoundPlace text ws index at n e q
 placed_as z π = rw z at π
 
 module _ {text ws : List ℕ} {index at n : ℕ} {e : Item} where
-  pub found_none : n ≡ 0 → FoundPlace text ws index at n e (Insert 0)
+  pub found_none : n ≡ 0 → FoundPlace text ws index at n e (Err 0)
   found_none z = record {
     is = sym (place-insert e (item_from text ws index at) n 0 (omega arith) (λ k l. absurd (omega arith)) (λ l. absurd (omega arith)));
     within = omega arith;
   }
 
   -- e comes after the last
-  pub found-last : {used : ℕ} → SortedItems text ws index used at n → n ≢ 0 → Before (item_from text ws index at) e (n - 1) ≡ true → FoundPlace text ws index at n e (Insert n)
+  pub found-last : {used : ℕ} → SortedItems text ws index used at n → n ≢ 0 → Before (item_from text ws index at) e (n - 1) ≡ true → FoundPlace text ws index at n e (Err n)
   found-last ο z t = record {
     is = sym (place-insert e (item_from text ws index at) n n (omega arith) (λ k l. greater (item_from text ws index at) e k (before_falls (item_from text ws index at) e n ο.sorted k (n - 1) (omega arith) (omega arith) t)) (λ l. absurd (omega arith)));
     within = omega arith;
   }
 
   -- e is the i-th
-  pub found_here : {used : ℕ} (i : ℕ) → SortedItems text ws index used at n → i < n → compare_is_eq (compare_items e (item_from text ws index at i)) ≡ true → FoundPlace text ws index at n e (At i)
+  pub found_here : {used : ℕ} (i : ℕ) → SortedItems text ws index used at n → i < n → compare_is_eq (compare_items e (item_from text ws index at i)) ≡ true → FoundPlace text ws index at n e (Ok i)
   unfolding compare_items
   found_here i ο l q = record {
     is = sym (place_at e (item_from text ws index at) n i l
@@ -149,14 +152,14 @@ module _ {text ws : List ℕ} {index at n : ℕ} {e : Item} where
   }
 
   module _ {i : ℕ} (z : n ≢ 0) (κ : PartitionPoint (Before (item_from text ws index at) e) (n - 1) i) where
-    pub found_at : compare_is_eq (compare_items e (item_from text ws index at i)) ≡ true → FoundPlace text ws index at n e (At i)
+    pub found_at : compare_is_eq (compare_items e (item_from text ws index at i)) ≡ true → FoundPlace text ws index at n e (Ok i)
     found_at q = record {
       is = sym (place_at e (item_from text ws index at) n i (omega (arith, κ.most)) (λ k l. greater (item_from text ws index at) e k (κ.past k l)) (is_eq _ q));
       within = omega (arith, κ.most);
     }
 
     -- e does not come after the last
-    pub found-gap : Before (item_from text ws index at) e (n - 1) ≡ false → compare_is_eq (compare_items e (item_from text ws index at i)) ≡ false → FoundPlace text ws index at n e (Insert i)
+    pub found-gap : Before (item_from text ws index at) e (n - 1) ≡ false → compare_is_eq (compare_items e (item_from text ws index at i)) ≡ false → FoundPlace text ws index at n e (Err i)
     found-gap b q = record {
       is = sym (place-insert e (item_from text ws index at) n i (omega (arith, κ.most)) (λ k l. greater (item_from text ws index at) e k (κ.past k l)) (λ l. less (item_from text ws index at) e i here q));
       within = omega (arith, κ.most);

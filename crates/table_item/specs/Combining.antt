@@ -1,5 +1,5 @@
 -- What two rows of one key make: FN, FNDA, BRDA and DA lines. Assumes nothing.
-use Rattle.std.specs.Prelude.{◌≡◌, Bool, true, false, cond, ℕ, ◌+◌}
+use Rattle.std.specs.Prelude.{◌≡◌, Option as LentOption, Some, None, Bool, true, false, cond, ℕ, ◌+◌}
 use Rattle.std.proofs.Math.Option.{Option, none, some}
 use Rattle.table.specs.declared.Row.{Row}
 use Rattle.model.specs.declared.Fault.TheVariants.{CallOverflow}
@@ -7,8 +7,6 @@ use Rattle.model.specs.Bytes.{Bytes}
 use Rattle.model.specs.Answer.{Answer, accepted, refuse}
 use Rattle.model.specs.Report.{Extent, updated, Item, section_item, function_item, branch_item, line_item}
 use Rattle.model.specs.Reading.{replace, add_calls}
-use Rattle.table_item.specs.declared.Combined.{Combined}
-use Rattle.table_item.specs.declared.Combined.TheVariants.{One, Overflow}
 use Rattle.table_item.specs.Items.{kind_of, function_kind, item_of, ItemRow}
 
 -- FNDA adds, the others replace
@@ -23,13 +21,13 @@ Adds false r = Unit {0}
 
 -- ---- what two rows make
 
-abbrev pub seen_one : Bytes → Combined → Answer Item
-seen_one text (One r) = accepted (item_of text r)
-seen_one text Overflow = refuse CallOverflow
+abbrev pub seen_one : Bytes → LentOption Row → Answer Item
+seen_one text (Some r) = accepted (item_of text r)
+seen_one text None = refuse CallOverflow
 
-abbrev pub InnerOne : Bytes → Combined → Type 0
-InnerOne text (One r) = ItemRow text r
-InnerOne text Overflow = Unit {0}
+abbrev pub InnerOne : Bytes → LentOption Row → Type 0
+InnerOne text (Some r) = ItemRow text r
+InnerOne text None = Unit {0}
 
 -- ---- rows of one key, whatever their counts add up to
 

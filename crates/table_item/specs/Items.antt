@@ -1,12 +1,8 @@
 -- The item that a row is, together with the text. Assumes nothing.
-use Rattle.std.specs.Prelude.{ℕ, zero, suc, ◌+◌, ◌*◌, ◌/◌, ◌%◌, ◌≤◌, ◌≡◌, length, take, drop}
+use Rattle.std.specs.Prelude.{ℕ, zero, suc, ◌+◌, ◌*◌, ◌/◌, ◌%◌, ◌≤◌, ◌≡◌, length, take, drop, Option as LentOption, Some, None}
 use Rattle.std.proofs.Math.Option.{Option, none, some}
 use Rattle.table.specs.declared.Row.{Row}
 use Rattle.model.specs.declared.Part.{Part}
-use Rattle.model.specs.declared.EndLine.{EndLine}
-use Rattle.model.specs.declared.EndLine.TheVariants as El
-use Rattle.model.specs.declared.Checksum.{Checksum}
-use Rattle.model.specs.declared.Checksum.TheVariants.{Given, Absent}
 use Rattle.model.specs.Bytes.{Bytes}
 use Rattle.model.specs.Report.{Extent, extent_at, Function, function_of, Item, section_item, function_item, branch_item, line_item}
 
@@ -59,13 +55,13 @@ extent_in zero (suc start) = some (extent_at start none)
 extent_in (suc k) both = some (extent_at (both % line_numbers) (some (both / line_numbers)))
 
 -- the tag and the word of an FN
-abbrev pub extent_tag : EndLine → ℕ
-extent_tag (El.Given line) = 3
-extent_tag El.Absent = 2
+abbrev pub extent_tag : LentOption ℕ → ℕ
+extent_tag (Some line) = 3
+extent_tag None = 2
 
-abbrev pub extent_word : ℕ → EndLine → ℕ
-extent_word start (El.Given line) = start + line * line_numbers
-extent_word start El.Absent = start + 1
+abbrev pub extent_word : ℕ → LentOption ℕ → ℕ
+extent_word start (Some line) = start + line * line_numbers
+extent_word start None = start + 1
 
 -- functions without a start line come first
 abbrev pub start_key : Option Extent → ℕ
@@ -104,13 +100,13 @@ part_in text p = part text p.start p.len
 abbrev pub PartInside : Bytes → Part → Type 0
 PartInside text p = p.start + p.len ≤ length text
 
-abbrev pub checksum_part : Bytes → Checksum → Option Bytes
-checksum_part text (Given p) = some (part_in text p)
-checksum_part text Absent = none
+abbrev pub checksum_part : Bytes → LentOption Part → Option Bytes
+checksum_part text (Some p) = some (part_in text p)
+checksum_part text None = none
 
-abbrev pub ChecksumInside : Bytes → Checksum → Type 0
-ChecksumInside text (Given p) = PartInside text p
-ChecksumInside text Absent = Unit {0}
+abbrev pub ChecksumInside : Bytes → LentOption Part → Type 0
+ChecksumInside text (Some p) = PartInside text p
+ChecksumInside text None = Unit {0}
 
 -- a row with no test name and path yet
 abbrev pub item_row : ℕ → ℕ → ℕ → ℕ → ℕ → Row

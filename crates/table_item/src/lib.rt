@@ -10,15 +10,15 @@ ghost use Rattle.ordmap.specs.Compare.{lex};
 ghost use Rattle.model.specs.Order.{is_less};
 ghost use Rattle.model.specs.Bytes.{compare_bytes};
 ghost use Rattle.model.specs.Report.{extent_at, function_of, function_item, branch_item, line_item, extent_of, end_of, compare_items};
-ghost use Rattle.model.specs.Parts.{end_in, taken_in};
+ghost use Rattle.model.specs.Parts.{given_in};
 ghost use Rattle.compare.specs.Orders.{order_of};
 ghost use Rattle.table.specs.Places.{PartitionPoint};
 ghost use Rattle.table_item.specs.Items.{part, extent_tag, extent_word, start_key, item_of, ItemInBounds, ItemRow, part_in, PartInside, checksum_part, ChecksumInside, item_row, Makes};
 ghost use Rattle.table_item.specs.SortedItems.{item_from, SortedItems, FoundPlace};
 ghost use Rattle.table_item.specs.Combining.{Adds, combine_of, seen_one, InnerOne, is_calls};
 
-use compare::Order;
-use model::{Checksum, EndLine, Part, Taken};
+use model::Part;
+use std::cmp::Ordering;
 use table::Row;
 
 // The kinds of a row; a section's header row is the first. The tag is twice the kind, plus one where the end line,
@@ -39,28 +39,28 @@ pub const TOMBSTONE: u64 = 1;
 const LINE_NUMBERS: u64 = 4294967296;
 
 // The tag of a function that FN names: whether an end line is given.
-fn extent_tag(end: EndLine) -> u64
+fn extent_tag(end: Option<u32>) -> u64
     ensures { result ≡ extent_tag end }
 {
     match end {
-        EndLine::Given(_line) => FUNCTION * 2 + 1,
-        EndLine::Absent => FUNCTION * 2,
+        Some(_line) => FUNCTION * 2 + 1,
+        None => FUNCTION * 2,
     }
 }
 
 // Start and end line as one word. The tag says which of the two forms it has.
-fn extent_word(start: u32, end: EndLine) -> u64
+fn extent_word(start: u32, end: Option<u32>) -> u64
     ensures { result ≡ extent_word start end }
 {
     match end {
-        EndLine::Given(line) => start as u64 + line as u64 * LINE_NUMBERS,
-        EndLine::Absent => start as u64 + 1,
+        Some(line) => start as u64 + line as u64 * LINE_NUMBERS,
+        None => start as u64 + 1,
     }
 }
 
 // "FN:10,main", "FN:10,12,main"
-pub fn start_row(name: Part, start: u32, end: EndLine) -> Row
-    ensures { Makes result (λ text. function_item (function_of (part_in text name) (some (extent_at start (end_in end))) 0)) (λ text. PartInside text name) }
+pub fn start_row(name: Part, start: u32, end: Option<u32>) -> Row
+    ensures { Makes result (λ text. function_item (function_of (part_in text name) (some (extent_at start (given_in end))) 0)) (λ text. PartInside text name) }
 {
     item_row(
         extent_tag(end),
@@ -85,13 +85,13 @@ pub fn start_key(row: Row) -> u64
 }
 
 // The line where FN says that a function ends.
-pub fn end_line(row: Row) -> EndLine
-    ensures { (text : List ℕ) → end_in result ≡ end_of (item_of text row) }
+pub fn end_line(row: Row) -> Option<u32>
+    ensures { (text : List ℕ) → given_in result ≡ end_of (item_of text row) }
 {
     if row.tag != FUNCTION * 2 + 1 {
-        return EndLine::Absent;
+        return None;
     }
-    EndLine::Given((row.k3 / LINE_NUMBERS) as u32)
+    Some((row.k3 / LINE_NUMBERS) as u32)
 }
 
 // "FNDA:1,main"
@@ -112,34 +112,34 @@ pub fn is_calls(row: Row) -> bool
 }
 
 // "BRDA:10,0,1,5"
-pub fn branch_row(line: u32, block: u32, branch: u32, taken: Taken) -> Row
-    ensures { Makes result (λ text. branch_item line block branch (taken_in taken)) (λ text. Unit {0}) }
+pub fn branch_row(line: u32, block: u32, branch: u32, taken: Option<u64>) -> Row
+    ensures { Makes result (λ text. branch_item line block branch (given_in taken)) (λ text. Unit {0}) }
 {
     match taken {
-        Taken::Given(count) => item_row(
+        Some(count) => item_row(
             BRANCH * 2 + 1,
             line as u64,
             block as u64,
             branch as u64,
             count,
         ),
-        Taken::Absent => item_row(BRANCH * 2, line as u64, block as u64, branch as u64, 0),
+        None => item_row(BRANCH * 2, line as u64, block as u64, branch as u64, 0),
     }
 }
 
 // "DA:10,5,1B2M2Y8A"
-pub fn line_row(line: u32, count: u64, checksum: Checksum) -> Row
+pub fn line_row(line: u32, count: u64, checksum: Option<Part>) -> Row
     ensures { Makes result (λ text. line_item line count (checksum_part text checksum)) (λ text. ChecksumInside text checksum) }
 {
     match checksum {
-        Checksum::Given(part) => item_row(
+        Some(part) => item_row(
             LINE * 2 + 1,
             line as u64,
             part.start as u64,
             part.len as u64,
             count,
         ),
-        Checksum::Absent => item_row(LINE * 2, line as u64, 0, 0, count),
+        None => item_row(LINE * 2, line as u64, 0, 0, count),
     }
 }
 
@@ -148,27 +148,22 @@ fn item_row(tag: u64, k1: u64, k2: u64, k3: u64, count: u64) -> Row
     ensures { result ≡ item_row tag k1 k2 k3 count }
 {
     Row {
-        test: 0,
-        test_len: 0,
-        path: 0,
-        path_len: 0,
-        tag: tag,
-        k1: k1,
-        k2: k2,
-        k3: k3,
-        count: count,
+        tag,
+        k1,
+        k2,
+        k3,
+        count,
+        ..Row::default()
     }
 }
 
 // Compares two parts of the text by bytes. Equal parts at one offset are not read.
-pub fn compare_parts(text: &[u8], a: u64, n: u64, b: u64, m: u64) -> Order
+pub fn compare_parts(text: &[u8], a: u64, n: u64, b: u64, m: u64) -> Ordering
     requires { (a + n ≤ length text.now) × (b + m ≤ length text.now) }
     ensures { order_of result ≡ compare_bytes (part text.now a n) (part text.now b m) }
 {
-    if a == b {
-        if n == m {
-            return Order::Equal;
-        }
+    if a == b && n == m {
+        return Ordering::Equal;
     }
     let p = a as usize;
     let q = b as usize;
@@ -176,32 +171,29 @@ pub fn compare_parts(text: &[u8], a: u64, n: u64, b: u64, m: u64) -> Order
 }
 
 // By kind, then functions by name, branches by line, block and branch, lines by number.
-pub fn compare_items(text: &[u8], x: Row, y: Row) -> Order
+pub fn compare_items(text: &[u8], x: Row, y: Row) -> Ordering
     requires { ItemInBounds text.now x × ItemInBounds text.now y }
     ensures { order_of result ≡ compare_items (item_of text.now x) (item_of text.now y) }
 {
     let kind = x.tag / 2;
     let other = y.tag / 2;
     if kind < other {
-        return Order::Less;
+        return Ordering::Less;
     }
     if other < kind {
-        return Order::Greater;
+        return Ordering::Greater;
     }
     if kind == FUNCTION {
         return compare_parts(text, x.k1, x.k2, y.k1, y.k2);
     }
     if kind == BRANCH {
-        let last = compare::then_by(
-            compare::compare_numbers(x.k2, y.k2),
-            compare::compare_numbers(x.k3, y.k3),
-        );
-        return compare::then_by(compare::compare_numbers(x.k1, y.k1), last);
+        let last = x.k2.cmp(&y.k2).then(x.k3.cmp(&y.k3));
+        return x.k1.cmp(&y.k1).then(last);
     }
     if kind == LINE {
-        return compare::compare_numbers(x.k1, y.k1);
+        return x.k1.cmp(&y.k1);
     }
-    Order::Equal
+    Ordering::Equal
 }
 
 // Whether x comes before y, both being branches.
@@ -222,17 +214,13 @@ pub fn comes_before(text: &[u8], x: Row, y: Row) -> bool
     requires { ItemInBounds text.now x × ItemInBounds text.now y }
     ensures { result ≡ is_less (compare_items (item_of text.now x) (item_of text.now y)) }
 {
-    if x.tag / 2 == LINE {
-        if y.tag / 2 == LINE {
-            return x.k1 < y.k1;
-        }
+    if x.tag / 2 == LINE && y.tag / 2 == LINE {
+        return x.k1 < y.k1;
     }
-    if x.tag / 2 == BRANCH {
-        if y.tag / 2 == BRANCH {
-            return branch_before(x, y);
-        }
+    if x.tag / 2 == BRANCH && y.tag / 2 == BRANCH {
+        return branch_before(x, y);
     }
-    compare::is_less(compare_items(text, x, y))
+    compare_items(text, x, y).is_lt()
 }
 
 // Binary search: how many of the n items from position `at` on come before the key.
@@ -250,6 +238,7 @@ fn lower_bound_item(
 {
     let mut lo = 0;
     let mut hi = n;
+    // A `while`: it halves a range, and counts nothing.
     while lo < hi {
         let mid = lo + (hi - lo) / 2;
         let other = table::get(words, index, used, at + mid);
@@ -260,13 +249,6 @@ fn lower_bound_item(
         }
     }
     lo
-}
-
-// The position of a key, or its insert position.
-#[derive(Clone, Copy)]
-pub enum Found {
-    At(usize),
-    Insert(usize),
 }
 
 // Whether the i-th of the n items from place `at` on has the key.
@@ -287,11 +269,11 @@ fn has_key(
         return false;
     }
     let here = table::get(words, index, used, at + i);
-    compare::is_equal(compare_items(text, key, here))
+    compare_items(text, key, here).is_eq()
 }
 
-// The key's place among the n items from place `at` on. Position `hint` is tried first. Most texts are sorted, so that the key comes after
-// the last or is the last: tried next.
+// The key's place among the n items from place `at` on: its position, or as an error its insert position. Position `hint` is tried first.
+// Most texts are sorted, so that the key comes after the last or is the last: tried next.
 pub fn find_item(
     text: &[u8],
     words: &[u64],
@@ -301,56 +283,44 @@ pub fn find_item(
     n: usize,
     hint: usize,
     key: Row,
-) -> Found
+) -> Result<usize, usize>
     requires { SortedItems text.now words.now index used at n × ItemInBounds text.now key }
     ensures { FoundPlace text.now words.now index at n (item_of text.now key) result }
 {
     if has_key(text, words, index, used, at, n, hint, key) {
-        return Found::At(hint);
+        return Ok(hint);
     }
     if n == 0 {
-        return Found::Insert(0);
+        return Err(0);
     }
     let last = table::get(words, index, used, at + (n - 1));
     if comes_before(text, last, key) {
-        return Found::Insert(n);
+        return Err(n);
     }
-    if compare::is_equal(compare_items(text, key, last)) {
-        return Found::At(n - 1);
+    if compare_items(text, key, last).is_eq() {
+        return Ok(n - 1);
     }
     let i = lower_bound_item(text, words, index, used, at, n - 1, key);
     let here = table::get(words, index, used, at + i);
-    if compare::is_equal(compare_items(text, key, here)) {
-        return Found::At(i);
+    if compare_items(text, key, here).is_eq() {
+        return Ok(i);
     }
-    Found::Insert(i)
+    Err(i)
 }
 
-// What two rows of one key make, or that their counts do not add.
-#[derive(Clone, Copy)]
-pub enum Combined {
-    One(Row),
-    Overflow,
-}
-
-// FNDA adds to a function's count; any other row takes the place of the earlier one.
-pub fn combine(old: Row, row: Row, accumulate: bool) -> Combined
+// What two rows of one key make, none where their counts do not add: FNDA adds to a function's count, any other row takes the place of the
+// earlier one.
+pub fn combine(old: Row, row: Row, accumulate: bool) -> Option<Row>
     requires { Adds accumulate row }
     ensures item { (text : List ℕ) → seen_one text result ≡ combine_of accumulate (item_of text old) (item_of text row) }
     ensures inner { (text : List ℕ) → ItemRow text old → ItemRow text row → InnerOne text result }
 {
     if !accumulate {
-        return Combined::One(row);
+        return Some(row);
     }
     if old.tag / 2 != FUNCTION {
-        return Combined::One(row);
+        return Some(row);
     }
-    let a = old.count;
-    let b = row.count;
-    if u64::MAX - a < b {
-        return Combined::Overflow;
-    }
-    let mut both = old;
-    both.count = a + b;
-    Combined::One(both)
+    let count = old.count.checked_add(row.count)?;
+    Some(Row { count, ..old })
 }

@@ -1,14 +1,13 @@
 -- A section's header row, and rows that get a test name and a path. Assumes nothing.
 use mathlib.Core.Path.{◌≡◌, refl, sym, ap, ◌∙◌}
 use mathlib.Core.Logic.{◌≢◌}
-use mathlib.Core.List.{List, [], ◌∷◌}
+use mathlib.Core.List.{[], ◌∷◌}
 use mathlib.Core.Option.{Option}
 use Prim.Native.Nat.{ℕ, zero, suc, ◌+◌, ◌-◌, ◌≤◌, ◌<◌}
 use native.Mathlib.Nat.{add-zero}
 use native.Mathlib.Omega.{arith}
 use Rattle.table.specs.declared.Row.{Row}
-use Rattle.table.specs.Places.{tabulate, Updated}
-use Rattle.table.specs.Store.{row, Store}
+use Rattle.table.specs.Places.{tabulate}
 use Rattle.table.proofs.PlaceLaws.{by-eq, by-lt}
 use Rattle.model.specs.Bytes.{Bytes}
 use Rattle.model.specs.Path.{Path, components}
@@ -17,34 +16,10 @@ use Rattle.model.specs.Reading.{spelling_of}
 use Rattle.model.proofs.KeyOrder.{sections-order}
 use Rattle.table_item.specs.Items.{kind_of, tombstone_tag, by_kind, item_of, ItemInBounds}
 use Rattle.table_section.specs.Sections.{test_of, path_of, entry_of, key_of, NamesInBounds, RowInBounds, Ordered, IsEqualRange}
-use Rattle.table_section.specs.Splice.{with_section, SectionSet, with_path, HeaderRow}
+use Rattle.table_section.specs.Splice.{with_section, with_path, HeaderRow}
 use Rattle.table_section.proofs.RangeLaws.{range_in}
 
 -- ---- rows that get a test name and a path
-
-pub set-none : (ws : List ℕ) (index used from : ℕ) (key : Row) → Store ws index used → SectionSet ws ws index used from 0 key
-set-none ws index used from key σ = record {
-  store = σ;
-  there = λ k l h. absurd (omega arith);
-  below = λ k l h. refl;
-  above = λ k l h. refl;
-}
-
-pub set-one : {ws₀ ws ws' : List ℕ} {index used from i : ℕ} {key r : Row} → SectionSet ws₀ ws index used from i key → from + i < used
-    → r ≡ with_section (row ws index (from + i)) key → Store ws' index used → Updated (row ws index) (row ws' index) used (from + i) r
-    → SectionSet ws₀ ws' index used from (i + 1) key
-set-one {ws₀} {ws} {ws'} {index} {used} {from} {i} {key} {r} φ l e σ π = record {
-  store = σ;
-  there = λ k p q. by-eq k (from + i)
-      (λ x. rw x (π.there ∙ e ∙ ap (λ (y : Row). with_section y key) (φ.above (from + i) (omega arith) l)))
-      (λ x. π.others k (omega arith) x ∙ φ.there k p (omega arith));
-  below = λ k p q. π.others k (omega arith) (omega arith) ∙ φ.below k p q;
-  above = λ k p q. π.others k q (omega arith) ∙ φ.above k (omega arith) q;
-}
-
-pub set_done : {ws₀ ws : List ℕ} {index used from i n : ℕ} {key : Row} → SectionSet ws₀ ws index used from i key → i ≡ n
-    → SectionSet ws₀ ws index used from n key
-set_done φ e = rw e at φ
 
 kind-kept : (kind : ℕ) → kind ≢ 0 → (p p' : Bytes) (b c d : Item) → by_kind kind (section_item p) b c d ≡ by_kind kind (section_item p') b c d
 kind-kept zero h p p' b c d = absurd (h refl)
@@ -103,20 +78,6 @@ range_cons text f lo hi h =
 
 abbrev tag_of : Row → ℕ
 tag_of r = r.tag
-
-module _ {first key : Row} {lo hi : ℕ} where
-  pub header-new : hi ≤ lo → HeaderRow first lo hi key key
-  header-new h = record { new = λ l. refl; spelled = λ l. absurd (omega arith); other = λ l. absurd (omega arith) }
-
-  pub header-other : {r : Row} → r ≡ first → r.tag ≢ 0 → HeaderRow first lo hi key key
-  header-other e h = record { new = λ l. refl; spelled = λ l q. absurd (h (ap tag_of e ∙ q)); other = λ l q. refl }
-
-  pub header-spelled : {r : Row} → r ≡ first → r.tag ≡ 0 → lo < hi → HeaderRow first lo hi key (with_path key r)
-  header-spelled e h l = record {
-    new = λ g. absurd (omega arith);
-    spelled = λ g q. ap (with_path key) e;
-    other = λ g q. absurd (q (ap tag_of (sym e) ∙ h));
-  }
 
 -- the header row keeps the key's insert position
 pub header-place : {first key r : Row} {lo hi : ℕ} → HeaderRow first lo hi key r → r.k1 ≡ key.k1

@@ -128,9 +128,6 @@ partition_found test (suc n) falls = go (test n) refl (partition_found test n (�
       },
     )
 
-pub range_none : {text : Bytes} {f : ℕ → Row} {n : ℕ} {key : SectionKey} → n ≡ 0 → IsEqualRange text f n key 0 0
-range_none z = record { low = partition_none z; high = partition_none z }
-
 -- the key comes after the last entry
 pub range_last : {text : Bytes} {f : ℕ → Row} {n : ℕ} {key : SectionKey} → Ordered text f n → n ≢ 0 → PastRow false text f key (n - 1) ≡ true
     → IsEqualRange text f n key n n
@@ -145,9 +142,6 @@ module _ {text ws : List ℕ} {index used at n : ℕ} {first : Row} (σ : Sectio
     (e : first ≡ row ws index at) where
   at_first : first ≡ rows_from ws index at 0
   at_first = e ∙ ap (row ws index) (let q : at ≡ at + 0 = omega arith in q)
-
-  pub first-named : NamesInBounds text first
-  first-named = named_as at_first (σ.rows.whole 0 (omega arith)).named
 
   -- the key comes before it
   pub range-first : {key : SectionKey} → true ≡ is_less (compare_sections key (key_of text first)) → IsEqualRange text (rows_from ws index at) n key 0 0
@@ -200,9 +194,3 @@ range_absent {text} {f} {n} key σ other = go (partition_found (PastRow false te
   where
     go : (lo : ℕ) × PartitionPoint (PastRow false text f key) n lo → (lo : ℕ) × IsEqualRange text f n key lo lo
     go (lo, c) = (lo, range-new σ c (other lo))
-
-pub is-equal : {b : Bool} (o : Ordering) → b ≡ compare_is_eq o → b ≡ true → o ≡ Ordering.eq
-is-equal o e f = is_eq o (sym e ∙ f)
-
-pub not_equal : {b : Bool} (o : Ordering) → b ≡ compare_is_eq o → b ≡ false → o ≢ Ordering.eq
-not_equal o e f q = let z : true ≡ false = ap compare_is_eq (sym q) ∙ sym e ∙ f in impossible cc

@@ -3,11 +3,9 @@ use mathlib.Core.Path.{◌≡◌, refl, ap, ap₂, ◌∙◌}
 use mathlib.Core.Logic.{◌≢◌}
 use mathlib.Core.Bool.{Bool, true, false}
 use mathlib.Core.List.{List, [], ◌∷◌, ◌++◌, map, append-nil}
-use Prim.Native.Nat.{ℕ, zero, suc, ◌<◌, Ordering}
-use native.Mathlib.Omega.{arith}
+use Prim.Native.Nat.{Ordering}
 use lib.Dec.{compare_is_eq}
 use lib.ListN.{length}
-use Rattle.table.specs.Places.{tabulate}
 use Rattle.model.specs.Order.{is_less, is_greater}
 use Rattle.std.specs.Prelude.{if◌then◌else◌}
 use Rattle.model.specs.Lists.{filter}

@@ -1,23 +1,21 @@
 -- A section put among others, as the model keeps it. Assumes nothing.
 use mathlib.Core.Path.{◌≡◌, sym, ap, ap₂, subst, ◌∙◌}
-use mathlib.Core.Logic.{◌≢◌}
 use mathlib.Core.List.{List, ◌∷◌, ◌++◌, map}
 use Prim.Native.Nat.{Ordering}
 use Prim.Native.Nat.{ℕ, suc, ◌+◌, ◌-◌, ◌≤◌, ◌<◌}
 use native.Mathlib.Omega.{arith}
 use Rattle.table.specs.declared.Row.{Row}
 use Rattle.table.specs.Places.{tabulate}
-use Rattle.table.proofs.TabulateLaws.{length-tabulate, tabulate_cong, tabulate_three, map-tabulate}
+use Rattle.table.proofs.TabulateLaws.{tabulate_cong, tabulate_three, map-tabulate}
 use Rattle.model.specs.Bytes.{Bytes}
 use Rattle.model.specs.Report.{Item, section_item, Entry, Report, SectionKey, in_section}
-use Rattle.model.specs.Reading.{spelling_of, keep_section, replace_section}
 use Rattle.table_item.specs.Items.{kind_of, item_of, ItemRow}
-use Rattle.table_section.specs.Sections.{test_of, path_of, entry_of, key_of, NamesInBounds, Ordered, IsEqualRange}
+use Rattle.table_section.specs.Sections.{entry_of, key_of, NamesInBounds, Ordered, IsEqualRange}
 use Rattle.table_section.specs.Splice.{with_section, Spliced}
 use Rattle.table_section.proofs.RangeLaws.{range-before, range_in, range-behind, range-ends}
 use Rattle.table_section.proofs.HeaderLaws.{item-kept, run_at, header-place, HeaderAs}
 use Rattle.table_item.proofs.AllLaws.{all-tabulate}
-use Rattle.table_section.proofs.ReplaceLaws.{Compared, replaced, keep_some}
+use Rattle.table_section.proofs.ReplaceLaws.{Compared}
 use Rattle.table_section.proofs.SpliceLaws.{spliced_each, spliced_keys, spliced_places, spliced_same, spliced_ordered}
 
 -- ---- the entries as three parts, by a key

@@ -1,56 +1,19 @@
 -- The positions of rows after a splice, and their order. Assumes nothing.
 use mathlib.Core.Path.{◌≡◌, sym, ap, ap₂, subst, ◌∙◌}
 use mathlib.Core.Logic.{◌≢◌}
-use mathlib.Core.List.{List}
 use Prim.Native.Nat.{ℕ, suc, ◌+◌, ◌-◌, ◌≤◌, ◌<◌, Ordering}
 use native.Mathlib.Omega.{arith}
 use Rattle.table.specs.declared.Row.{Row}
-use Rattle.table.specs.Places.{Unchanged, Updated, BlocksSwapped}
-use Rattle.table.specs.Store.{row}
-use Rattle.table.proofs.PlaceLaws.{by-eq, by-lt, moved_none, swapped}
+use Rattle.table.proofs.PlaceLaws.{by-eq, by-lt}
 use Rattle.ordmap.proofs.Results.{impossible}
 use Rattle.model.specs.Bytes.{Bytes}
 use Rattle.model.specs.Report.{SectionKey, section_key, compare_sections}
 use Rattle.model.proofs.KeyOrder.{sections-order}
 use Rattle.table_item.specs.Items.{kind_of, ItemRow}
-use Rattle.table_section.specs.Sections.{key_of, rows_from, NamesInBounds, RowInBounds, Ordered, IsEqualRange}
-use Rattle.table_section.specs.Splice.{with_section, SectionSet, HeaderRow, Spliced}
+use Rattle.table_section.specs.Sections.{key_of, NamesInBounds, RowInBounds, Ordered, IsEqualRange}
+use Rattle.table_section.specs.Splice.{with_section, Spliced}
 use Rattle.table_section.proofs.RangeLaws.{range-before, range_in, range-behind, range-ends}
 use Rattle.table_section.proofs.HeaderLaws.{whole-kept, HeaderAs}
-
--- the header row is put, the items get the section's names, and the blocks are swapped
-module _ (ws : List ℕ) {ws₁ ws₂ : List ℕ} {index used : ℕ} (at m : ℕ) {n lo hi : ℕ} {key header : Row} (a : lo ≤ hi) (b : hi ≤ m)
-    (c : at + m + 1 + n ≤ used)
-    (ω : HeaderRow (rows_from ws index at lo) lo hi key header) (π : Updated (row ws index) (row ws₁ index) used (at + m) header)
-    (φ : SectionSet ws₁ ws₂ index used (at + m + 1) n key) where
-  older : (k : ℕ) → k < at + m → row ws₂ index k ≡ row ws index k
-  older k l = φ.below k (omega arith) (omega arith) ∙ π.others k (omega arith) (omega arith)
-
-  module _ (ws₃ : List ℕ) (τ : BlocksSwapped (row ws₂ index) (row ws₃ index) used (at + lo) (at + hi) (at + m) (at + m + 1 + n)) where
-    pub spliced : Spliced (rows_from ws index at) (rows_from ws₃ index at) m m n lo hi key
-    spliced = record {
-      low = λ k p q. τ.below (at + k) (omega arith) (omega arith) ∙ older (at + k) (omega arith);
-      header = rw first ω;
-      items = λ k j p q e. τ.third (at + k) (at + j) (omega arith) (omega arith) (omega arith) ∙ φ.there (at + j) (omega arith) (omega arith)
-          ∙ ap (λ (r : Row). with_section r key) (π.others (at + j) (omega arith) (omega arith));
-      high = λ k j p q e. τ.second (at + k) (at + j) (omega arith) (omega arith) (omega arith) ∙ older (at + j) (omega arith);
-    }
-      where
-        first : row ws₃ index (at + lo) ≡ header
-        first = τ.third (at + lo) (at + m) (omega arith) (omega arith) (omega arith) ∙ φ.below (at + m) (omega arith) (omega arith) ∙ π.there
-
-    pub spliced_below : Unchanged (row ws index) (row ws₃ index) 0 at
-    spliced_below k p q = τ.below k p (omega arith) ∙ older k (omega arith)
-
-  -- the section stays where it is
-  stays : m ≤ lo → BlocksSwapped (row ws₂ index) (row ws₂ index) used (at + lo) (at + hi) (at + m) (at + m + 1 + n)
-  stays e = swapped (omega arith) (omega arith) (omega arith) c (moved_none (omega arith)) (moved_none (omega arith))
-
-  pub spliced_last : m ≤ lo → Spliced (rows_from ws index at) (rows_from ws₂ index at) m m n lo hi key
-  spliced_last e = spliced ws₂ (stays e)
-
-  pub spliced_last-below : m ≤ lo → Unchanged (row ws index) (row ws₂ index) 0 at
-  spliced_last-below e = spliced_below ws₂ (stays e)
 
 -- ---- the order
 

@@ -5,7 +5,7 @@
 #![tactic(auto)]
 
 ghost use Rattle.std.specs.Prelude.{◌≡◌, ◌≢◌, true, false, ◌+◌, ◌-◌, ◌≤◌, ◌<◌, length};
-ghost use Prim.Native.Nat.{Ordering};
+ghost use Prim.Native.Nat.{Ordering as Compared};
 ghost use Rattle.model.specs.Path.{components, compare_paths};
 ghost use Rattle.model.specs.Report.{compare_sections};
 ghost use Rattle.compare.specs.Orders.{order_of};
@@ -15,18 +15,16 @@ ghost use Rattle.table_item.specs.Items.{part};
 ghost use Rattle.table_section.specs.Sections.{key_of, NamesInBounds, rows_from, SectionsFrom, is_past, PastRow, IsEqualRange};
 ghost use Rattle.table_section.specs.Splice.{with_section, SectionSet, HeaderRow, Spliced};
 
-use compare::Order;
+use std::cmp::Ordering;
 use table::Row;
 
 // Compares two parts of the text as paths. Equal parts at one offset are not read.
-fn compare_path_parts(text: &[u8], a: u64, n: u64, b: u64, m: u64) -> Order
+fn compare_path_parts(text: &[u8], a: u64, n: u64, b: u64, m: u64) -> Ordering
     requires { (a + n ≤ length text.now) × (b + m ≤ length text.now) }
     ensures { order_of result ≡ compare_paths (components (part text.now a n)) (components (part text.now b m)) }
 {
-    if a == b {
-        if n == m {
-            return Order::Equal;
-        }
+    if a == b && n == m {
+        return Ordering::Equal;
     }
     let p = a as usize;
     let q = b as usize;
@@ -34,25 +32,25 @@ fn compare_path_parts(text: &[u8], a: u64, n: u64, b: u64, m: u64) -> Order
 }
 
 // Compares by test name, then by path.
-pub fn compare_sections(text: &[u8], x: Row, y: Row) -> Order
+pub fn compare_sections(text: &[u8], x: Row, y: Row) -> Ordering
     requires { NamesInBounds text.now x × NamesInBounds text.now y }
     ensures { order_of result ≡ compare_sections (key_of text.now x) (key_of text.now y) }
 {
     let tests = table_item::compare_parts(text, x.test, x.test_len, y.test, y.test_len);
-    if compare::is_equal(tests) {
+    if tests.is_eq() {
         return compare_path_parts(text, x.path, x.path_len, y.path, y.path_len);
     }
     tests
 }
 
 // A key is past an entry that is less, and past one that is equal if `equal`.
-fn is_past(order: Order, equal: bool) -> bool
+fn is_past(order: Ordering, equal: bool) -> bool
     ensures { result ≡ is_past equal (order_of order) }
 {
     match order {
-        Order::Less => false,
-        Order::Equal => equal,
-        Order::Greater => true,
+        Ordering::Less => false,
+        Ordering::Equal => equal,
+        Ordering::Greater => true,
     }
 }
 
@@ -76,6 +74,7 @@ fn partition_point(
 {
     let mut lo = from;
     let mut hi = to;
+    // A `while`: it halves a range, and counts nothing.
     while lo < hi {
         let mid = lo + (hi - lo) / 2;
         let other = table::get(words, index, used, at + mid);
@@ -106,6 +105,7 @@ fn upper_bound(
 {
     let mut lo = from;
     let mut step = 1;
+    // A `while`: its step doubles.
     while step <= n - lo {
         let last = lo + (step - 1);
         let other = table::get(words, index, used, at + last);
@@ -138,14 +138,14 @@ fn has_key(
     key: Row,
 ) -> bool
     requires { SectionsFrom text.now words.now index used at n × NamesInBounds text.now key }
-    ensures same { result ≡ true → (i < n) × (compare_sections (key_of text.now key) (key_of text.now (rows_from words.now index at i)) ≡ Ordering.eq) }
-    ensures other { result ≡ false → i < n → compare_sections (key_of text.now key) (key_of text.now (rows_from words.now index at i)) ≢ Ordering.eq }
+    ensures same { result ≡ true → (i < n) × (compare_sections (key_of text.now key) (key_of text.now (rows_from words.now index at i)) ≡ Compared.eq) }
+    ensures other { result ≡ false → i < n → compare_sections (key_of text.now key) (key_of text.now (rows_from words.now index at i)) ≢ Compared.eq }
 {
     if n <= i {
         return false;
     }
     let other = table::get(words, index, used, at + i);
-    compare::is_equal(compare_sections(text, key, other))
+    compare_sections(text, key, other).is_eq()
 }
 
 // The equal range of a key among the n entries from position `at` on. It tries the last entry first, since most texts have their
@@ -170,7 +170,7 @@ pub fn equal_range(
         return EqualRange { lo: n, hi: n };
     }
     let first = table::get(words, index, used, at);
-    if compare::is_less(compare_sections(text, key, first)) {
+    if compare_sections(text, key, first).is_lt() {
         return EqualRange { lo: 0, hi: 0 };
     }
     let lo = partition_point(text, words, index, used, at, n, 0, n, key, false);
@@ -178,7 +178,7 @@ pub fn equal_range(
         // rows of one section have their names at the same offsets, so they are recognised without reading the names
         let same = table::get(words, index, used, at + lo);
         let hi = upper_bound(text, words, index, used, at, n, lo + 1, same);
-        return EqualRange { lo: lo, hi: hi };
+        return EqualRange { lo, hi };
     }
     EqualRange { lo: lo, hi: lo }
 }
@@ -187,12 +187,13 @@ pub fn equal_range(
 pub fn with_section(row: Row, key: Row) -> Row
     ensures { result ≡ with_section row key }
 {
-    let mut out = row;
-    out.test = key.test;
-    out.test_len = key.test_len;
-    out.path = key.path;
-    out.path_len = key.path_len;
-    out
+    Row {
+        test: key.test,
+        test_len: key.test_len,
+        path: key.path,
+        path_len: key.path_len,
+        ..row
+    }
 }
 
 // Gives the n rows from position `from` on the section's test name and path.
@@ -200,11 +201,9 @@ fn set_section(words: &mut [u64], index: usize, used: usize, from: usize, n: usi
     requires { Store words.old index used × (from + n ≤ used) }
     ensures { SectionSet words.old words.new index used from n key }
 {
-    let mut i = 0;
-    while i < n {
+    for i in 0..n {
         let old = table::get(words, index, used, from + i);
         table::put(words, index, used, from + i, with_section(old, key));
-        i += 1;
     }
 }
 
@@ -232,10 +231,11 @@ pub fn header_row(
     if first.tag != HEADER_TAG {
         return key;
     }
-    let mut header = key;
-    header.path = first.path;
-    header.path_len = first.path_len;
-    header
+    Row {
+        path: first.path,
+        path_len: first.path_len,
+        ..key
+    }
 }
 
 // Splices the open section, whose header row and n items follow the m entries from position `at` on, into these, in
@@ -251,7 +251,7 @@ pub fn splice(
     n: usize,
     key: Row,
 ) -> usize
-    requires store_2 { Store words.old index used × (range.lo ≤ range.hi) × (range.hi ≤ m) × (at + m + 1 + n ≤ used) }
+    requires store { Store words.old index used × (range.lo ≤ range.hi) × (range.hi ≤ m) × (at + m + 1 + n ≤ used) }
     requires used_bound { (index + used ≤ spare) × (spare + used ≤ length words.old) }
     ensures store { Store words.new index used }
     ensures rows { Spliced (rows_from words.old index at) (rows_from words.new index at) m m n range.lo range.hi key }

@@ -1,5 +1,5 @@
 -- The loop of `mark_deleted`: the rows from lo up to i were live and are now deleted. Assumes nothing.
-use mathlib.Core.Path.{◌≡◌, refl, sym, ap, ◌∙◌}
+use mathlib.Core.Path.{◌≡◌, sym, ap, ◌∙◌}
 use mathlib.Core.Logic.{◌≢◌}
 use mathlib.Core.Bool.{true, false}
 use mathlib.Core.List.{List, ◌++◌, append-nil}
@@ -80,14 +80,6 @@ pub record Marking (f g : ℕ → Row) (used lo i : ℕ) : Type 0 where
   pub below : Unchanged f g 0 lo
   pub above : Unchanged f g i used
 
-pub marking_none : (f : ℕ → Row) (used lo : ℕ) → Marking f f used lo lo
-marking_none f used lo = record {
-  lived = λ k l h. absurd (omega arith);
-  there = λ k l h. absurd (omega arith);
-  below = λ k l h. refl;
-  above = λ k l h. refl;
-}
-
 module _ {f g : ℕ → Row} {used lo i : ℕ} (β : Marking f g used lo i) (l : lo ≤ i) where
   -- one more live row
   pub marking_one : {h : ℕ → Row} → i < used → is_live (g i) ≡ true → Updated g h used i (deleted_row (g i)) → Marking f h used lo (i + 1)
@@ -138,5 +130,5 @@ module _ {f g : ℕ → Row} {used lo i : ℕ} (β : Marking f g used lo i) (l :
           (λ x. rw x here)
           (λ x. by-test (is_live (f k)) (λ t. let z : true ≡ false = sym (first i k l (omega arith) q t) ∙ here in cc) (λ t. t))
 
-  pub marked_all : {hi : ℕ} → i ≡ hi → hi ≤ used → MarkedDeleted f g used lo hi (i - lo)
-  marked_all m n = marked (omega arith) n (λ k p q. absurd (omega arith))
+  pub marked_all : {hi : ℕ} → i ≡ hi → hi ≤ used → MarkedDeleted f g used lo hi (hi - lo)
+  marked_all m n = rw (← m) (marked (omega arith) (omega arith) (λ k p q. absurd (omega arith)))

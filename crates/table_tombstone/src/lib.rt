@@ -15,52 +15,45 @@ fn count_live(tag: u64) -> usize
     ensures told { result ≡ one_for (not (eqb tag tombstone_tag)) }
     ensures most { result ≤ 1 }
 {
-    if tag == TOMBSTONE {
-        return 0;
-    }
-    1
+    usize::from(tag != TOMBSTONE)
 }
 
 // Marks the rows from position lo up to hi as deleted and answers how many of them were live. Live rows come before
 // deleted ones there, so the first deleted row ends the loop: each row is marked once, however often a range is marked.
 pub fn mark_deleted(words: &mut [u64], index: usize, used: usize, lo: usize, hi: usize) -> usize
-    requires store_2 { Store words.old index used × (lo ≤ hi) × (hi ≤ used) }
+    requires store { Store words.old index used × (lo ≤ hi) × (hi ≤ used) }
     requires by_index { (i j : ℕ) → lo ≤ i → i < j → j < hi → is_live (row words.old index j) ≡ true → is_live (row words.old index i) ≡ true }
     ensures store { Store words.new index used }
     ensures rows { MarkedDeleted (row words.old index) (row words.new index) used lo hi result }
 {
-    let mut i = lo;
-    while i < hi {
+    for i in lo..hi {
         let number = words[index + i] as usize;
         let at = number * ROW_WORDS + TAG_WORD;
         if words[at] == TOMBSTONE {
             return i - lo;
         }
         words[at] = TOMBSTONE;
-        i += 1;
     }
-    i - lo
+    hi - lo
 }
 
 // Moves the live ones of the first n rows to the front, in order, and the deleted ones behind them. Answers how many
 // are live. `spare` is the offset of n free words. Each row number is written to both destinations, and the next one
 // overwrites it in the wrong one: the position in front has been read already.
 pub fn compact(words: &mut [u64], index: usize, used: usize, n: usize, spare: usize) -> usize
-    requires store_2 { Store words.old index used × (n ≤ used) }
+    requires store { Store words.old index used × (n ≤ used) }
     requires used_bound { (index + used ≤ spare) × (spare + n ≤ length words.old) }
     ensures store { Store words.new index used }
     ensures rows { Compacted (row words.old index) (row words.new index) n result }
 {
     let mut living = 0;
-    let mut i = 0;
-    while i < n {
+    for i in 0..n {
         let number = words[index + i];
         let tag = words[(number as usize) * ROW_WORDS + TAG_WORD];
         words[spare + (i - living)] = number;
         words[index + living] = number;
         living += count_live(tag);
-        i += 1;
     }
-    table::copy_forward(words, spare, index + living, n - living);
+    table::copy_words(words, spare, index + living, n - living);
     living
 }

@@ -6,7 +6,7 @@
 ghost use Rattle.std.specs.Prelude.{◌+◌, ◌*◌, ◌≤◌, ◌≡◌, length};
 
 use line_num::Inserted;
-use model::{InsertAnswer, Range};
+use model::{Range, Refusal};
 
 const LIST: usize = line_num::LIST;
 
@@ -30,22 +30,17 @@ fn list_of(case: &[u8]) -> [Range; LIST]
     requires { length case.now ≡ 84 }
 {
     let mut list = [Range { start: 0, end: 0 }; LIST];
-    let mut k = 0;
-    while k < LIST {
+    for k in 0..LIST {
         let start = number(case, HEAD + 2 * k);
         let end = number(case, HEAD + 2 * k + 1);
         list[k] = Range { start, end };
-        k += 1;
     }
     list
 }
 
 fn show_list(list: [Range; LIST]) {
-    let mut k = 0;
-    while k < LIST {
-        let range = list[k];
+    for range in list {
         program_io::show_range(range.start, range.end);
-        k += 1;
     }
     io::write_all(1, b"\n");
 }
@@ -54,11 +49,11 @@ fn show_inserted(inserted: Inserted) {
     let answer = inserted.answer;
     let list = inserted.list;
     match answer {
-        InsertAnswer::Used(n) => {
+        Ok(n) => {
             program_io::show_number(n as u64);
             show_list(list);
         }
-        InsertAnswer::Refused(refusal) => program_io::show_refusal(refusal),
+        Err(refusal) => program_io::show_refusal(refusal),
     }
 }
 
@@ -79,13 +74,10 @@ fn show(case: &[u8])
 
 fn main() {
     let mut case = [0u8; CASE];
-    let mut k = 0;
-    while k < MAX_CASES {
-        let n = io::read_full(0, &mut case);
-        if n < CASE {
+    for _ in 0..MAX_CASES {
+        if io::read_full(0, &mut case) < CASE {
             return;
         }
         show(&case);
-        k += 1;
     }
 }

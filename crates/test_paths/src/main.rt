@@ -2,13 +2,13 @@
 // paragraph on paths distinguishes or not.
 #![tactic(auto)]
 
-use compare::Order;
+use std::cmp::Ordering;
 
-fn sign(order: Order) -> u8 {
+fn sign(order: Ordering) -> u8 {
     match order {
-        Order::Less => b'<',
-        Order::Equal => b'=',
-        Order::Greater => b'>',
+        Ordering::Less => b'<',
+        Ordering::Equal => b'=',
+        Ordering::Greater => b'>',
     }
 }
 

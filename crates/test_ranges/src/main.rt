@@ -2,15 +2,12 @@
 // gives: 15, 17 and 18.
 #![tactic(auto)]
 
-use model::{InsertAnswer, Part, Record, WriteAnswer};
+use model::{Part, Record, Refusal};
 
 // All pairs of the slice, those past the used ones too.
 fn show_pairs(pairs: &[[u32; 2]]) {
-    let n = pairs.len();
-    let mut k = 0;
-    while k < n {
-        program_io::show_range(pairs[k][0], pairs[k][1]);
-        k += 1;
+    for pair in pairs {
+        program_io::show_range(pair[0], pair[1]);
     }
     io::write_all(1, b"\n");
 }
@@ -18,12 +15,12 @@ fn show_pairs(pairs: &[[u32; 2]]) {
 // Answers the number of pairs used afterwards.
 fn insert(pairs: &mut [[u32; 2]], used: usize, start: u32, end: u32) -> usize {
     match line_num_pairs::insert(pairs, used, start, end) {
-        InsertAnswer::Used(n) => {
+        Ok(n) => {
             program_io::show_number(n as u64);
             show_pairs(pairs);
             n
         }
-        InsertAnswer::Refused(refusal) => {
+        Err(refusal) => {
             program_io::show_refusal(refusal);
             used
         }
@@ -56,10 +53,10 @@ fn case_j() {
     query(&none, used, 5, 5);
 }
 
-fn show_written(answer: WriteAnswer, out: &[u8]) {
+fn show_written(answer: Result<usize, Refusal>, out: &[u8]) {
     match answer {
-        WriteAnswer::Written(n) => program_io::write_first(out, n),
-        WriteAnswer::Refused(refusal) => program_io::show_refusal(refusal),
+        Ok(n) => program_io::write_first(out, n),
+        Err(refusal) => program_io::show_refusal(refusal),
     }
 }
 

@@ -6,7 +6,7 @@
 ghost use Rattle.std.specs.Prelude.{◌≡◌, ◌*◌, min};
 ghost use Rattle.model.specs.Limits.{words_per_entry, program_words};
 
-use model::WriteAnswer;
+use model::Refusal;
 
 const MAX_INPUT: usize = 131072;
 
@@ -19,10 +19,9 @@ const MAX_OUTPUT: usize = lcov::PROGRAM_OUTPUT;
 fn words_for(entries: usize) -> usize
     ensures { result ≡ min (entries * words_per_entry) program_words }
 {
-    if SCRATCH_WORDS / lcov::WORDS_PER_ENTRY < entries {
-        return SCRATCH_WORDS;
-    }
-    entries * lcov::WORDS_PER_ENTRY
+    entries
+        .saturating_mul(lcov::WORDS_PER_ENTRY)
+        .min(SCRATCH_WORDS)
 }
 
 fn show(text: &[u8], entries: usize) {
@@ -30,13 +29,14 @@ fn show(text: &[u8], entries: usize) {
     let mut out = [0u8; MAX_OUTPUT];
     let words = words_for(entries);
     match lcov::read_text(text, &mut scratch[..words], &mut out) {
-        WriteAnswer::Written(n) => program_io::write_first(&out, n),
-        WriteAnswer::Refused(refusal) => program_io::show_refusal(refusal),
+        Ok(n) => program_io::write_first(&out, n),
+        Err(refusal) => program_io::show_refusal(refusal),
     }
 }
 
 fn show_all(input: &[u8]) {
     let mut at = 0;
+    // by cases
     while 4 <= input.len() - at {
         let entries = program_io::u16_at(input, at);
         let end = program_io::case_end(input, at + 2);

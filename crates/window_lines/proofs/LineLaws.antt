@@ -17,12 +17,10 @@ use Rattle.ordmap.proofs.Members.{flat_append}
 use Rattle.model.specs.declared.Fault.TheVariants.{MalformedBundle, WidthOutside}
 use Rattle.model.specs.declared.Kind.{Kind}
 use Rattle.model.specs.declared.Refusal.{Refusal}
-use Rattle.model.specs.declared.WriteAnswer.{WriteAnswer}
-use Rattle.model.specs.declared.WriteAnswer.TheVariants as W
 use Rattle.model.specs.Bytes.{Bytes, slash, newline}
 use Rattle.model.specs.Limits.{max_texts}
 use Rattle.model.specs.Answer.{Answer, accepted, refused, refuse_length, unplaced}
-use Rattle.model.specs.Calls.{write_answer, WriteCall}
+use Rattle.model.specs.Calls.{length_answer, WriteCall}
 use Rattle.model.proofs.CallLaws.{write_called}
 use Rattle.model.specs.Number.{decimal}
 use Rattle.model.specs.Output.{written, output_after}
@@ -35,7 +33,7 @@ use Rattle.format.specs.Put.{put_len, over, pair}
 use Rattle.format.proofs.DecimalLaws.{decimal-most}
 use Rattle.format.proofs.OverLaws.{to_end, over-more, over_size, lent_size, last_out, put_over, put_len_lem}
 use Rattle.joined_table.proofs.BundleLaws.{few-texts}
-use Rattle.std.specs.Prelude.{Result as Answered, Ok, Err}
+use Rattle.std.specs.Prelude.{Result, Ok, Err}
 use Rattle.window_lines.specs.Lines.{max_line, ratio_line, line_of, LinesPut}
 use Rattle.window_lines.proofs.WindowLaws.{at_least, at_most}
 
@@ -117,7 +115,7 @@ module _ (tag : Kind → Bytes) (bundle : Bytes) (w words : ℕ) (old : Bytes) w
       line-room = rw (to_end out at, length-drop) (omega (arith, same_size, p.ends, p.small, few))
 
       -- the window of the next text, counted in as many words
-      module _ (words' : ℕ) (same : words' ≡ words) (q : Answered Ratio Refusal) (counted : line_of q ≡ window_line tag (entry_limit words') (window_texts w bundle i)) where
+      module _ (words' : ℕ) (same : words' ≡ words) (q : Result Ratio Refusal) (counted : line_of q ≡ window_line tag (entry_limit words') (window_texts w bundle i)) where
         line_is : line_of q ≡ window_line tag (entry_limit words) (window_texts w bundle i)
         line_is = rw same at counted
 
@@ -151,7 +149,7 @@ module _ (tag : Kind → Bytes) (bundle : Bytes) (w words : ℕ) (old : Bytes) w
                 last = rw (get_or_at p.lines (ratio_line ratio) [] [] i p.many) (sym (rw e at line_is))
 
         -- it is refused
-        pub putting_refused : is_width w ≡ true → (r : Refusal) → q ≡ Err r → LinesPut (gather_windows tag bundle w words) out (W.Refused r)
+        pub putting_refused : is_width w ≡ true → (r : Refusal) → q ≡ Err r → LinesPut (gather_windows tag bundle w words) out (Err r)
         putting_refused width r e =
             record {
               is = λ room. window_refused tag bundle w words room i r well (at_least w width) (at_most w width) (omega arith) accepted-before (sym (rw e at line_is));
@@ -162,7 +160,7 @@ module _ (tag : Kind → Bytes) (bundle : Bytes) (w words : ℕ) (old : Bytes) w
             accepted-before j l = rw (p.each j l) tt
 
     -- no text is left
-    pub putting_done : is_width w ≡ true → i ≤ n → n ≤ i → LinesPut (gather_windows tag bundle w words) out (W.Written at)
+    pub putting_done : is_width w ≡ true → i ≤ n → n ≤ i → LinesPut (gather_windows tag bundle w words) out (Ok at)
     unfolding output_after
     putting_done width most all =
         record {
@@ -175,34 +173,34 @@ module _ (tag : Kind → Bytes) (bundle : Bytes) (w words : ℕ) (old : Bytes) w
 
 -- ---- the call
 
-pub bytes-short : (bytes out : Bytes) → length out < length bytes → (r : WriteAnswer) → r ≡ write_answer (refuse_length (length bytes)) → WriteCall (written (length out) bytes) out out r
+pub bytes-short : (bytes out : Bytes) → length out < length bytes → (r : Result ℕ Refusal) → r ≡ length_answer (refuse_length (length bytes)) → WriteCall (written (length out) bytes) out out r
 unfolding written output_after
 bytes-short bytes out h r e =
     let short : leb (length bytes) (length out) ≡ false = lt-leb (length bytes) (length out) h in
     rw short (write_called (refuse_length (length bytes)) out out r e refl)
 
 pub bytes-written : (bytes out : Bytes) → length bytes ≤ length out → (len : ℕ) → len ≡ put_len (written (length out) bytes) → (out' : Bytes)
-    → out' ≡ output_after (written (length out) bytes) out → WriteCall (written (length out) bytes) out out' (W.Written len)
-unfolding written write_answer
+    → out' ≡ output_after (written (length out) bytes) out → WriteCall (written (length out) bytes) out out' (Ok len)
+unfolding written length_answer
 bytes-written bytes out h len e out' o =
     let fits : leb (length bytes) (length out) ≡ true = le-leb (length bytes) (length out) h in
-    rw fits (write_called (accepted bytes) out out' (W.Written len) (ap W.Written (rw fits at e)) (rw fits at o))
+    rw fits (write_called (accepted bytes) out out' (Ok len) (ap Ok (rw fits at e)) (rw fits at o))
 
-module _ (answer : ℕ → Answer Bytes) (lines : Bytes) (got : WriteAnswer) (p : LinesPut answer lines got) (out : Bytes) where
-  pub lines-refused : (r : Refusal) → got ≡ W.Refused r → WriteCall (answer (length out)) out out (W.Refused r)
-  unfolding write_answer output_after
+module _ (answer : ℕ → Answer Bytes) (lines : Bytes) (got : Result ℕ Refusal) (p : LinesPut answer lines got) (out : Bytes) where
+  pub lines-refused : (r : Refusal) → got ≡ Err r → WriteCall (answer (length out)) out out (Err r)
+  unfolding length_answer output_after
   lines-refused r e =
       let is : answer (length out) ≡ refused r = rw e at (p.is (length out)) in
-      rw is (write_called (refused r) out out (W.Refused r) refl refl)
+      rw is (write_called (refused r) out out (Err r) refl refl)
 
-  module _ (len : ℕ) (e : got ≡ W.Written len) where
+  module _ (len : ℕ) (e : got ≡ Ok len) where
     pub lines_within : len ≤ length lines
     lines_within = rw e at p.held
 
     pub lines-length : len ≡ length (take len lines)
     lines-length = rw length-take (omega (arith, lines_within))
 
-    pub lines_called : (out' : Bytes) (r : WriteAnswer) → WriteCall (written (length out) (take len lines)) out out' r → WriteCall (answer (length out)) out out' r
+    pub lines_called : (out' : Bytes) (r : Result ℕ Refusal) → WriteCall (written (length out) (take len lines)) out out' r → WriteCall (answer (length out)) out out' r
     lines_called out' r c =
         let is : answer (length out) ≡ written (length out) (take len lines) = rw e at (p.is (length out)) in
         rw is c
@@ -214,16 +212,16 @@ pub is_wide : (w : ℕ) (b : Bool) → b ≡ is_width w → b ≡ true → is_wi
 is_wide w b is h = sym is ∙ h
 
 module _ (tag : Kind → Bytes) (bundle : Bytes) (w words : ℕ) (out : Bytes) (b : Bool) (is : b ≡ well_formed bundle) where
-  pub no_bundle : b ≡ false → (q : Refusal) → q ≡ unplaced MalformedBundle → WriteCall (gather_windows tag bundle w words (length out)) out out (W.Refused q)
-  unfolding gather_windows write_answer output_after
+  pub no_bundle : b ≡ false → (q : Refusal) → q ≡ unplaced MalformedBundle → WriteCall (gather_windows tag bundle w words (length out)) out out (Err q)
+  unfolding gather_windows length_answer output_after
   no_bundle h q e =
       let ill : well_formed bundle ≡ false = sym is ∙ h in
-      rw (ill, e) (write_called (refused (unplaced MalformedBundle)) out out (W.Refused (unplaced MalformedBundle)) refl refl)
+      rw (ill, e) (write_called (refused (unplaced MalformedBundle)) out out (Err (unplaced MalformedBundle)) refl refl)
 
   pub no_width : b ≡ true → (d : Bool) → d ≡ is_width w → d ≡ false → (q : Refusal) → q ≡ unplaced WidthOutside
-      → WriteCall (gather_windows tag bundle w words (length out)) out out (W.Refused q)
-  unfolding gather_windows write_answer output_after
+      → WriteCall (gather_windows tag bundle w words (length out)) out out (Err q)
+  unfolding gather_windows length_answer output_after
   no_width h d at i q e =
       let well : well_formed bundle ≡ true = sym is ∙ h in
       let outside : is_width w ≡ false = sym at ∙ i in
-      rw (well, outside, e) (write_called (refused (unplaced WidthOutside)) out out (W.Refused (unplaced WidthOutside)) refl refl)
+      rw (well, outside, e) (write_called (refused (unplaced WidthOutside)) out out (Err (unplaced WidthOutside)) refl refl)

@@ -4,7 +4,6 @@
 
 ghost use Rattle.std.specs.Prelude.{◌≡◌, true, ◌+◌, ◌*◌, ◌≤◌, ◌<◌, length};
 ghost use Rattle.model.specs.Limits.{max_texts, max_width};
-ghost use Rattle.model.specs.TagTable.{tags_of, are_tags};
 ghost use Rattle.model.specs.Output.{written};
 ghost use Rattle.model.specs.Calls.{WriteCall};
 ghost use Rattle.model.specs.Bundle.{text_count, well_formed};
@@ -13,9 +12,11 @@ ghost use Rattle.bundle.specs.Marks.{MarkedAs};
 ghost use Rattle.format.specs.Put.{over};
 ghost use Rattle.text_choice.specs.Windows.{is_width, is_in_window, window_texts, window_line, gather_windows};
 ghost use Rattle.window_lines.specs.Lines.{max_line, ratio_line, line_of, LinesPut};
+ghost use Rattle.tag_table.specs.Tags.{tag_of};
 
-use model::{Fault, Mode, Refusal, WriteAnswer};
+use model::{Fault, Mode, Refusal};
 use model_totals::Ratio;
+use tag_table::Tags;
 
 const MAX_TEXTS: usize = bundle::MAX_TEXTS;
 
@@ -54,15 +55,14 @@ fn mark_window(marks: &mut [u8], n: usize, width: usize, i: usize)
 
 // The lines that are hit and found in a window: "the checked gather of that text and the up to w − 1 before it".
 fn count_window(
-    tags: &[u8],
+    tags: Tags,
     bundle: &[u8],
     width: usize,
     i: usize,
     scratch: &mut [u64],
 ) -> Result<Ratio, Refusal>
-    requires tags_value { are_tags tags.now ≡ true }
     requires bundle_value { (well_formed bundle.now ≡ true) × (width ≤ max_width) }
-    ensures { line_of result ≡ window_line (tags_of tags.now) (entry_limit (length scratch.old)) (window_texts width bundle.now i) }
+    ensures { line_of result ≡ window_line (tag_of tags.entry) (entry_limit (length scratch.old)) (window_texts width bundle.now i) }
 {
     let n = bundle::text_count(bundle);
     let mut marks = [0u8; MAX_TEXTS];
@@ -89,77 +89,68 @@ fn put_line(lines: Ratio, out: &mut [u8]) -> usize
 
 // The lines of all windows at the front of out, or the refusal of the first window that is refused.
 fn put_lines(
-    tags: &[u8],
+    tags: Tags,
     bundle: &[u8],
     width: usize,
     scratch: &mut [u64],
     out: &mut [u8],
-) -> WriteAnswer
-    requires tags_value { are_tags tags.now ≡ true }
+) -> Result<usize, Refusal>
     requires bundle_value { (well_formed bundle.now ≡ true) × (is_width width ≡ true) × (max_texts * max_line ≤ length out.old) }
-    ensures { LinesPut (gather_windows (tags_of tags.now) bundle.now width (length scratch.old)) out.new result }
+    ensures { LinesPut (gather_windows (tag_of tags.entry) bundle.now width (length scratch.old)) out.new result }
 {
     let n = bundle::text_count(bundle);
     let mut at = 0;
     for i in 0..n {
-        match count_window(tags, bundle, width, i, scratch) {
-            Err(refusal) => {
-                return WriteAnswer::Refused(refusal);
-            }
-            Ok(lines) => {
-                at += put_line(lines, &mut out[at..]);
-            }
-        }
+        let lines = count_window(tags, bundle, width, i, scratch)?;
+        at += put_line(lines, &mut out[at..]);
     }
-    WriteAnswer::Written(at)
+    Ok(at)
 }
 
 // Bytes written to the output; one that is too short stays.
-fn write_bytes(bytes: &[u8], out: &mut [u8]) -> WriteAnswer
+fn write_bytes(bytes: &[u8], out: &mut [u8]) -> Result<usize, Refusal>
     ensures { WriteCall (written (length out.old) bytes.now) out.old out.new result }
 {
     if out.len() < bytes.len() {
         return print_report::too_short(bytes.len());
     }
     let len = format::put_bytes(bytes, out);
-    WriteAnswer::Written(len)
+    Ok(len)
 }
 
 // The lines of all windows of a width that is 1 to 16, of a bundle that is well formed.
 fn write_lines(
-    tags: &[u8],
+    tags: Tags,
     bundle: &[u8],
     width: usize,
     scratch: &mut [u64],
     out: &mut [u8],
-) -> WriteAnswer
-    requires tags_value { are_tags tags.now ≡ true }
+) -> Result<usize, Refusal>
     requires bundle_value { (well_formed bundle.now ≡ true) × (is_width width ≡ true) }
-    ensures { WriteCall (gather_windows (tags_of tags.now) bundle.now width (length scratch.old) (length out.old)) out.old out.new result }
+    ensures { WriteCall (gather_windows (tag_of tags.entry) bundle.now width (length scratch.old) (length out.old)) out.old out.new result }
 {
     let mut lines = [0u8; MAX_LINES];
     match put_lines(tags, bundle, width, scratch, &mut lines) {
-        WriteAnswer::Refused(refusal) => WriteAnswer::Refused(refusal),
-        WriteAnswer::Written(len) => write_bytes(&lines[..len], out),
+        Err(refusal) => Err(refusal),
+        Ok(len) => write_bytes(&lines[..len], out),
     }
 }
 
 // The lines of all windows of a bundle. 24 comes right after 16.
 pub fn print_windows(
-    tags: &[u8],
+    tags: Tags,
     bundle: &[u8],
     width: usize,
     scratch: &mut [u64],
     out: &mut [u8],
-) -> WriteAnswer
-    requires { are_tags tags.now ≡ true }
-    ensures { WriteCall (gather_windows (tags_of tags.now) bundle.now width (length scratch.old) (length out.old)) out.old out.new result }
+) -> Result<usize, Refusal>
+    ensures { WriteCall (gather_windows (tag_of tags.entry) bundle.now width (length scratch.old) (length out.old)) out.old out.new result }
 {
     if bundle::is_well_formed(bundle) {
         if is_width(width) {
             return write_lines(tags, bundle, width, scratch, out);
         }
-        return WriteAnswer::Refused(refusal::unplaced(Fault::WidthOutside));
+        return Err(Refusal::from(Fault::WidthOutside));
     }
-    WriteAnswer::Refused(refusal::unplaced(Fault::MalformedBundle))
+    Err(Refusal::from(Fault::MalformedBundle))
 }

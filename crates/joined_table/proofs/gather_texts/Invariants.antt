@@ -5,7 +5,7 @@ use Rattle.joined_table.proofs.GatherLaws.{Left}
 use Rattle.joined_table.proofs.gather_texts.Given as goal
 
 abbrev pub invariant-loop-i : goal.invariant-loop-i
-invariant-loop-i l = Left (tags_of l.tags) l.bundle l.body l.marks l.scratch l.mode l.limit l.count l.n l.i
+invariant-loop-i l = Left (tags_of l.tags.table.now) l.bundle l.body l.marks l.scratch l.mode l.limit l.count l.n l.i
 
 abbrev pub decreases-loop-i : goal.decreases-loop-i
 decreases-loop-i l = l.count - l.i

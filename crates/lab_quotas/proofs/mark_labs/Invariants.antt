@@ -7,4 +7,4 @@ use Rattle.lab_quotas.specs.Labs.{marks_to}
 use Rattle.lab_quotas.proofs.mark_labs.Given as goal
 
 abbrev pub invariant-loop-i : goal.invariant-loop-i
-invariant-loop-i l = l.marks ≡ over (marks_to (tags_of l.tags) (entry_limit (length l.initial.scratch)) l.bundle l.labs l.quotas l.i) l.initial.marks
+invariant-loop-i l = l.marks ≡ over (marks_to (tags_of l.tags.table.now) (entry_limit (length l.initial.scratch)) l.bundle l.labs l.quotas l.i) l.initial.marks

@@ -1,4 +1,4 @@
--- `line_num::insert_answer` meets its contract. Assumes nothing.
+-- `line_num::length_answer` meets its contract. Assumes nothing.
 use borrow.Author.Rules.{rules}
 use Rattle.line_num.proofs.StepLaws.{answer_short, answer_ill, answer_dropped, answer_put, answer_full}
 use Rattle.line_num.proofs.insert_answer.Statement.{statement}

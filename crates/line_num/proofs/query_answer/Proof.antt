@@ -1,4 +1,4 @@
--- `line_num::query_answer` meets its contract. Assumes nothing.
+-- `line_num::call_answer` meets its contract. Assumes nothing.
 use borrow.Author.Rules.{rules}
 use Rattle.line_num.proofs.ScanLaws.{short_answer, ill_answer, held_answer}
 use Rattle.line_num.proofs.query_answer.Statement.{statement}

@@ -4,4 +4,4 @@ use Rattle.print_bound.proofs.RowLaws.{Leaving}
 use Rattle.print_bound.proofs.all_fit.Given as goal
 
 abbrev pub invariant-loop-j : goal.invariant-loop-j
-invariant-loop-j l = Leaving (tags_of l.tags) l.words l.room l.j l.left
+invariant-loop-j l = Leaving (tags_of l.tags.table.now) l.words l.room l.j l.left

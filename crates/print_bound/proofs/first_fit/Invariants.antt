@@ -4,4 +4,4 @@ use Rattle.print_bound.proofs.RowLaws.{LeavingFirst}
 use Rattle.print_bound.proofs.first_fit.Given as goal
 
 abbrev pub invariant-loop-i : goal.invariant-loop-i
-invariant-loop-i l = LeavingFirst (tags_of l.tags) l.words l.index l.room l.i l.left
+invariant-loop-i l = LeavingFirst (tags_of l.tags.table.now) l.words l.index l.room l.i l.left

@@ -12,15 +12,15 @@ loop-i-init c = let a = c.args in emitted_empty a.write a.out.now _ a.at (omega 
 pub emit_row-end-requires-clause-room_for : goal.emit_row-end-requires-clause-room_for
 emit_row-end-requires-clause-room_for c =
     let a = c.args in
-    let ρ : Rows (tags_of a.tags.now) (pass_records a.starts) a.text.now a.words.now a.numbers a.n a.write a.out.now a.at
-    (printed (tags_of a.tags.now) (pass_records a.starts) (numbered_item a.text.now a.words.now a.numbers) a.n) [] =
+    let ρ : Rows (tags_of a.tags.table.now) (pass_records a.starts) a.text.now a.words.now a.numbers a.n a.write a.out.now a.at
+    (printed (tags_of a.tags.table.now) (pass_records a.starts) (numbered_item a.text.now a.words.now a.numbers) a.n) [] =
     record { rows = c.requires.printable; is = sym (append-nil _); room = c.requires.room_for; few = omega arith } in
     (row_ready ρ _ _ c.loop-i.i c.loop-i.invariant c.loop-i-test.true c.read_row-row.result c.read_row-row.ensures).1
 
 pub loop-i-preserved : goal.loop-i-preserved
 loop-i-preserved c =
     let a = c.args in
-    let ρ : Rows (tags_of a.tags.now) (pass_records a.starts) a.text.now a.words.now a.numbers a.n a.write a.out.now a.at
-    (printed (tags_of a.tags.now) (pass_records a.starts) (numbered_item a.text.now a.words.now a.numbers) a.n) [] =
+    let ρ : Rows (tags_of a.tags.table.now) (pass_records a.starts) a.text.now a.words.now a.numbers a.n a.write a.out.now a.at
+    (printed (tags_of a.tags.table.now) (pass_records a.starts) (numbered_item a.text.now a.words.now a.numbers) a.n) [] =
     record { rows = c.requires.printable; is = sym (append-nil _); room = c.requires.room_for; few = omega arith } in
     row-emitted ρ _ _ c.loop-i.i c.loop-i.invariant c.loop-i-test.true c.read_row-row.result c.read_row-row.ensures c.emit_row-end.ensures

@@ -5,4 +5,4 @@ use Rattle.print_rows.proofs.PassLaws.{printed}
 use Rattle.print_rows.proofs.emit_rows.Given as goal
 
 abbrev pub invariant-loop-i : goal.invariant-loop-i
-invariant-loop-i l = Emitted l.write l.initial.out l.out l.at (printed (tags_of l.tags) (pass_records l.starts) (numbered_item l.text l.words l.numbers) l.i) l.end
+invariant-loop-i l = Emitted l.write l.initial.out l.out l.at (printed (tags_of l.tags.table.now) (pass_records l.starts) (numbered_item l.text l.words l.numbers) l.i) l.end

@@ -10,8 +10,8 @@ text_count-n-requires c = search (well_sized, rules)
 pub loop-i-init : goal.loop-i-init
 loop-i-init c = putting_start _ _ _ _ _
 
-pub returns-in-Err : goal.returns-in-Err
-returns-in-Err c = search (putting_refused, rules)
+pub returns-in_err-lines : goal.returns-in_err-lines
+returns-in_err-lines c = ?
 
 pub slice_bounds-put_line-count : goal.slice_bounds-put_line-count
 slice_bounds-put_line-count c = search (line_at, rules)

@@ -5,4 +5,4 @@ use Rattle.window_lines.proofs.LineLaws.{Putting}
 use Rattle.window_lines.proofs.put_lines.Given as goal
 
 abbrev pub invariant-loop-i : goal.invariant-loop-i
-invariant-loop-i l = Putting (tags_of l.tags) l.bundle l.width (length l.initial.scratch) l.initial.out l.out l.i l.at
+invariant-loop-i l = Putting (tags_of l.tags.table.now) l.bundle l.width (length l.initial.scratch) l.initial.out l.out l.i l.at

@@ -1,5 +1,5 @@
 use borrow.Author.Rules.{rules}
-use Rattle.lcov.proofs.CallLaws.{tags-are, line_refused, line_called}
+use Rattle.lcov.proofs.CallLaws.{tags-are, line_refused, value_called}
 use Rattle.lcov.proofs.lines.read_line_tagged.Statement.{statement}
 use Rattle.lcov.proofs.lines.read_line_tagged.Tie as tie
 
@@ -13,4 +13,4 @@ read_line_tagged_spec =
     (λ c. search rules)
     (λ c κs. search (tags-are, rules))
     (λ c. search (line_refused, rules))
-    (λ c. search (line_called, rules)))
+    (λ c. search (value_called, rules)))
