@@ -4,7 +4,7 @@
 pub mod names;
 
 ghost use Rattle.std.specs.Prelude.{◌≡◌, true, List, ℕ, ◌≤◌, ◌<◌};
-ghost use Prim.Native.Nat.{Ordering};
+ghost use Prim.Native.Nat.{Ordering as Compared};
 ghost use Rattle.model.specs.Report.{entry_key, compare_items, compare_keys};
 ghost use Rattle.compare.specs.Orders.{order_of};
 ghost use Rattle.table.specs.Store.{Store};
@@ -14,10 +14,9 @@ ghost use Rattle.table_section.specs.Sections.{entry_of, RowInBounds};
 ghost use Rattle.merge_search.specs.Names.{LinesOfOne};
 ghost use Rattle.merge_search.specs.Search.{EntriesAscending, compare_entries, Before, Between, Passed, GallopBounds, SearchResult};
 
-use compare::Order;
 use names::same_names;
+use std::cmp::Ordering;
 use table::Row;
-use table_item::Found;
 
 // By section, then by item.
 fn compare_rows(text: &[u8], x: Row, y: Row) -> Ordering
@@ -97,6 +96,7 @@ fn gallop(
 {
     let mut lo = from;
     let mut step = 0;
+    // gallops: the step doubles
     while step < n - lo {
         let at = lo + step;
         if is_before(text, words, index, used, n, at, key) {
@@ -125,6 +125,7 @@ fn lower_bound_entry(
     let span = gallop(text, words, index, used, n, from, key);
     let mut lo = span.lo;
     let mut hi = span.hi;
+    // the range that is searched is halved
     while lo < hi {
         let mid = lo + (hi - lo) / 2;
         if is_before(text, words, index, used, n, mid, key) {
@@ -136,7 +137,7 @@ fn lower_bound_entry(
     lo
 }
 
-// Position i is the lower bound of the key: tells a hit from an insert position.
+// Position i is the lower bound of the key: tells a hit (Ok) from an insert position (Err), as a binary search of the library.
 fn resolve(
     text: &[u8],
     words: &[u64],
@@ -145,18 +146,18 @@ fn resolve(
     n: usize,
     i: usize,
     key: Row,
-) -> Found
+) -> Result<usize, usize>
     requires { EntriesAscending text.now words.now index used n × RowInBounds text.now key × PartitionPoint (Before text.now words.now index key) n i }
     ensures { SearchResult text.now words.now index n key result }
 {
     if n <= i {
-        return Found::Insert(i);
+        return Err(i);
     }
     let here = table::get(words, index, used, i);
     if compare_entries(text, key, here).is_eq() {
-        return Found::At(i);
+        return Ok(i);
     }
-    Found::Insert(i)
+    Err(i)
 }
 
 // The key's position among the n entries; those before position `from` come before it.
@@ -168,7 +169,7 @@ fn gallop_search(
     n: usize,
     from: usize,
     key: Row,
-) -> Found
+) -> Result<usize, usize>
     requires { EntriesAscending text.now words.now index used n × RowInBounds text.now key × (from ≤ n) × Passed text.now words.now index key from }
     ensures { SearchResult text.now words.now index n key result }
 {
@@ -178,7 +179,7 @@ fn gallop_search(
 
 // Whether both rows are lines of one number, or branches of the same three.
 fn same_numbers(x: Row, y: Row) -> bool
-    ensures { result ≡ true → (text : List ℕ) → ItemInBounds text x → ItemInBounds text y → compare_items (item_of text x) (item_of text y) ≡ Ordering.eq }
+    ensures { result ≡ true → (text : List ℕ) → ItemInBounds text x → ItemInBounds text y → compare_items (item_of text x) (item_of text y) ≡ Compared.eq }
 {
     let kind = x.tag / 2;
     if kind != y.tag / 2 {
@@ -202,7 +203,7 @@ fn same_numbers(x: Row, y: Row) -> bool
 // Whether both rows are lines or branches of one key, in sections whose names are at the same offsets. Most keys of a text are in the joined
 // table, where they are expected: a few words of both rows show it, and no call passes the key through memory.
 fn has_same_key(x: Row, y: Row) -> bool
-    ensures { result ≡ true → (text : List ℕ) → RowInBounds text x → RowInBounds text y → compare_entries (entry_of text x) (entry_of text y) ≡ Ordering.eq }
+    ensures { result ≡ true → (text : List ℕ) → RowInBounds text x → RowInBounds text y → compare_entries (entry_of text x) (entry_of text y) ≡ Compared.eq }
 {
     if same_numbers(x, y) {
         return same_names(x, y);
@@ -220,23 +221,23 @@ fn search_first(
     n: usize,
     from: usize,
     key: Row,
-) -> Found
+) -> Result<usize, usize>
     requires { EntriesAscending text.now words.now index used n × RowInBounds text.now key × (from ≤ n) × Passed text.now words.now index key from }
     ensures { SearchResult text.now words.now index n key result }
 {
     if n <= from {
-        return Found::Insert(from);
+        return Err(from);
     }
     let first = table::get(words, index, used, from);
     if has_same_key(key, first) {
-        return Found::At(from);
+        return Ok(from);
     }
     let order = compare_entries(text, key, first);
     if order.is_lt() {
-        return Found::Insert(from);
+        return Err(from);
     }
     if order.is_eq() {
-        return Found::At(from);
+        return Ok(from);
     }
     gallop_search(text, words, index, used, n, from + 1, key)
 }
@@ -269,7 +270,7 @@ fn search_near(
     from: usize,
     at: usize,
     key: Row,
-) -> Found
+) -> Result<usize, usize>
     requires entries_ascending { EntriesAscending text.now words.now index used n × RowInBounds text.now key × (from ≤ n) × Passed text.now words.now index key from }
     requires from_lt_at { (from < at) × (at < n) }
     ensures { SearchResult text.now words.now index n key result }
@@ -277,9 +278,9 @@ fn search_near(
     if is_between(words, index, used, at, key) {
         let here = table::get(words, index, used, at);
         if key.k1 == here.k1 {
-            return Found::At(at);
+            return Ok(at);
         }
-        return Found::Insert(at);
+        return Err(at);
     }
     if is_before(text, words, index, used, n, at, key) {
         return gallop_search(text, words, index, used, n, at + 1, key);
@@ -301,7 +302,7 @@ pub fn search_with_hint(
     from: usize,
     stride: usize,
     key: Row,
-) -> Found
+) -> Result<usize, usize>
     requires { EntriesAscending text.now words.now index used n × RowInBounds text.now key × (from ≤ n) × Passed text.now words.now index key from }
     ensures { SearchResult text.now words.now index n key result }
 {

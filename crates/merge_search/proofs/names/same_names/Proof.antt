@@ -1,7 +1,6 @@
 -- `names::same_names` meets its contract. Assumes nothing.
 use native.Mathlib.Omega.{arith}
 use Rattle.ordmap.proofs.Results.{impossible}
-use borrow.Author.Rules.{rules}
 use Rattle.merge_search.proofs.names.same_names.Statement.{statement}
 use Rattle.merge_search.proofs.names.same_names.Tie as tie
 
