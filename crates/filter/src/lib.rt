@@ -100,13 +100,11 @@ fn skip_starts(words: &[u64], next: usize, n: usize, start: u32) -> usize
     ensures most { result ≤ n }
     ensures first { (text : List ℕ) → end_before (bounding GreaterStart start (items_by text words.now next n)) ≡ end_before (items_by text words.now (next + result) (n - result)) }
 {
-    let mut i = 0;
-    while i < n {
+    for i in 0..n {
         let j = words[next + i] as usize;
         if start < start_line(table::read_row(words, j)) {
             return i;
         }
-        i += 1;
     }
     n
 }
@@ -115,8 +113,8 @@ fn skip_starts(words: &[u64], next: usize, n: usize, start: u32) -> usize
 // Functions of one start are neighbours and have one end, so that of the row looked at last is used again: the rows behind are walked
 // once for all of them.
 fn reckon_end(words: &[u64], start: u32, next: usize, n: usize, bound: Bound, last: Looked) -> u32
-    requires by_index { (text : List ℕ) × Printable text words.now next n }
-    requires by_index_2 { (text : List ℕ) → bound ≡ GreaterStart → last.start ≡ start → last.end ≡ end_before (bounding GreaterStart start (items_by text words.now next n)) }
+    requires printable { (text : List ℕ) × Printable text words.now next n }
+    requires last_end { (text : List ℕ) → bound ≡ GreaterStart → last.start ≡ start → last.end ≡ end_before (bounding GreaterStart start (items_by text words.now next n)) }
     ensures { (text : List ℕ) → result ≡ end_before (bounding bound start (items_by text words.now next n)) }
 {
     match bound {
@@ -152,11 +150,11 @@ fn look(
     rule: Rule,
     last: Looked,
 ) -> Looked
-    requires by_index { (text : List ℕ) × Printable text words.now at n }
-    requires by_index_2 { (text : List ℕ) → Ahead rule last (items_by text words.now at n) }
+    requires printable { (text : List ℕ) × Printable text words.now at n }
+    requires ahead { (text : List ℕ) → Ahead rule last (items_by text words.now at n) }
     requires n_nonzero { (0 < n) × (well_formed_ranges (ranges_in pairs.now) count ≡ true) }
-    ensures by_index_3 { (text : List ℕ) → result.stays ≡ keeps rule (take count (ranges_in pairs.now)) (item_of text (row_at words.now (word words.now at))) (items_by text words.now (at + 1) (n - 1)) }
-    ensures by_index_4 { (text : List ℕ) → Ahead rule result (items_by text words.now (at + 1) (n - 1)) }
+    ensures stays { (text : List ℕ) → result.stays ≡ keeps rule (take count (ranges_in pairs.now)) (item_of text (row_at words.now (word words.now at))) (items_by text words.now (at + 1) (n - 1)) }
+    ensures ahead_next { (text : List ℕ) → Ahead rule result (items_by text words.now (at + 1) (n - 1)) }
 {
     let j = words[at] as usize;
     let row = table::read_row(words, j);
@@ -196,26 +194,22 @@ fn keep(
     n: usize,
     rule: Rule,
 ) -> usize
-    requires by_index { (text : List ℕ) × Behind text words.old numbers n }
+    requires behind { (text : List ℕ) × Behind text words.old numbers n }
     requires count_value { well_formed_ranges (ranges_in pairs.now) count ≡ true }
     ensures { Chosen (chosen rule (take count (ranges_in pairs.now))) words.old words.new numbers n numbers result }
 {
     let mut kept = 0;
-    let mut i = 0;
     // before the first row: no start bounds a function that starts at 2^32 − 1
     let mut last = Looked {
         stays: false,
         start: u32::MAX,
         end: u32::MAX,
     };
-    while i < n {
+    for i in 0..n {
         last = look(words, pairs, count, numbers + i, n - i, rule, last);
         if last.stays {
             words[numbers + kept] = words[numbers + i];
             kept += 1;
-            i += 1;
-        } else {
-            i += 1;
         }
     }
     kept
@@ -230,7 +224,7 @@ fn keep_held(
     n: usize,
     to: usize,
 ) -> usize
-    requires by_index { (text : List ℕ) × Behind text words.old from n }
+    requires behind { (text : List ℕ) × Behind text words.old from n }
     requires n_bound { (from + n ≤ to) × (to + n ≤ length words.old) × (well_formed_ranges (ranges_in pairs.now) count ≡ true) }
     ensures { Chosen (filter (is_held (take count (ranges_in pairs.now)))) words.old words.new from n to result }
 {
@@ -424,6 +418,7 @@ fn filter_sections(
 {
     let mut lo = 0;
     let mut at = 0;
+    // moves to the next section
     while lo < n {
         let done = filter_section(
             tags, text, words, pairs, count, bound, index, used, n, lo, spare, out, at, write,

@@ -134,22 +134,19 @@ fn add_hit(hits: Hits, row: Row) -> Hits
     let kind = row.tag / 2;
     if kind == table_item::FUNCTION {
         return Hits {
-            lines: hits.lines,
             functions: hits.functions + 1,
-            branches: hits.branches,
+            ..hits
         };
     }
     if kind == table_item::BRANCH {
         return Hits {
-            lines: hits.lines,
-            functions: hits.functions,
             branches: hits.branches + 1,
+            ..hits
         };
     }
     Hits {
         lines: hits.lines + 1,
-        functions: hits.functions,
-        branches: hits.branches,
+        ..hits
     }
 }
 
@@ -165,10 +162,8 @@ fn count_hits(words: &[u64], index: usize, rows: Rows) -> Hits
         functions: 0,
         branches: 0,
     };
-    let mut i = 0;
-    while i < n {
+    for i in 0..n {
         hits = add_hit(hits, table::get(words, index, used, i));
-        i += 1;
     }
     hits
 }
@@ -192,13 +187,10 @@ fn keys_agree(
     if n != h.kept {
         return false;
     }
-    let mut i = 0;
-    while i < n {
+    for i in 0..n {
         let x = table::get(low, index, used, i);
         let y = table::get(high, index, other, i);
-        if same_key(least, x, greatest, y) {
-            i += 1;
-        } else {
+        if !same_key(least, x, greatest, y) {
             return false;
         }
     }
@@ -210,14 +202,12 @@ fn counts_rise(low: &[u64], used: usize, high: &[u64], other: usize, n: usize, i
     requires { Store low.now index used × Store high.now index other × (n ≤ used) × (n ≤ other) }
     ensures { (a b : List ℕ) → result ≡ counts_rise (entries_at a low.now index n) (entries_at b high.now index n) }
 {
-    let mut i = 0;
-    while i < n {
+    for i in 0..n {
         let x = table::get(low, index, used, i);
         let y = table::get(high, index, other, i);
         if count_of(y) < count_of(x) {
             return false;
         }
-        i += 1;
     }
     true
 }

@@ -27,15 +27,13 @@ fn kind_end(words: &[u64], index: usize, used: usize, n: usize, from: usize, kin
     requires { Store words.now index used × (n ≤ used) × (from ≤ n) }
     ensures { IsKindRange words.now index n from kind result }
 {
-    let mut at = from;
-    while at < n {
+    for at in from..n {
         let row = table::get(words, index, used, at);
         if row.tag / 2 != kind {
             return at;
         }
-        at += 1;
     }
-    at
+    n
 }
 
 // Where a section's functions, branches and lines end.
@@ -233,6 +231,7 @@ fn print_sections(
 {
     let mut lo = 0;
     let mut at = 0;
+    // moves to the next section
     while lo < n {
         let printed = print_section(tags, text, words, index, used, n, lo, spare, out, at, write);
         lo = printed.next;
