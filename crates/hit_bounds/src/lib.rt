@@ -19,7 +19,7 @@ ghost use Rattle.hit_bounds.specs.Pairs.{same_branch, HitsBelow, with_hit, Kept,
 ghost use Rattle.tag_table.specs.Tags.{tag_of};
 
 use model::{Fault, Refusal};
-use model_bounds::{Result<Bounds, Refusal>, Hits};
+use model_bounds::{Bounds, Hits};
 use report_parser::TextAnswer;
 use table::Row;
 use tag_table::Tags;

@@ -20,7 +20,6 @@ use Rattle.model.specs.Answer.{refuse}
 use Rattle.model.specs.Report.{Entry, Report, Key, item_key, entry_key, compare_keys, combine_entries}
 use Rattle.model.proofs.KeyOrder.{keys-order}
 use Rattle.model.proofs.Entries.{entries_keyed}
-use Rattle.table_item.specs.declared.Found.TheVariants.{At, Insert}
 use Rattle.table_item.specs.Items.{kind_of, item_of}
 use Rattle.table_item.proofs.CompareLaws.{key_of}
 use Rattle.table_section.specs.Sections.{entry_of, entry_at, entries_at, RowInBounds}
@@ -104,7 +103,7 @@ module _ {text ws : List ℕ} {index limit : ℕ} {walk : Walk} {r : Row} (mode 
 
   -- ---- the key is at position i
 
-  module _ (i : ℕ) (s : SearchResult text ws index n r (At i)) where
+  module _ (i : ℕ) (s : SearchResult text ws index n r (Ok i)) where
     at_place : added mode e joined ≡ map_accepted (λ y. set joined i y) (combine_entries mode (f i) e)
     at_place = add-known entry_key compare_keys (combine_entries mode) e f n i s.0 (λ k l. keys-order.greater (s.1 k l)) s.2
 
@@ -167,7 +166,7 @@ module _ {text ws : List ℕ} {index limit : ℕ} {walk : Walk} {r : Row} (mode 
 
   -- ---- the key is to go to place i
 
-  module _ (i : ℕ) (s : SearchResult text ws index n r (Insert i)) where
+  module _ (i : ℕ) (s : SearchResult text ws index n r (Err i)) where
     left_out : limit ≤ n + p → Stepped text ws ws index limit walk r mode (record { main = n; delta = p; from = i; full = true })
     left_out h = record {
       joined = record { ascending = ω.ascending; fresh = ω.fresh; ascend = ω.ascend; rows = ω.rows; words = ω.words; most = ω.most; from = s.0 };

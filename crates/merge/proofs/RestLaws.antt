@@ -20,7 +20,7 @@ use Rattle.model.specs.Report.{Entry, Report, Key, entry_key, compare_keys}
 use Rattle.model.proofs.KeyOrder.{keys-order}
 use Rattle.table_section.specs.Sections.{entry_of, entry_at, entries_at}
 use Rattle.table_item.proofs.SearchLaws.{sorted_at}
-use Rattle.table_item.specs.declared.Found.TheVariants.{Insert}
+use Rattle.std.specs.Prelude.{Ok, Err}
 use Rattle.merge_search.specs.Search.{EntriesAscending, SearchResult, compare_entries}
 
 -- ---- the entries still to come
@@ -75,7 +75,7 @@ tabulate-last g f p e h last =
     ∙ ap₂ (λ (l m : Report). l ++ m) (tabulate_cong g f p h) (ap (λ (x : Entry). x ∷ []) (ap g (let z : p + 0 ≡ p = omega arith in z) ∙ last))
 
 -- the place of a key that none of the entries has
-module _ {text ws : List ℕ} {index used n i : ℕ} (r : Row) (ρ : EntriesAscending text ws index used n) (s : SearchResult text ws index n r (Insert i)) where
+module _ {text ws : List ℕ} {index used n i : ℕ} (r : Row) (ρ : EntriesAscending text ws index used n) (s : SearchResult text ws index n r (Err i)) where
   pub result_rest : (k : ℕ) → i ≤ k → k < n → compare_entries (entry_of text r) (entry_at text ws index k) ≡ Ordering.lt
   result_rest k l h =
       by-eq i k

@@ -14,7 +14,6 @@ use Rattle.model.specs.declared.Mode.{Mode}
 use Rattle.model.specs.Bytes.{Bytes}
 use Rattle.model.specs.Answer.{Answer, accepted, refuse}
 use Rattle.model.specs.Report.{Entry, Report, entry_key, compare_keys, combine_entries}
-use Rattle.table_item.specs.declared.Found.TheVariants.{Insert}
 use Rattle.table_section.specs.Sections.{entry_of, entry_at, entries_at, RowInBounds}
 use Rattle.merge_search.specs.Search.{EntriesAscending, Passed, SearchResult, compare_entries}
 use Rattle.merge.specs.declared.Walk.{Walk}
@@ -78,11 +77,11 @@ pub data RowOutcome (text ws ws' : List ℕ) (index limit : ℕ) (walk : Walk) (
       → ((k : ℕ) → k < walk.main → entry_key (entry_at text ws' index k) ≡ entry_key (entry_at text ws index k))
       → Unchanged (row ws index) (row ws' index) walk.main (walk.main + walk.delta) → RowOutcome text ws ws' index limit walk r mode next
   -- its key is new, and goes to the place where the walk goes on
-  fresh : next.delta ≡ walk.delta + 1 → next.full ≡ walk.full → SearchResult text ws index walk.main r (Insert next.from)
+  fresh : next.delta ≡ walk.delta + 1 → next.full ≡ walk.full → SearchResult text ws index walk.main r (Err next.from)
       → Unchanged (row ws index) (row ws' index) 0 (walk.main + walk.delta) → row ws' index (walk.main + walk.delta) ≡ r
       → RowOutcome text ws ws' index limit walk r mode next
   -- its key is new, and there is no row for it
-  left : next.delta ≡ walk.delta → next.full ≡ true → limit ≤ walk.main + walk.delta → SearchResult text ws index walk.main r (Insert next.from) → ws' ≡ ws
+  left : next.delta ≡ walk.delta → next.full ≡ true → limit ≤ walk.main + walk.delta → SearchResult text ws index walk.main r (Err next.from) → ws' ≡ ws
       → RowOutcome text ws ws' index limit walk r mode next
 
 pub record Stepped (text ws ws' : List ℕ) (index limit : ℕ) (walk : Walk) (r : Row) (mode : Mode) (next : Walk) : Type 0 where

@@ -17,7 +17,6 @@ ghost use Rattle.merge.specs.Merging.{Tables, MergedAsModel};
 use merge_search::names;
 use model::{Fault, Mode};
 use table::Row;
-use table_item::Found;
 
 // The sizes of main and delta, the position in main before which all entries come before what is still to be merged, and whether a new
 // row found no free row.
@@ -68,7 +67,7 @@ fn add_row(
     let n = walk.main;
     let used = n + walk.delta;
     match merge_search::search_with_hint(text, words, index, used, n, walk.from, stride, row) {
-        Found::At(i) => {
+        Ok(i) => {
             let old = table::get(words, index, used, i);
             let both = merge_combine::combine_rows(text, old, row, mode)?;
             table::put(words, index, used, i, both);
@@ -77,7 +76,7 @@ fn add_row(
                 ..walk
             })
         }
-        Found::Insert(i) => Ok(add_new(words, index, limit, walk, row, i)),
+        Err(i) => Ok(add_new(words, index, limit, walk, row, i)),
     }
 }
 

@@ -1,5 +1,5 @@
 // What two entries of one key make (SPEC 5.1): "two given start lines must agree, two given checksums too; what only
-// one gives is kept, and so is a key's earlier spelling. Function counts add and stop at 2^64 − 1. Option<u64> counts add, none adding nothing.
+// one gives is kept, and so is a key's earlier spelling. Function counts add and stop at 2^64 − 1. Taken counts add, none adding nothing.
 // Line counts add." Of two end lines the larger is kept. In the lossy mode "the later given start line or checksum wins", and the end
 // line, or none, that came with that start line.
 #![tactic(auto)]

@@ -10,7 +10,7 @@ use Rattle.model.specs.Path.{components}
 use Rattle.model.specs.Report.{in_section, compare_sections}
 use Rattle.model.proofs.KeyOrder.{sections-order}
 use Rattle.table_item.specs.Items.{part, kind_of}
-use Rattle.table_section.specs.Sections.{entry_of, key_of, NamesInBounds, RowInBounds}
+use Rattle.table_section.specs.Sections.{key_of, NamesInBounds, RowInBounds}
 use Rattle.table_section.specs.Splice.{with_section}
 use Rattle.table_section.proofs.HeaderLaws.{item-kept, whole-kept}
 use Rattle.merge_search.specs.declared.names.Section.{Section}

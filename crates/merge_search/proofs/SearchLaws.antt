@@ -19,7 +19,7 @@ use Rattle.model.specs.Order.{is_less}
 use Rattle.model.specs.Bytes.{Bytes}
 use Rattle.model.specs.Report.{Entry, section_key, entry_key, compare_items, compare_sections, compare_keys}
 use Rattle.model.proofs.KeyOrder.{keys-order, sections-order}
-use Rattle.std.specs.Prelude.{Result, Ok, Err}
+use Rattle.std.specs.Prelude.{Ok, Err}
 use Rattle.table_item.specs.Items.{item_of, kind_of, branch_kind, line_kind, ItemInBounds}
 use Rattle.table_item.proofs.CompareLaws.{branches, lines, lines-before}
 use Rattle.table_item.proofs.SearchLaws.{is_lt, sorted_at}

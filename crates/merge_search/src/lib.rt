@@ -34,7 +34,12 @@ fn compare_rows(text: &[u8], x: Row, y: Row) -> Ordering
 fn lines_of_one(x: Row, y: Row) -> bool
     ensures { result ≡ true → LinesOfOne x y }
 {
-    x.tag / 2 == table_item::LINE && y.tag / 2 == table_item::LINE && same_names(x, y)
+    if x.tag / 2 == table_item::LINE {
+        if y.tag / 2 == table_item::LINE {
+            return same_names(x, y);
+        }
+    }
+    false
 }
 
 // Two lines of one section are compared at once: a text has more of them than of all else.
@@ -91,6 +96,7 @@ fn gallop(
 {
     let mut lo = from;
     let mut step = 0;
+    // gallops: the step doubles
     while step < n - lo {
         let at = lo + step;
         if is_before(text, words, index, used, n, at, key) {
@@ -119,6 +125,7 @@ fn lower_bound_entry(
     let span = gallop(text, words, index, used, n, from, key);
     let mut lo = span.lo;
     let mut hi = span.hi;
+    // the range that is searched is halved
     while lo < hi {
         let mid = lo + (hi - lo) / 2;
         if is_before(text, words, index, used, n, mid, key) {
@@ -130,7 +137,7 @@ fn lower_bound_entry(
     lo
 }
 
-// Position i is the lower bound of the key: tells a hit from an insert position.
+// Position i is the lower bound of the key: tells a hit (Ok) from an insert position (Err), as a binary search of the library.
 fn resolve(
     text: &[u8],
     words: &[u64],
@@ -175,13 +182,22 @@ fn same_numbers(x: Row, y: Row) -> bool
     ensures { result ≡ true → (text : List ℕ) → ItemInBounds text x → ItemInBounds text y → compare_items (item_of text x) (item_of text y) ≡ Compared.eq }
 {
     let kind = x.tag / 2;
-    if kind != y.tag / 2 || x.k1 != y.k1 {
+    if kind != y.tag / 2 {
+        return false;
+    }
+    if x.k1 != y.k1 {
         return false;
     }
     if kind == table_item::LINE {
         return true;
     }
-    kind == table_item::BRANCH && x.k2 == y.k2 && x.k3 == y.k3
+    if kind != table_item::BRANCH {
+        return false;
+    }
+    if x.k2 != y.k2 {
+        return false;
+    }
+    x.k3 == y.k3
 }
 
 // Whether both rows are lines or branches of one key, in sections whose names are at the same offsets. Most keys of a text are in the joined
@@ -189,7 +205,10 @@ fn same_numbers(x: Row, y: Row) -> bool
 fn has_same_key(x: Row, y: Row) -> bool
     ensures { result ≡ true → (text : List ℕ) → RowInBounds text x → RowInBounds text y → compare_entries (entry_of text x) (entry_of text y) ≡ Compared.eq }
 {
-    same_numbers(x, y) && same_names(x, y)
+    if same_numbers(x, y) {
+        return same_names(x, y);
+    }
+    false
 }
 
 // Compares with the entry at `from` first, and gallops only if the key is greater: one comparison for a key that is or

@@ -1,7 +1,6 @@
 -- `names::no_section` meets its contract. Assumes nothing.
 use native.Mathlib.Omega.{arith}
 use mathlib.Core.Path.{refl}
-use borrow.Author.Rules.{rules}
 use Rattle.merge_search.proofs.names.no_section.Statement.{statement}
 use Rattle.merge_search.proofs.names.no_section.Tie as tie
 
