@@ -228,7 +228,7 @@ fn keep_held(
     requires n_bound { (from + n ≤ to) × (to + n ≤ length words.old) × (well_formed_ranges (ranges_in pairs.now) count ≡ true) }
     ensures { Chosen (filter (is_held (take count (ranges_in pairs.now)))) words.old words.new from n to result }
 {
-    table::copy_forward(words, from, to, n);
+    table::copy_words(words, from, to, n);
     keep(words, pairs, count, to, n, Rule::Held)
 }
 

@@ -26,14 +26,12 @@ use Rattle.table_item.specs.Items.{item_of}
 use Rattle.table_item.specs.Combining.{combine_of}
 use Rattle.section_upsert.proofs.UpsertLaws.{within-fits, within-past}
 use Rattle.section_tail.specs.declared.OpenSizes.{OpenSizes}
-use Rattle.section_tail.specs.declared.Outcome.{Outcome}
-use Rattle.section_tail.specs.declared.Outcome.TheVariants.{Items, Refused as NotEntered}
 use Rattle.section_tail.specs.Tail.{rows_of, end_of, items_of, OpenSection}
 use Rattle.section_tail.specs.RowAdded.{RowAdded}
 use Rattle.section_tail.proofs.TailLaws.{add_most}
 use Rattle.section_tail.proofs.ItemLaws.{held-length, held_exact}
 use Rattle.section.specs.declared.State.{State}
-use Rattle.section.specs.declared.Step.TheVariants.{Next, Refused}
+use Rattle.std.specs.Prelude.{Result, Ok, Err}
 use Rattle.section.specs.Reading.{capacity, RowReserved, with_open, state_of, StateRoom, HoldsState, counted, StepOf}
 use Rattle.section.proofs.StateLaws.{FlushedIfOver, full_outside, kept_size, same_kept, same-sections, with_used, more-valid, more_state, step_as}
 
@@ -65,7 +63,7 @@ count_open s path l = refl
 -- ---- the answer of `section_tail::add_row` is the step's
 
 -- the answer as a match has it, and the place of spare words as the code has it
-pub adding_as : {text ws ws' : List ℕ} {index used rows most at : ℕ} {s : OpenSizes} {r : Row} {adds : Bool} {a b : Outcome} → a ≡ b → rows ≡ most
+pub adding_as : {text ws ws' : List ℕ} {index used rows most at : ℕ} {s : OpenSizes} {r : Row} {adds : Bool} {a b : Result OpenSizes Fault} → a ≡ b → rows ≡ most
     → RowAdded text ws ws' index used (index + rows) at s r adds a → RowAdded text ws ws' index used (index + most) at s r adds b
 adding_as e f ε = rw (e, f) at ε
 
@@ -102,7 +100,7 @@ module _ {text ws : List ℕ} {index limit : ℕ} {st : State} (ζ : HoldsState 
   size = kept_size ζ
 
   -- after the row is added, the entries are counted as far as needed
-  module _ {ws₁ ws' : List ℕ} {s t : OpenSizes} (ε : RowAdded text ws ws₁ index st.used (index + capacity limit) (st.kept + 1) st.sizes r adds (Items s))
+  module _ {ws₁ ws' : List ℕ} {s t : OpenSizes} (ε : RowAdded text ws ws₁ index st.used (index + capacity limit) (st.kept + 1) st.sizes r adds (Ok s))
       (φ : FlushedIfOver text ws₁ ws' index st.used (index + capacity limit) (st.kept + 1) (limit + st.tombstones) s t) where
     -- the items that the model has
     items-are : added ≡ accepted (items_of text ws' index (st.kept + 1) t)
@@ -116,7 +114,7 @@ module _ {text ws : List ℕ} {index limit : ℕ} {st : State} (ζ : HoldsState 
     others j p q = φ.others j p (omega arith) ∙ ε.others j p (omega arith)
 
     pub added_next : end_of (st.kept + 1) t ≤ limit + st.tombstones → length ws' ≡ length ws
-        → StepOf text ws' index limit answer (Next (with_open st st.used t))
+        → StepOf text ws' index limit answer (Ok (with_open st st.used t))
     unfolding open_section
     added_next m len =
         let l = items_of text ws' index (st.kept + 1) t in
@@ -143,7 +141,7 @@ module _ {text ws : List ℕ} {index limit : ℕ} {st : State} (ζ : HoldsState 
           };
         }
 
-    pub added-past : limit + st.tombstones < end_of (st.kept + 1) t → StepOf text ws' index limit answer (Refused TooManyEntries)
+    pub added-past : limit + st.tombstones < end_of (st.kept + 1) t → StepOf text ws' index limit answer (Err TooManyEntries)
     added-past m =
         let l = items_of text ws' index (st.kept + 1) t in
         record { is = sym (answer_accepted l items-are ∙ within-past limit (number l) (open_section S S.path l) (past φ.exact)); valid = tt }
@@ -153,8 +151,8 @@ module _ {text ws : List ℕ} {index limit : ℕ} {st : State} (ζ : HoldsState 
         past (inr q) = omega (arith, held_exact φ.still q, size)
 
   pub added-refused : {ws' : List ℕ} (fault : Fault)
-      → RowAdded text ws ws' index st.used (index + capacity limit) (st.kept + 1) st.sizes r adds (NotEntered fault)
-      → (end_of (st.kept + 1) st.sizes < st.used) ⊎ (st.used ≡ capacity limit) → StepOf text ws' index limit answer (Refused fault)
+      → RowAdded text ws ws' index st.used (index + capacity limit) (st.kept + 1) st.sizes r adds (Err fault)
+      → (end_of (st.kept + 1) st.sizes < st.used) ⊎ (st.used ≡ capacity limit) → StepOf text ws' index limit answer (Err fault)
   added-refused fault ε free = record { is = go added refl ε.items; valid = tt }
     where
       -- the rows end only where more would be past the limit
@@ -183,7 +181,7 @@ enter_first combine item s e = rw e
 -- no row may be had for the section itself
 pub added_none : {text ws : List ℕ} {index limit : ℕ} {st : State} → HoldsState text ws index limit st → (r : Row) (adds : Bool)
     → limit + st.tombstones ≤ st.kept
-    → StepOf text ws index limit (counted limit (enter_item (combine_of adds) (item_of text r) (state_of text ws index st))) (Refused TooManyEntries)
+    → StepOf text ws index limit (counted limit (enter_item (combine_of adds) (item_of text r) (state_of text ws index st))) (Err TooManyEntries)
 added_none {text} {ws} {index} {limit} {st} ζ r adds h =
     let S = state_of text ws index st in
     let next = open_section S S.path (item_of text r ∷ []) in
@@ -230,19 +228,19 @@ module _ {text ws ws₁ : List ℕ} {index limit header : ℕ} {st : State} (ζ 
           (more_state (more-valid ζ ρ len) ρ' ∙ more_state ζ ρ)
 
       module _ {ws₃ ws₄ : List ℕ} {s t : OpenSizes}
-          (ε : RowAdded text ws₂ ws₃ index used (index + capacity limit) (st.kept + 1) st.sizes r adds (Items s))
+          (ε : RowAdded text ws₂ ws₃ index used (index + capacity limit) (st.kept + 1) st.sizes r adds (Ok s))
           (φ : FlushedIfOver text ws₃ ws₄ index used (index + capacity limit) (st.kept + 1) (limit + st.tombstones) s t) where
         pub line-next : end_of (st.kept + 1) t ≤ limit + st.tombstones → length ws₄ ≡ length ws₂
             → StepOf text ws₄ index limit (counted limit (enter_item (combine_of adds) (item_of text r) (state_of text ws index st)))
-            (Next (with_open st used t))
+            (Ok (with_open st used t))
         line-next m len'' = step_as same_answer (added_next there header-there r adds ε φ m len'')
 
         pub line-past : limit + st.tombstones < end_of (st.kept + 1) t
             → StepOf text ws₄ index limit (counted limit (enter_item (combine_of adds) (item_of text r) (state_of text ws index st)))
-            (Refused TooManyEntries)
+            (Err TooManyEntries)
         line-past m = step_as same_answer (added-past there header-there r adds ε φ m)
 
       pub line_refused : {ws₃ : List ℕ} (fault : Fault)
-          → RowAdded text ws₂ ws₃ index used (index + capacity limit) (st.kept + 1) st.sizes r adds (NotEntered fault)
-          → StepOf text ws₃ index limit (counted limit (enter_item (combine_of adds) (item_of text r) (state_of text ws index st))) (Refused fault)
+          → RowAdded text ws₂ ws₃ index used (index + capacity limit) (st.kept + 1) st.sizes r adds (Err fault)
+          → StepOf text ws₃ index limit (counted limit (enter_item (combine_of adds) (item_of text r) (state_of text ws index st))) (Err fault)
       line_refused fault ε = step_as same_answer (added-refused there header-there r adds fault ε ρ'.free)

@@ -12,6 +12,7 @@ use Rattle.table.specs.Places.{tabulate, Unchanged}
 use Rattle.table.specs.Store.{row}
 use Rattle.table.proofs.TabulateLaws.{length-tabulate}
 use Rattle.ordmap.specs.Result.{accepted}
+use Rattle.model.specs.declared.Fault.{Fault}
 use Rattle.model.specs.declared.Part.{Part}
 use Rattle.model.specs.declared.Fault.TheVariants.{UnexpectedRecord, TooManyEntries, SecondSourceFile}
 use Rattle.model.specs.Lists.{filter}
@@ -30,8 +31,7 @@ use Rattle.section_upsert.proofs.UpsertLaws.{within-fits, within-past}
 use Rattle.section_tail.specs.Tail.{include_all, rows_of, AllFlushed}
 use Rattle.section_tail.proofs.ItemLaws.{held-length}
 use Rattle.section.specs.declared.State.{State}
-use Rattle.section.specs.declared.Step.{Step}
-use Rattle.section.specs.declared.Step.TheVariants.{Next, Refused}
+use Rattle.std.specs.Prelude.{Result, Ok, Err}
 use Rattle.section_commit.specs.declared.KeptSizes.{KeptSizes}
 use Rattle.table_section.specs.Sections.{test_of, path_of, entry_at}
 use Rattle.section_commit.specs.Commit.{kept_at, InParts, KeptSections, report_of, MergedAndCompacted as AllLate, Committed}
@@ -46,7 +46,7 @@ next-outside : {text ws : List ℕ} {index limit : ℕ} (kept delta tombstones u
     → kept_at text ws index (kept - delta) delta ≡ report
     → SectionRoom ws index limit → used ≤ capacity limit → tombstones ≤ slack limit → delta ≤ kept → length report ≤ limit
     → InParts text ws index used (kept - delta) delta tombstones → PartInside text test
-    → StepOf text ws index limit (counted limit (accepted (outside report (part_in text test)))) (Next (with_closed kept delta tombstones used test))
+    → StepOf text ws index limit (counted limit (accepted (outside report (part_in text test)))) (Ok (with_closed kept delta tombstones used test))
 unfolding outside entries include_all merge_items tabulate
 next-outside {text} {ws} {index} {limit} kept delta tombstones used test report e ρ m d l f σ i =
     let same : length report + tombstones ≡ kept - delta + delta = ap (λ (x : Report). length x + tombstones) (sym e) ∙ kept-length σ in
@@ -69,13 +69,13 @@ kept-few {text} {ws} {index} {limit} {st} ζ = go st.inside ζ.fits
 
 module _ {text ws : List ℕ} {index limit : ℕ} (st : State) where
   pub test-inside : (name : Bytes) → st.inside ≡ true
-      → StepOf text ws index limit (counted limit (effect (test_name name) (state_of text ws index st))) (Refused UnexpectedRecord)
+      → StepOf text ws index limit (counted limit (effect (test_name name) (state_of text ws index st))) (Err UnexpectedRecord)
   unfolding effect
   test-inside name e = record { is = rw e; valid = tt }
 
   pub test-outside : {name : Part} → HoldsState text ws index limit st → PartInside text name → st.inside ≡ false
       → StepOf text ws index limit (counted limit (effect (test_name (part_in text name)) (state_of text ws index st)))
-      (Next (with_closed st.kept st.delta st.tombstones st.used name))
+      (Ok (with_closed st.kept st.delta st.tombstones st.used name))
   unfolding effect
   test-outside {name} ζ i e =
       rw e (next-outside st.kept st.delta st.tombstones st.used name _ refl ζ.space.room ζ.space.most ζ.space.tombstones ζ.space.delta
@@ -84,12 +84,12 @@ module _ {text ws : List ℕ} {index limit : ℕ} (st : State) where
 -- ---- SF
 
 module _ {text ws : List ℕ} {index limit : ℕ} (st : State) where
-  pub second_path : (path : Bytes) → st.has_path ≡ true → StepBy (effect (source_file path)) text ws ws index limit st (Refused SecondSourceFile)
+  pub second_path : (path : Bytes) → st.has_path ≡ true → StepBy (effect (source_file path)) text ws ws index limit st (Err SecondSourceFile)
   unfolding effect name_section
   second_path path e = record { is = rw e; valid = tt }
 
   -- the first SF gives the path and opens the section
-  pub first-path : {ws' : List ℕ} {path : Part} {named : State} {r : Step} → HoldsState text ws index limit st → st.has_path ≡ false
+  pub first-path : {ws' : List ℕ} {path : Part} {named : State} {r : Result State Fault} → HoldsState text ws index limit st → st.has_path ≡ false
       → named ≡ with_path st path → StepBy ignored text ws ws' index limit named r → StepBy (effect (source_file (part_in text path))) text ws ws' index limit st r
   unfolding effect name_section ignored open_section
   first-path ζ e f σ = step_as (rw (f, e)) σ
@@ -114,14 +114,14 @@ module _ {text ws : List ℕ} {index limit : ℕ} {st : State} (ζ : HoldsState 
   number = by-inside ζ (λ o. held-length (ζ.open_items o)) (λ z e. omega (arith, ap length e))
 
   -- no row may be had for the section itself
-  pub open_full : limit + st.tombstones ≤ st.kept → StepOf text ws index limit answer (Refused TooManyEntries)
+  pub open_full : limit + st.tombstones ≤ st.kept → StepOf text ws index limit answer (Err TooManyEntries)
   open_full h = record {
     is = sym (is-opened ∙ within-past limit (length S.kept + suc (length S.items)) opened (omega (arith, kept_size ζ)));
     valid = tt;
   }
 
   pub open_next : {ws' : List ℕ} {header : ℕ} → RowReserved ws ws' index st.used limit st.kept header → st.kept < limit + st.tombstones → length ws' ≡ length ws
-      → StepOf text ws' index limit answer (Next (with_open st header st.sizes))
+      → StepOf text ws' index limit answer (Ok (with_open st header st.sizes))
   unfolding open_section
   open_next ρ h len =
       record {
@@ -191,7 +191,7 @@ kept-most test path (i ∷ items) kept =
 module _ {text ws : List ℕ} {index limit : ℕ} {st : State} (ζ : HoldsState text ws index limit st) where
   pub end_empty : rows_of st.sizes ≡ 0
       → StepOf text ws index limit (counted limit (effect end_of_record (state_of text ws index st)))
-      (Next (with_closed st.kept st.delta st.tombstones st.used no_part))
+      (Ok (with_closed st.kept st.delta st.tombstones st.used no_part))
   unfolding effect keep_section
   end_empty z =
       rw (no_items text ws index (st.kept + 1) st.sizes z)
@@ -232,7 +232,7 @@ module _ {text ws : List ℕ} {index limit : ℕ} {st : State} (ζ : HoldsState 
         → path_of text key ≡ part_in text st.path → length ws₂ ≡ length ws → q ≡ kept_sizes_of st → most ≡ slack limit → r.tombstones ≤ most
         → Committed text ws₁ ws₂ index st.used q n key r
         → StepOf text ws₂ index limit (counted limit (effect end_of_record (state_of text ws index st)))
-        (Next (with_closed (r.main + r.delta) r.delta r.tombstones st.used no_part))
+        (Ok (with_closed (r.main + r.delta) r.delta r.tombstones st.used no_part))
     unfolding effect
     end_kept {ws₂} key r h t p len e m d κ = go (closed_as e κ)
       where
@@ -241,7 +241,7 @@ module _ {text ws : List ℕ} {index limit : ℕ} {st : State} (ζ : HoldsState 
 
         go : Committed text ws₁ ws₂ index st.used (kept_sizes_of st) n key r
             → StepOf text ws₂ index limit (counted limit (accepted (outside after [])))
-            (Next (with_closed (r.main + r.delta) r.delta r.tombstones st.used no_part))
+            (Ok (with_closed (r.main + r.delta) r.delta r.tombstones st.used no_part))
         go κ =
             next-outside (r.main + r.delta) r.delta r.tombstones st.used no_part after
             (ap (λ (m : ℕ). kept_at text ws₂ index m r.delta) some

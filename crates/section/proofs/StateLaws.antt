@@ -10,6 +10,7 @@ use Rattle.table.specs.Places.{tabulate, Unchanged}
 use Rattle.table.specs.Rows.{UnchangedOutside}
 use Rattle.table.specs.Store.{row, Store}
 use Rattle.table.proofs.WordLaws.{kept_wider}
+use Rattle.model.specs.declared.Fault.{Fault}
 use Rattle.model.specs.declared.Part.{Part}
 use Rattle.model.specs.Lists.{filter}
 use Rattle.model.specs.Answer.{Answer}
@@ -22,8 +23,7 @@ use Rattle.section_tail.specs.Tail.{include_all, calls_in, rows_of, end_of, item
 use Rattle.section_tail.proofs.ItemLaws.{same-held, same_included}
 use Rattle.section_tail.proofs.UpsertLaws.{none_open as none-in-main}
 use Rattle.section.specs.declared.State.{State}
-use Rattle.section.specs.declared.Step.{Step}
-use Rattle.section.specs.declared.Step.TheVariants.{Next}
+use Rattle.std.specs.Prelude.{Result, Ok}
 use Rattle.section_commit.specs.declared.KeptSizes.{KeptSizes}
 use Rattle.section_commit.specs.Commit.{InParts, KeptSections, report_of}
 use Rattle.section_commit.proofs.HeldLaws.{parts_as, kept_as, kept-length, all-main}
@@ -320,12 +320,12 @@ start_state text ws index = refl
 
 -- ---- answers
 
-pub step_as : {text ws : List ℕ} {index limit : ℕ} {a b : Answer ModelState} {r : Step} → a ≡ b → StepOf text ws index limit a r
+pub step_as : {text ws : List ℕ} {index limit : ℕ} {a b : Answer ModelState} {r : Result State Fault} → a ≡ b → StepOf text ws index limit a r
     → StepOf text ws index limit b r
 step_as e σ = rw e at σ
 
-pub next_as : {text ws : List ℕ} {index limit : ℕ} {a : Answer ModelState} {st st' : State} → st ≡ st' → StepOf text ws index limit a (Next st')
-    → StepOf text ws index limit a (Next st)
+pub next_as : {text ws : List ℕ} {index limit : ℕ} {a : Answer ModelState} {st st' : State} → st ≡ st' → StepOf text ws index limit a (Ok st')
+    → StepOf text ws index limit a (Ok st)
 next_as e σ = rw e σ
 
 -- the place of spare words as the code has it

@@ -1,10 +1,11 @@
 -- The state between two lines, read back from the words. Assumes nothing.
-use Rattle.std.specs.Prelude.{ℕ, ◌+◌, ◌-◌, ◌*◌, ◌/◌, ◌≤◌, ◌<◌, ◌≡◌, ◌⊎◌, Bool, true, false, List, length}
+use Rattle.std.specs.Prelude.{ℕ, ◌+◌, ◌-◌, ◌*◌, ◌/◌, ◌≤◌, ◌<◌, ◌≡◌, ◌⊎◌, Bool, true, false, List, length, Result, Ok, Err}
 use Rattle.std.proofs.Math.Option.{Option, none, some}
 use Rattle.table.specs.Places.{Unchanged}
 use Rattle.table.specs.Rows.{row_words, UnchangedOutside}
 use Rattle.table.specs.Store.{row, Store}
 use Rattle.model.specs.declared.Part.{Part}
+use Rattle.model.specs.declared.Fault.{Fault}
 use Rattle.model.specs.Bytes.{Bytes}
 use Rattle.model.specs.Answer.{Answer, accepted, ◌>>=◌, refuse}
 use Rattle.model.specs.Report.{within}
@@ -13,8 +14,6 @@ use Rattle.table_item.specs.Items.{part_in, PartInside}
 use Rattle.section_tail.specs.declared.OpenSizes.{OpenSizes}
 use Rattle.section_tail.specs.Tail.{rows_of, items_of, OpenSection}
 use Rattle.section.specs.declared.State.{State}
-use Rattle.section.specs.declared.Step.{Step}
-use Rattle.section.specs.declared.Step.TheVariants.{Next, Refused}
 use Rattle.table_section.specs.Sections.{entries_at, Sections}
 use Rattle.section_commit.specs.declared.KeptSizes.{KeptSizes}
 use Rattle.section_commit.specs.Commit.{KeptSections, report_of}
@@ -150,21 +149,21 @@ pub record HoldsState (text ws : List ℕ) (index limit : ℕ) (st : State) : Ty
 abbrev pub counted : ℕ → Answer ModelState → Answer ModelState
 counted limit answer = answer >>= λ next. within limit (entries next) next
 
-abbrev pub seen_step : Bytes → List ℕ → ℕ → Step → Answer ModelState
-seen_step text ws index (Next st) = accepted (state_of text ws index st)
-seen_step text ws index (Refused fault) = refuse fault
+abbrev pub seen_step : Bytes → List ℕ → ℕ → Result State Fault → Answer ModelState
+seen_step text ws index (Ok st) = accepted (state_of text ws index st)
+seen_step text ws index (Err fault) = refuse fault
 
-abbrev pub ValidStep : Bytes → List ℕ → ℕ → ℕ → Step → Type 0
-ValidStep text ws index limit (Next st) = HoldsState text ws index limit st
-ValidStep text ws index limit (Refused fault) = Unit {0}
+abbrev pub ValidStep : Bytes → List ℕ → ℕ → ℕ → Result State Fault → Type 0
+ValidStep text ws index limit (Ok st) = HoldsState text ws index limit st
+ValidStep text ws index limit (Err fault) = Unit {0}
 
 -- the step's answer is the model's, and its state is fit for the next line
-pub record StepOf (text ws' : List ℕ) (index limit : ℕ) (answer : Answer ModelState) (r : Step) : Type 0 where
+pub record StepOf (text ws' : List ℕ) (index limit : ℕ) (answer : Answer ModelState) (r : Result State Fault) : Type 0 where
   pub is : seen_step text ws' index r ≡ answer
   pub valid : ValidStep text ws' index limit r
 
 -- the step is an effect on the state that the words ws hold, and the words ws' hold what comes of it
-abbrev pub StepBy : (ModelState → Answer ModelState) → List ℕ → List ℕ → List ℕ → ℕ → ℕ → State → Step → Type 0
+abbrev pub StepBy : (ModelState → Answer ModelState) → List ℕ → List ℕ → List ℕ → ℕ → ℕ → State → Result State Fault → Type 0
 StepBy effect text ws ws' index limit st r = StepOf text ws' index limit (counted limit (effect (state_of text ws index st))) r
 
 -- ---- the end of the text

@@ -13,7 +13,7 @@ ghost use Rattle.section.specs.Reading.{slack, capacity, SectionRoom, RowReserve
 
 use model::{Fault, Part};
 use section_commit::{KeptSizes, commit_section};
-use section_tail::{OpenSizes, Outcome, add_row, flush_all, flush_midway};
+use section_tail::{OpenSizes, add_row, flush_all, flush_midway};
 use table::Row;
 
 // The state between two lines: the number of kept rows, of those in the delta, and of tombstones; the number of rows in
@@ -29,12 +29,6 @@ pub struct State {
     pub test: Part,
     pub path: Part,
     pub has_path: bool,
-}
-
-#[derive(Clone, Copy)]
-pub enum Step {
-    Next(State),
-    Refused(Fault),
 }
 
 // One tombstone may remain for so many entries.
@@ -71,18 +65,11 @@ fn kept_sizes(state: State) -> KeptSizes
 fn with_open(state: State, used: usize, sizes: OpenSizes) -> State
     ensures { result ≡ with_open state used sizes }
 {
-    let test = state.test;
-    let path = state.path;
     State {
-        kept: state.kept,
-        delta: state.delta,
-        tombstones: state.tombstones,
-        used: used,
-        sizes: sizes,
+        used,
+        sizes,
         inside: true,
-        test: test,
-        path: path,
-        has_path: state.has_path,
+        ..state
     }
 }
 
@@ -90,18 +77,10 @@ fn with_open(state: State, used: usize, sizes: OpenSizes) -> State
 fn with_path(state: State, path: Part) -> State
     ensures { result ≡ with_path state path }
 {
-    let sizes = state.sizes;
-    let test = state.test;
     State {
-        kept: state.kept,
-        delta: state.delta,
-        tombstones: state.tombstones,
-        used: state.used,
-        sizes: sizes,
-        inside: state.inside,
-        test: test,
-        path: path,
+        path,
         has_path: true,
+        ..state
     }
 }
 
@@ -118,13 +97,13 @@ fn with_closed(kept: usize, delta: usize, tombstones: usize, used: usize, test: 
         calls: 0,
     };
     State {
-        kept: kept,
-        delta: delta,
-        tombstones: tombstones,
-        used: used,
+        kept,
+        delta,
+        tombstones,
+        used,
         sizes: empty,
         inside: false,
-        test: test,
+        test,
         path: none,
         has_path: false,
     }
@@ -164,14 +143,14 @@ pub fn on_item(
     state: State,
     row: Row,
     accumulate: bool,
-) -> Step
+) -> Result<State, Fault>
     requires { HoldsState text.now words.old index limit state × ItemRow text.now row × RowOfLine accumulate row }
     ensures { StepBy (enter_item (combine_of accumulate) (item_of text.now row)) text.now words.old words.new index limit state result }
 {
     let kept = state.kept;
     let most = limit + state.tombstones;
     if most <= kept {
-        return Step::Refused(Fault::TooManyEntries);
+        return Err(Fault::TooManyEntries);
     }
     let sizes = state.sizes;
     let header_used = reserve_row(words, index, state.used, limit, kept);
@@ -189,33 +168,31 @@ pub fn on_item(
         row,
         accumulate,
     ) {
-        Outcome::Items(next) => {
+        Ok(next) => {
             let end = kept + 1 + next.main + next.delta + next.tail;
             if end <= most {
-                return Step::Next(with_open(state, used, next));
+                return Ok(with_open(state, used, next));
             }
             let all = flush_midway(text, words, index, used, spare, kept + 1, next);
             let total = kept + 1 + all.main + all.delta;
             if most < total {
-                return Step::Refused(Fault::TooManyEntries);
+                return Err(Fault::TooManyEntries);
             }
-            return Step::Next(with_open(state, used, all));
+            Ok(with_open(state, used, all))
         }
-        Outcome::Refused(fault) => {
-            return Step::Refused(fault);
-        }
+        Err(fault) => Err(fault),
     }
 }
 
 // TN: the name of the next section.
-pub fn on_test_name(state: State, name: Part) -> Step
+pub fn on_test_name(state: State, name: Part) -> Result<State, Fault>
     ensures { (text words : List ℕ) (index limit : ℕ) → HoldsState text words index limit state → PartInside text name → StepBy (effect (test_name (part_in text name))) text words words index limit state result }
 {
     let inside = state.inside;
     if inside {
-        return Step::Refused(Fault::UnexpectedRecord);
+        return Err(Fault::UnexpectedRecord);
     }
-    Step::Next(with_closed(state.kept, state.delta, state.tombstones, state.used, name))
+    Ok(with_closed(state.kept, state.delta, state.tombstones, state.used, name))
 }
 
 // SF: the path of the section, which has no other.
@@ -225,29 +202,34 @@ pub fn on_source_file(
     limit: usize,
     state: State,
     path: Part,
-) -> Step
+) -> Result<State, Fault>
     requires { StateRoom words.old index limit state }
     ensures { (text : List ℕ) → HoldsState text words.old index limit state → PartInside text path → StepBy (effect (source_file (part_in text path))) text words.old words.new index limit state result }
 {
     let has_path = state.has_path;
     if has_path {
-        return Step::Refused(Fault::SecondSourceFile);
+        return Err(Fault::SecondSourceFile);
     }
     let named = with_path(state, path);
     open_section(words, index, limit, named)
 }
 
 // The found and hit lines, which only open the section.
-pub fn open_section(words: &mut [u64], index: usize, limit: usize, state: State) -> Step
+pub fn open_section(
+    words: &mut [u64],
+    index: usize,
+    limit: usize,
+    state: State,
+) -> Result<State, Fault>
     requires { StateRoom words.old index limit state }
     ensures { (text : List ℕ) → HoldsState text words.old index limit state → StepBy ignored text words.old words.new index limit state result }
 {
     let kept = state.kept;
     if limit + state.tombstones <= kept {
-        return Step::Refused(Fault::TooManyEntries);
+        return Err(Fault::TooManyEntries);
     }
     let used = reserve_row(words, index, state.used, limit, kept);
-    Step::Next(with_open(state, used, state.sizes))
+    Ok(with_open(state, used, state.sizes))
 }
 
 // end_of_record: commits the open section, all its items in main, unless it is empty.
@@ -257,7 +239,7 @@ pub fn on_end_of_record(
     index: usize,
     limit: usize,
     state: State,
-) -> Step
+) -> Result<State, Fault>
     requires { HoldsState text.now words.old index limit state }
     ensures { StepBy (effect end_of_record) text.now words.old words.new index limit state result }
 {
@@ -265,7 +247,7 @@ pub fn on_end_of_record(
     let sizes = state.sizes;
     let used = state.used;
     if sizes.main + sizes.delta + sizes.tail == 0 {
-        return Step::Next(with_closed(state.kept, state.delta, state.tombstones, used, none));
+        return Ok(with_closed(state.kept, state.delta, state.tombstones, used, none));
     }
     let spare = index + capacity(limit);
     let items = flush_all(text, words, index, used, spare, state.kept + 1, sizes);
@@ -276,11 +258,7 @@ pub fn on_end_of_record(
         test_len: test.len as u64,
         path: path.start as u64,
         path_len: path.len as u64,
-        tag: 0,
-        k1: 0,
-        k2: 0,
-        k3: 0,
-        count: 0,
+        ..Row::default()
     };
     let after = commit_section(
         text,
@@ -294,7 +272,7 @@ pub fn on_end_of_record(
         slack(limit),
     );
     let kept = after.main + after.delta;
-    Step::Next(with_closed(kept, after.delta, after.tombstones, used, none))
+    Ok(with_closed(kept, after.delta, after.tombstones, used, none))
 }
 
 // The end of the text: merges and compacts, so that all kept entries are in main. Answers how many there are.

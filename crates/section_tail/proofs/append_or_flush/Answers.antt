@@ -1,5 +1,5 @@
 -- `section_tail::append_or_flush` meets its contract: one law for each way out. Assumes nothing.
-use Rattle.std.proofs.Common.{◌∙◌, arith, sym, ap}
+use Rattle.std.proofs.Common.{◌∙◌, arith, sym, ap, rules}
 use Rattle.table_item.specs.Combining.{seen_one}
 use Rattle.table_item.proofs.CompareLaws.{inner_as}
 use Rattle.section_tail.proofs.ItemLaws.{last_inner}
