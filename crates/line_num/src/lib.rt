@@ -4,7 +4,7 @@
 
 ghost use Rattle.std.specs.Prelude.{◌≡◌, ◌&&◌, ◌||◌, ◌+◌, ◌-◌, ◌<◌, ◌^◌, min, leb, length, get_or, set};
 ghost use Rattle.model.specs.Ranges.{query_call, insert_call};
-ghost use Rattle.model.specs.Calls.{query_answer, InsertCall, ValueCall};
+ghost use Rattle.model.specs.Calls.{call_answer, InsertCall, ValueCall};
 ghost use Rattle.line_num_pairs.specs.Pairs.{pair};
 ghost use Rattle.line_num.specs.Scans.{scan_start, passes_by, stays_by, scanned_by, scan_of, scan_answer};
 ghost use Rattle.line_num.specs.Steps.{plan_by, plan_of, answer_of, PlanFits, read_at, put_at, rewritten};
@@ -136,7 +136,7 @@ fn scan_all(list: &[Range], used: usize, start: u32, end: u32) -> Scan
 }
 
 fn query_answer(found: Scan, used: usize, len: usize) -> Result<bool, Refusal>
-    ensures { result ≡ query_answer (scan_answer found used len) }
+    ensures { result ≡ call_answer (scan_answer found used len) }
 {
     if len < used {
         return Err(Refusal::from(Fault::MalformedRanges));
