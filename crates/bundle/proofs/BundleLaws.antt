@@ -1,15 +1,13 @@
 -- A bundle's sizes and places, as the code meets them. Assumes nothing.
-use Prim.Native.Nat.{ℕ, zero, suc, ◌+◌, ◌*◌, ◌-◌, ◌^◌, ◌≤◌, ◌<◌}
+use Prim.Native.Nat.{ℕ, suc, ◌+◌, ◌*◌, ◌-◌, ◌^◌, ◌≤◌, ◌<◌}
 use native.Mathlib.Omega.{arith}
 use native.Mathlib.Numerals.{add-one}
 use mathlib.Core.Path.{◌≡◌, refl, sym, ap, ◌∙◌}
 use mathlib.Core.Logic.{◌≢◌}
 use mathlib.Core.Bool.{Bool, true, false, ◌&&◌}
-use mathlib.Core.List.Memᴰ.{head as here}
-use mathlib.Core.List.Memᴰ.{tail as there}
-use mathlib.Core.List.{List, [], ◌∷◌, Memᴰ as Member}
-use lib.Dec.{leb, ltb, eqb}
-use borrow.Author.Tests.{leb-true, le-leb, lt-leb, lt-ltb, eqb-true, eqb-false, eq-eqb, ne_eqb}
+use mathlib.Core.List.{List, ◌∷◌}
+use lib.Dec.{leb, eqb}
+use borrow.Author.Tests.{leb-true, le-leb, lt-leb, eqb-true, eq-eqb, ne_eqb}
 use mir.Val.{Fits}
 use mir.Syntax.{w64}
 use lib.ListN.{length, get_or, take, drop}
@@ -21,7 +19,7 @@ use Rattle.model.specs.Limits.{u32_max, max_texts}
 use Rattle.model.specs.Bundle.{u32_at, text_count, text_bytes, text_start, text_length, well_formed}
 use Rattle.model.proofs.ListLaws.{and_left, and_right, all-each, from_member}
 use Rattle.compare.specs.Prefixes.{number_of, IsNumber}
-use Rattle.bundle.specs.Marks.{is_marked, NextMarked}
+use Rattle.bundle.specs.Marks.{is_marked}
 use Rattle.bundle.specs.Places.{part_from, TextsInside, fits_from, well_formed_as}
 
 -- four bytes are a little-endian u32
@@ -183,45 +181,6 @@ module _ (s : Bytes) (body i : ℕ) (inside : TextsInside s body) (h : i < text_
 
 -- ---- marks
 
-module _ (marks : List ℕ) (i : ℕ) where
-  in_marks : (l : List ℕ) (k : ℕ) → k < length l → get_or l k 0 ≡ get_or l k 1
-  in_marks [] k h = absurd (omega arith)
-  in_marks (x ∷ l) zero h = refl
-  in_marks (x ∷ l) (suc k) h = in_marks l k (omega arith)
-
-  past-marks : (l : List ℕ) (k : ℕ) → length l ≤ k → get_or l k 1 ≡ 1
-  past-marks [] k h = refl
-  past-marks (x ∷ l) zero h = absurd (omega arith)
-  past-marks (x ∷ l) (suc k) h = past-marks l k (omega arith)
-
-  pub mark_zero : i < length marks → get_or marks i 0 ≡ 0 → false ≡ is_marked marks i
-  mark_zero h e = rw (sym (in_marks marks i h) ∙ e)
-
-  pub mark_set : i < length marks → get_or marks i 0 ≢ 0 → true ≡ is_marked marks i
-  mark_set h e = sym (lt-ltb 0 (get_or marks i 1) (omega (arith, in_marks marks i h, e)))
-
-  pub mark_past : length marks ≤ i → true ≡ is_marked marks i
-  mark_past h = rw (past-marks marks i h)
-
 -- those from i up to `at` are not marked
 abbrev pub Passed : List ℕ → ℕ → ℕ → Type 0
 Passed marks i at = (k : ℕ) → i ≤ k → k < at → is_marked marks k ≡ false
-
-pub passed_none : (marks : List ℕ) (i : ℕ) → Passed marks i i
-passed_none marks i k l h = absurd (omega arith)
-
-module _ (marks : List ℕ) (n i at : ℕ) (least : i ≤ at) (p : Passed marks i at) where
-  pub passed-next : (b : Bool) → b ≡ is_marked marks at → b ≡ false → Passed marks i (at + 1)
-  passed-next b e f k l h = go (eqb k at) refl
-    where
-      go : (t : Bool) → eqb k at ≡ t → is_marked marks k ≡ false
-      go true q = rw (eqb-true k at q) (sym e ∙ f)
-      go false q = p k l (omega (arith, eqb-false k at q))
-
-  pub marked-here : at < n → (b : Bool) → b ≡ is_marked marks at → b ≡ true → NextMarked marks n i at
-  marked-here h b e f = record { least = least; most = omega arith; passed = p; marked = λ l. sym e ∙ f }
-
-  pub marked-none : n ≤ at → at ≤ n → NextMarked marks n i n
-  marked-none h l =
-      let z : at ≡ n = omega arith in
-      record { least = omega arith; most = omega arith; passed = rw z at p; marked = λ k. absurd (omega arith) }

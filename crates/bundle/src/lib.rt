@@ -46,12 +46,10 @@ fn all_fit(bundle: &[u8], n: usize, total: usize) -> bool
     requires { (n ≡ text_count bundle.now) × (8 + 8 * n ≤ length bundle.now) }
     ensures { result ≡ fits_from bundle.now 0 n total }
 {
-    let mut i = 0;
-    while i < n {
+    for i in 0..n {
         if total < text_start(bundle, i) + text_len(bundle, n, i) {
             return false;
         }
-        i += 1;
     }
     true
 }
@@ -116,13 +114,7 @@ pub fn text_part(bundle: &[u8], body: usize, i: usize) -> Part
 fn is_marked(marks: &[u8], i: usize) -> bool
     ensures { result ≡ is_marked marks.now i }
 {
-    if i < marks.len() {
-        if marks[i] == 0 {
-            return false;
-        }
-        return true;
-    }
-    true
+    i >= marks.len() || marks[i] != 0
 }
 
 // The first of the texts from the i-th on that is chosen; n where none is.
@@ -130,12 +122,10 @@ pub fn next_marked(marks: &[u8], n: usize, i: usize) -> usize
     requires { i ≤ n }
     ensures { NextMarked marks.now n i result }
 {
-    let mut at = i;
-    while at < n {
+    for at in i..n {
         if is_marked(marks, at) {
             return at;
         }
-        at += 1;
     }
     n
 }

@@ -75,12 +75,10 @@ fn is_repeat(bundle: &[u8], n: usize, i: usize) -> bool
     requires { Counted bundle.now n × (i < n) }
     ensures { result ≡ is_repeat bundle.now i }
 {
-    let mut j = 0;
-    while j < i {
+    for j in 0..i {
         if same_pair(bundle, n, j, i) {
             return true;
         }
-        j += 1;
     }
     false
 }
@@ -90,12 +88,10 @@ fn is_highest(bundle: &[u8], n: usize, i: usize) -> bool
     requires { Counted bundle.now n × (i < n) }
     ensures { result ≡ is_highest bundle.now i }
 {
-    let mut j = 0;
-    while j < n {
+    for j in 0..n {
         if is_higher(bundle, n, i, j) {
             return false;
         }
-        j += 1;
     }
     true
 }
@@ -106,12 +102,10 @@ pub fn first_repeat(bundle: &[u8]) -> usize
     ensures { FirstRepeatAt bundle.now result }
 {
     let n = text_count(bundle);
-    let mut i = 0;
-    while i < n {
+    for i in 0..n {
         if is_repeat(bundle, n, i) {
             return i;
         }
-        i += 1;
     }
     n
 }
@@ -122,9 +116,7 @@ pub fn mark_highest(bundle: &[u8], marks: &mut [u8])
     ensures { HighestMarked bundle.now marks.new }
 {
     let n = text_count(bundle);
-    let mut i = 0;
-    while i < n {
+    for i in 0..n {
         marks[i] = is_highest(bundle, n, i) as u8;
-        i += 1;
     }
 }

@@ -14,7 +14,6 @@ ghost use Rattle.model.specs.Output.{written, output_after};
 ghost use Rattle.model.specs.Printing.{sections, print_sections};
 ghost use Rattle.model.specs.Ranges.{well_formed_ranges};
 ghost use Rattle.model.specs.Report.{end_of};
-ghost use Rattle.model.specs.TagTable.{tags_of, are_tags};
 ghost use Rattle.model.specs.Valid.{ItemFits};
 ghost use Rattle.table_item.specs.Items.{kind_of, item_of};
 ghost use Rattle.table_item.specs.SortedItems.{items_at};
@@ -26,10 +25,12 @@ ghost use Rattle.print_report.specs.Printing.{PrintableTable, UnchangedBefore, A
 ghost use Rattle.line_num_pairs.specs.Pairs.{ranges_in};
 ghost use Rattle.filter.specs.Keeping.{chosen, keeps, Ahead, Behind, Chosen};
 ghost use Rattle.filter.specs.Filtered.{filtered_from, Holding, functions_left, KeptRows, SectionPrintable, kept_lines};
+ghost use Rattle.tag_table.specs.Tags.{tag_of};
 
 use model::{Bound, Refusal};
 use print_report::{KindRanges, Printed};
 use table::Row;
+use tag_table::Tags;
 
 // What a row must meet to stay: a function that has a start; a branch or line whose line is held; a function whose range, up to its end
 // or the start that bounds it, queries yes.
@@ -99,13 +100,11 @@ fn skip_starts(words: &[u64], next: usize, n: usize, start: u32) -> usize
     ensures most { result ≤ n }
     ensures first { (text : List ℕ) → end_before (bounding GreaterStart start (items_by text words.now next n)) ≡ end_before (items_by text words.now (next + result) (n - result)) }
 {
-    let mut i = 0;
-    while i < n {
+    for i in 0..n {
         let j = words[next + i] as usize;
         if start < start_line(table::read_row(words, j)) {
             return i;
         }
-        i += 1;
     }
     n
 }
@@ -114,8 +113,8 @@ fn skip_starts(words: &[u64], next: usize, n: usize, start: u32) -> usize
 // Functions of one start are neighbours and have one end, so that of the row looked at last is used again: the rows behind are walked
 // once for all of them.
 fn reckon_end(words: &[u64], start: u32, next: usize, n: usize, bound: Bound, last: Looked) -> u32
-    requires by_index { (text : List ℕ) × Printable text words.now next n }
-    requires by_index_2 { (text : List ℕ) → bound ≡ GreaterStart → last.start ≡ start → last.end ≡ end_before (bounding GreaterStart start (items_by text words.now next n)) }
+    requires printable { (text : List ℕ) × Printable text words.now next n }
+    requires last_end { (text : List ℕ) → bound ≡ GreaterStart → last.start ≡ start → last.end ≡ end_before (bounding GreaterStart start (items_by text words.now next n)) }
     ensures { (text : List ℕ) → result ≡ end_before (bounding bound start (items_by text words.now next n)) }
 {
     match bound {
@@ -151,11 +150,11 @@ fn look(
     rule: Rule,
     last: Looked,
 ) -> Looked
-    requires by_index { (text : List ℕ) × Printable text words.now at n }
-    requires by_index_2 { (text : List ℕ) → Ahead rule last (items_by text words.now at n) }
+    requires printable { (text : List ℕ) × Printable text words.now at n }
+    requires ahead { (text : List ℕ) → Ahead rule last (items_by text words.now at n) }
     requires n_nonzero { (0 < n) × (well_formed_ranges (ranges_in pairs.now) count ≡ true) }
-    ensures by_index_3 { (text : List ℕ) → result.stays ≡ keeps rule (take count (ranges_in pairs.now)) (item_of text (row_at words.now (word words.now at))) (items_by text words.now (at + 1) (n - 1)) }
-    ensures by_index_4 { (text : List ℕ) → Ahead rule result (items_by text words.now (at + 1) (n - 1)) }
+    ensures stays { (text : List ℕ) → result.stays ≡ keeps rule (take count (ranges_in pairs.now)) (item_of text (row_at words.now (word words.now at))) (items_by text words.now (at + 1) (n - 1)) }
+    ensures ahead_next { (text : List ℕ) → Ahead rule result (items_by text words.now (at + 1) (n - 1)) }
 {
     let j = words[at] as usize;
     let row = table::read_row(words, j);
@@ -195,26 +194,22 @@ fn keep(
     n: usize,
     rule: Rule,
 ) -> usize
-    requires by_index { (text : List ℕ) × Behind text words.old numbers n }
+    requires behind { (text : List ℕ) × Behind text words.old numbers n }
     requires count_value { well_formed_ranges (ranges_in pairs.now) count ≡ true }
     ensures { Chosen (chosen rule (take count (ranges_in pairs.now))) words.old words.new numbers n numbers result }
 {
     let mut kept = 0;
-    let mut i = 0;
     // before the first row: no start bounds a function that starts at 2^32 − 1
     let mut last = Looked {
         stays: false,
         start: u32::MAX,
         end: u32::MAX,
     };
-    while i < n {
+    for i in 0..n {
         last = look(words, pairs, count, numbers + i, n - i, rule, last);
         if last.stays {
             words[numbers + kept] = words[numbers + i];
             kept += 1;
-            i += 1;
-        } else {
-            i += 1;
         }
     }
     kept
@@ -229,7 +224,7 @@ fn keep_held(
     n: usize,
     to: usize,
 ) -> usize
-    requires by_index { (text : List ℕ) × Behind text words.old from n }
+    requires behind { (text : List ℕ) × Behind text words.old from n }
     requires n_bound { (from + n ≤ to) × (to + n ≤ length words.old) × (well_formed_ranges (ranges_in pairs.now) count ≡ true) }
     ensures { Chosen (filter (is_held (take count (ranges_in pairs.now)))) words.old words.new from n to result }
 {
@@ -314,7 +309,7 @@ fn keep_rows(
 
 // The lines of a section of which rows stay. "Emptied sections print TN, SF, end_of_record."
 fn print_kept(
-    tags: &[u8],
+    tags: Tags,
     text: &[u8],
     words: &[u64],
     header: Row,
@@ -324,10 +319,9 @@ fn print_kept(
     at: usize,
     write: bool,
 ) -> usize
-    requires tags_value { are_tags tags.now ≡ true }
     requires section_printable { SectionPrintable text.now words.now header numbers kept }
-    requires room_for { RoomFor write out.old at (kept_lines (tags_of tags.now) text.now words.now header numbers kept) }
-    ensures { Emitted write out.old out.new at (kept_lines (tags_of tags.now) text.now words.now header numbers kept) result }
+    requires room_for { RoomFor write out.old at (kept_lines (tag_of tags) text.now words.now header numbers kept) }
+    ensures { Emitted write out.old out.new at (kept_lines (tag_of tags.entry) text.now words.now header numbers kept) result }
 {
     let f = kept.functions;
     let b = kept.branches;
@@ -363,7 +357,7 @@ fn print_kept(
 
 // Filters the section whose header row is at position lo.
 fn filter_section(
-    tags: &[u8],
+    tags: Tags,
     text: &[u8],
     words: &mut [u64],
     pairs: &[[u32; 2]],
@@ -378,10 +372,9 @@ fn filter_section(
     at: usize,
     write: bool,
 ) -> Printed
-    requires tags_value { are_tags tags.now ≡ true }
     requires printable_table { PrintableTable text.now words.old index used n spare × (lo < n) × (kind_of (row words.old index lo) ≡ 0) }
-    requires count_value { (well_formed_ranges (ranges_in pairs.now) count ≡ true) × RoomFor write out.old at (filtered_from (tags_of tags.now) bound (take count (ranges_in pairs.now)) text.now index n words.old lo) }
-    ensures { SectionPrinted (filtered_from (tags_of tags.now) bound (take count (ranges_in pairs.now)) text.now index n) write words.old words.new out.old out.new index n lo spare at result }
+    requires count_value { (well_formed_ranges (ranges_in pairs.now) count ≡ true) × RoomFor write out.old at (filtered_from (tag_of tags) bound (take count (ranges_in pairs.now)) text.now index n words.old lo) }
+    ensures { SectionPrinted (filtered_from (tag_of tags.entry) bound (take count (ranges_in pairs.now)) text.now index n) write words.old words.new out.old out.new index n lo spare at result }
 {
     let header = table::get(words, index, used, lo);
     let runs = print_report::find_kind_ranges(words, index, used, n, lo + 1);
@@ -405,7 +398,7 @@ fn filter_section(
 
 // All sections, from the output's start on.
 fn filter_sections(
-    tags: &[u8],
+    tags: Tags,
     text: &[u8],
     words: &mut [u64],
     pairs: &[[u32; 2]],
@@ -418,14 +411,14 @@ fn filter_sections(
     out: &mut [u8],
     write: bool,
 ) -> usize
-    requires tags_value { are_tags tags.now ≡ true }
     requires printable_table { PrintableTable text.now words.old index used n spare }
-    requires count_value { (well_formed_ranges (ranges_in pairs.now) count ≡ true) × RoomFor write out.old 0 (filtered_from (tags_of tags.now) bound (take count (ranges_in pairs.now)) text.now index n words.old 0) }
-    ensures emitted { Emitted write out.old out.new 0 (filtered_from (tags_of tags.now) bound (take count (ranges_in pairs.now)) text.now index n words.old 0) result }
+    requires count_value { (well_formed_ranges (ranges_in pairs.now) count ≡ true) × RoomFor write out.old 0 (filtered_from (tag_of tags) bound (take count (ranges_in pairs.now)) text.now index n words.old 0) }
+    ensures emitted { Emitted write out.old out.new 0 (filtered_from (tag_of tags.entry) bound (take count (ranges_in pairs.now)) text.now index n words.old 0) result }
     ensures unchanged_before { UnchangedBefore words.old words.new spare }
 {
     let mut lo = 0;
     let mut at = 0;
+    // moves to the next section
     while lo < n {
         let done = filter_section(
             tags, text, words, pairs, count, bound, index, used, n, lo, spare, out, at, write,
@@ -438,7 +431,7 @@ fn filter_sections(
 
 // A length that is enough for the filtered report, as `print_report::required_len`: where all of the report fits, so does what stays of it.
 fn required_len(
-    tags: &[u8],
+    tags: Tags,
     text: &[u8],
     words: &mut [u64],
     pairs: &[[u32; 2]],
@@ -450,9 +443,8 @@ fn required_len(
     spare: usize,
     out: &mut [u8],
 ) -> usize
-    requires tags_value { are_tags tags.now ≡ true }
     requires printable_table { PrintableTable text.now words.old index used n spare × (well_formed_ranges (ranges_in pairs.now) count ≡ true) }
-    ensures required_length { RequiredLength out.old out.new (filtered_from (tags_of tags.now) bound (take count (ranges_in pairs.now)) text.now index n words.old 0) result }
+    ensures required_length { RequiredLength out.old out.new (filtered_from (tag_of tags.entry) bound (take count (ranges_in pairs.now)) text.now index n words.old 0) result }
     ensures unchanged_before { UnchangedBefore words.old words.new spare }
 {
     if print_bound::surely_fits(tags, words, index, used, n, out.len()) {
@@ -465,7 +457,7 @@ fn required_len(
 
 // Prints the report of the first n rows, filtered by the first `count` pairs; the output and `spare` as for `print_report::print_report`.
 pub fn print_filtered(
-    tags: &[u8],
+    tags: Tags,
     text: &[u8],
     words: &mut [u64],
     pairs: &[[u32; 2]],
@@ -477,11 +469,10 @@ pub fn print_filtered(
     spare: usize,
     out: &mut [u8],
 ) -> Result<usize, Refusal>
-    requires tags_value { are_tags tags.now ≡ true }
     requires table { Table text.now words.old index used n × (n ≤ max_entries) × (well_formed_ranges (ranges_in pairs.now) count ≡ true) }
     requires used_bound { (index + used ≤ spare) × (spare + n + n ≤ length words.old) }
-    ensures value { result ≡ write_answer (written (length out.old) (print_sections (tags_of tags.now) (map (filter_section bound (take count (ranges_in pairs.now))) (sections (entries_at text.now words.old index n))))) }
-    ensures out_after { out.new ≡ output_after (written (length out.old) (print_sections (tags_of tags.now) (map (filter_section bound (take count (ranges_in pairs.now))) (sections (entries_at text.now words.old index n))))) out.old }
+    ensures value { result ≡ write_answer (written (length out.old) (print_sections (tag_of tags.entry) (map (filter_section bound (take count (ranges_in pairs.now))) (sections (entries_at text.now words.old index n))))) }
+    ensures out_after { out.new ≡ output_after (written (length out.old) (print_sections (tag_of tags.entry) (map (filter_section bound (take count (ranges_in pairs.now))) (sections (entries_at text.now words.old index n))))) out.old }
 {
     let needed = required_len(
         tags, text, words, pairs, count, bound, index, used, n, spare, out,

@@ -8,6 +8,7 @@ ghost use Rattle.format.specs.Put.{put_len, over, pair};
 ghost use Rattle.format.specs.Digits.{Subtracted, Begun};
 
 // Writes s at the front of out, where out holds it, and answers how many bytes it wrote.
+#[tactic(auto, using(crate::proofs::PutLaws::short_len, crate::proofs::PutLaws::short_out, crate::proofs::PutLaws::fits_len, crate::proofs::PutLaws::copied_out))]
 pub fn put_bytes(s: &[u8], out: &mut [u8]) -> usize
     ensures value { result ≡ put_len (written (length out.old) s.now) }
     ensures out_after { out.new ≡ output_after (written (length out.old) s.now) out.old }
@@ -15,12 +16,8 @@ pub fn put_bytes(s: &[u8], out: &mut [u8]) -> usize
     if out.len() < s.len() {
         return 0;
     }
-    let mut i = 0;
-    while i < s.len() {
-        out[i] = s[i];
-        i += 1;
-    }
-    i
+    out[..s.len()].copy_from_slice(s);
+    s.len()
 }
 
 // The powers of ten that a u64 holds: entry k is 10^k (`power_at` in proofs/PowerLaws.antt).
@@ -68,6 +65,7 @@ pub fn decimal_len(v: u64) -> usize
     if POWERS[19] <= v {
         return 20;
     }
+    // no `for`: the power is what the loop counts, and it ends where the next one would not fit
     let mut power = POWERS[1];
     let mut n = 1;
     while power <= v {
@@ -77,7 +75,8 @@ pub fn decimal_len(v: u64) -> usize
     n
 }
 
-// Subtracts a power of ten as often as it fits: at most nine times, since v is below ten times the power.
+// Subtracts a power of ten as often as it fits: at most nine times, since v is below ten times the power. The requirements name this form
+// (docs/ARCHITECTURE.md), which is faster than a division (docs/BENCHMARKS.md); what counts is the rest, so it is no `for`.
 fn digit_of(v: u64, power: u64) -> Digit
     requires { v < 10 * power }
     ensures { Subtracted v power result }
@@ -99,9 +98,7 @@ fn put_run(v: u64, before: Written, from: usize, to: usize, out: &mut [u8]) -> W
     let powers = POWERS;
     let mut rest = before.rest;
     let mut at = before.at;
-    let mut k = from;
-    while to < k {
-        k -= 1;
+    for k in (to..from).rev() {
         let power = powers[k];
         if power <= v {
             let next = digit_of(rest, power);

@@ -7,7 +7,6 @@ ghost use Rattle.std.proofs.Math.Dec.{compare_is_eq};
 ghost use Rattle.model.specs.Limits.{max_entries};
 ghost use Rattle.model.specs.Bytes.{compare_bytes};
 ghost use Rattle.model.specs.Path.{components, compare_paths};
-ghost use Rattle.model.specs.TagTable.{tags_of, are_tags};
 ghost use Rattle.model.specs.Report.{compare_items, compare_sections, compare_keys, entry_key, count_of};
 ghost use Rattle.model.specs.Gather.{entry_limit};
 ghost use Rattle.model_bounds.specs.Bounds.{same_keys, counts_rise, hits_of, bounds, hit_bounds, bounds_answer};
@@ -17,11 +16,13 @@ ghost use Rattle.table_section.specs.Sections.{entry_of, key_of, entries_at, Nam
 ghost use Rattle.report_parser.specs.Reader.{TextRead};
 ghost use Rattle.scratch_layout.specs.Layout.{index_at, base_at, ScratchRoom};
 ghost use Rattle.hit_bounds.specs.Pairs.{same_branch, HitsBelow, with_hit, Kept, ReadRest, bounds_behind};
+ghost use Rattle.tag_table.specs.Tags.{tag_of};
 
 use model::{Fault, Refusal};
 use model_bounds::{Result<Bounds, Refusal>, Hits};
 use report_parser::TextAnswer;
 use table::Row;
+use tag_table::Tags;
 
 // The rows of a table that are used, and how many of them are entries, in front.
 #[derive(Clone, Copy)]
@@ -133,22 +134,19 @@ fn add_hit(hits: Hits, row: Row) -> Hits
     let kind = row.tag / 2;
     if kind == table_item::FUNCTION {
         return Hits {
-            lines: hits.lines,
             functions: hits.functions + 1,
-            branches: hits.branches,
+            ..hits
         };
     }
     if kind == table_item::BRANCH {
         return Hits {
-            lines: hits.lines,
-            functions: hits.functions,
             branches: hits.branches + 1,
+            ..hits
         };
     }
     Hits {
         lines: hits.lines + 1,
-        functions: hits.functions,
-        branches: hits.branches,
+        ..hits
     }
 }
 
@@ -164,10 +162,8 @@ fn count_hits(words: &[u64], index: usize, rows: Rows) -> Hits
         functions: 0,
         branches: 0,
     };
-    let mut i = 0;
-    while i < n {
+    for i in 0..n {
         hits = add_hit(hits, table::get(words, index, used, i));
-        i += 1;
     }
     hits
 }
@@ -191,13 +187,10 @@ fn keys_agree(
     if n != h.kept {
         return false;
     }
-    let mut i = 0;
-    while i < n {
+    for i in 0..n {
         let x = table::get(low, index, used, i);
         let y = table::get(high, index, other, i);
-        if same_key(least, x, greatest, y) {
-            i += 1;
-        } else {
+        if !same_key(least, x, greatest, y) {
             return false;
         }
     }
@@ -209,14 +202,12 @@ fn counts_rise(low: &[u64], used: usize, high: &[u64], other: usize, n: usize, i
     requires { Store low.now index used × Store high.now index other × (n ≤ used) × (n ≤ other) }
     ensures { (a b : List ℕ) → result ≡ counts_rise (entries_at a low.now index n) (entries_at b high.now index n) }
 {
-    let mut i = 0;
-    while i < n {
+    for i in 0..n {
         let x = table::get(low, index, used, i);
         let y = table::get(high, index, other, i);
         if count_of(y) < count_of(x) {
             return false;
         }
-        i += 1;
     }
     true
 }
@@ -274,10 +265,9 @@ fn compare_halves(
 }
 
 // Reads a text into the front of the scratch, where a gather has its joined table.
-fn read_front(tags: &[u8], text: &[u8], scratch: &mut [u64], limit: usize) -> TextAnswer
-    requires tags_value { are_tags tags.now ≡ true }
+fn read_front(tags: Tags, text: &[u8], scratch: &mut [u64], limit: usize) -> TextAnswer
     requires scratch_room { ScratchRoom scratch.old limit }
-    ensures { TextRead (tags_of tags.now) text.now (take (base_at limit) scratch.new) (index_at limit) limit 0 result }
+    ensures { TextRead (tag_of tags.entry) text.now (take (base_at limit) scratch.new) (index_at limit) limit 0 result }
 {
     let base = scratch_layout::base_at(limit);
     let index = scratch_layout::index_at(limit);
@@ -285,10 +275,9 @@ fn read_front(tags: &[u8], text: &[u8], scratch: &mut [u64], limit: usize) -> Te
 }
 
 // Reads a text into the words behind it.
-fn read_rest(tags: &[u8], text: &[u8], scratch: &mut [u64], limit: usize) -> TextAnswer
-    requires tags_value { are_tags tags.now ≡ true }
+fn read_rest(tags: Tags, text: &[u8], scratch: &mut [u64], limit: usize) -> TextAnswer
     requires scratch_room { ScratchRoom scratch.old limit }
-    ensures { ReadRest (tags_of tags.now) text.now scratch.old scratch.new limit result }
+    ensures { ReadRest (tag_of tags.entry) text.now scratch.old scratch.new limit result }
 {
     let base = scratch_layout::base_at(limit);
     let index = scratch_layout::index_at(limit);
@@ -297,16 +286,15 @@ fn read_rest(tags: &[u8], text: &[u8], scratch: &mut [u64], limit: usize) -> Tex
 
 // The greatest text read behind the least, whose rows these are, and both compared.
 fn find_behind(
-    tags: &[u8],
+    tags: Tags,
     least: &[u8],
     l: Rows,
     greatest: &[u8],
     scratch: &mut [u64],
     limit: usize,
 ) -> Result<Bounds, Refusal>
-    requires tags_value { are_tags tags.now ≡ true }
     requires scratch_room { ScratchRoom scratch.old limit × Kept least.now (take (base_at limit) scratch.old) (index_at limit) l }
-    ensures { result ≡ bounds_answer (bounds_behind (tags_of tags.now) (entries_at least.now (take (base_at limit) scratch.old) (index_at limit) l.kept) greatest.now limit) }
+    ensures { result ≡ bounds_answer (bounds_behind (tag_of tags.entry) (entries_at least.now (take (base_at limit) scratch.old) (index_at limit) l.kept) greatest.now limit) }
 {
     match read_rest(tags, greatest, scratch, limit) {
         TextAnswer::Refused(refusal) => Err(joined_table::in_text(1, refusal)),
@@ -318,9 +306,8 @@ fn find_behind(
 }
 
 // The bounds of the hit numbers of a run whose counts are known by two texts. E is for each text by itself.
-pub fn find_bounds(tags: &[u8], least: &[u8], greatest: &[u8], scratch: &mut [u64]) -> Result<Bounds, Refusal>
-    requires { are_tags tags.now ≡ true }
-    ensures { result ≡ bounds_answer (hit_bounds (tags_of tags.now) least.now greatest.now (length scratch.old)) }
+pub fn find_bounds(tags: Tags, least: &[u8], greatest: &[u8], scratch: &mut [u64]) -> Result<Bounds, Refusal>
+    ensures { result ≡ bounds_answer (hit_bounds (tag_of tags.entry) least.now greatest.now (length scratch.old)) }
 {
     let limit = scratch_layout::entry_limit(scratch.len());
     match read_front(tags, least, scratch, limit) {

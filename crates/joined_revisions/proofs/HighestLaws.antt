@@ -21,8 +21,7 @@ use Rattle.bundle.specs.Marks.{is_marked}
 use Rattle.bundle.specs.Places.{text_from, TextsInside}
 use Rattle.bundle_revisions.specs.Revisions.{Counted, FirstRepeatAt, HighestMarked}
 use Rattle.bundle_revisions.proofs.RevisionLaws.{well_few, well_length, well_text}
-use Rattle.joined_table.specs.declared.Gathered.{Gathered}
-use Rattle.joined_table.specs.declared.Gathered.TheVariants as G
+use Rattle.std.specs.Prelude.{Result as Answered, Ok, Err}
 use Rattle.joined_table.specs.Gathering.{marked_texts, BundleGathered}
 use Rattle.joined_revisions.specs.Repeats.{repeat_at}
 
@@ -43,14 +42,14 @@ module _ (bundle : Bytes) (b : Bool) (is : b ≡ well_formed_revisions bundle) (
 
   module _ (tag : Kind → Bytes) (words : ℕ) (ws : List ℕ) (i : ℕ) (first : FirstRepeatAt bundle i) (n : ℕ) (c : Counted bundle n) where
     -- a pair is repeated
-    pub repeat_refused : i < n → (q : Refusal) → q ≡ repeat_at i → BundleGathered (gather_highest tag bundle words) bundle ws (entry_limit words) (G.Refused q)
+    pub repeat_refused : i < n → (q : Refusal) → q ≡ repeat_at i → BundleGathered (gather_highest tag bundle words) bundle ws (entry_limit words) (Err q)
     unfolding gather_highest
     repeat_refused l q e =
         let found = first.found (omega (arith, c.count)) in
         record { is = rw (well, found, e); held = tt }
 
     -- none is: the marked texts are those of the highest revisions
-    pub highest-gathered : n ≤ i → (marks : List ℕ) → HighestMarked bundle marks → (body : ℕ) → body ≡ 8 + 16 * text_count bundle → (r : Gathered)
+    pub highest-gathered : n ≤ i → (marks : List ℕ) → HighestMarked bundle marks → (body : ℕ) → body ≡ 8 + 16 * text_count bundle → (r : Answered ℕ Refusal)
         → BundleGathered (gather_texts tag Checked (entry_limit words) (marked_texts body marks bundle) []) bundle ws (entry_limit words) r
         → BundleGathered (gather_highest tag bundle words) bundle ws (entry_limit words) r
     unfolding gather_highest highest_texts revision_text
@@ -62,7 +61,7 @@ module _ (bundle : Bytes) (b : Bool) (is : b ≡ well_formed_revisions bundle) (
         rw (well, missing) (rw same at g)
 
 pub ill_refused : (tag : Kind → Bytes) (bundle : Bytes) (words : ℕ) (ws : List ℕ) (b : Bool) → b ≡ well_formed_revisions bundle → b ≡ false → (q : Refusal)
-    → q ≡ unplaced MalformedBundle → BundleGathered (gather_highest tag bundle words) bundle ws (entry_limit words) (G.Refused q)
+    → q ≡ unplaced MalformedBundle → BundleGathered (gather_highest tag bundle words) bundle ws (entry_limit words) (Err q)
 unfolding gather_highest
 ill_refused tag bundle words ws b is h q e =
     let ill : well_formed_revisions bundle ≡ false = sym is ∙ h in

@@ -25,15 +25,14 @@ use Rattle.model.specs.Gather.{entry_limit, gather_texts, gather_bundle}
 use Rattle.table_section.specs.Sections.{entries_at}
 use Rattle.section.specs.Table.{Table}
 use Rattle.scratch_layout.specs.Layout.{index_at, base_at}
-use Rattle.joined_table.specs.declared.Gathered.{Gathered}
-use Rattle.joined_table.specs.declared.Gathered.TheVariants as G
+use Rattle.std.specs.Prelude.{Result as Answered, Ok, Err}
 use Rattle.joined_table.specs.Gathering.{marked_texts, GatheredAs, BundleGathered}
 use Rattle.joined_table.proofs.TableLaws.{entries_wider, table_wider}
 
 -- the joined table is in front of words that go on
-pub in_words : (answer : Answer Report) (text ws : List ℕ) (limit : ℕ) (r : Gathered) → GatheredAs answer text ws limit r → BundleGathered answer text ws limit r
-in_words answer text ws limit (G.Refused q) g = record { is = g.is; held = tt }
-in_words answer text ws limit (G.Entries n) g =
+pub in_words : (answer : Answer Report) (text ws : List ℕ) (limit : ℕ) (r : Answered ℕ Refusal) → GatheredAs answer text ws limit r → BundleGathered answer text ws limit r
+in_words answer text ws limit (Err q) g = record { is = g.is; held = tt }
+in_words answer text ws limit (Ok n) g =
     let front = take (base_at limit) ws in
     let behind = drop (base_at limit) ws in
     let parts : front ++ behind ≡ ws = take-append-drop (base_at limit) ws in
@@ -49,7 +48,7 @@ in_words answer text ws limit (G.Entries n) g =
     }
 
 -- the limit is that of the scratch
-pub marked-gathered : (tag : Kind → Bytes) (mode : Mode) (texts : List Text) (bundle : Bytes) (words limit : ℕ) (ws : List ℕ) (r : Gathered) → limit ≡ entry_limit words
+pub marked-gathered : (tag : Kind → Bytes) (mode : Mode) (texts : List Text) (bundle : Bytes) (words limit : ℕ) (ws : List ℕ) (r : Answered ℕ Refusal) → limit ≡ entry_limit words
     → GatheredAs (gather_texts tag mode limit texts []) bundle ws limit r
     → BundleGathered (gather_texts tag mode (entry_limit words) texts []) bundle ws (entry_limit words) r
 marked-gathered tag mode texts bundle words limit ws r e g = in_words _ bundle ws (entry_limit words) r (rw e at g)
@@ -92,7 +91,7 @@ module _ (bundle : Bytes) (b : Bool) (is : b ≡ well_formed bundle) where
   bundle-inside h = texts-inside bundle (well h)
 
   module _ (tag : Kind → Bytes) (mode : Mode) (words : ℕ) (ws : List ℕ) where
-    pub bundle-gathered : b ≡ true → (body : ℕ) → body ≡ 8 + 8 * text_count bundle → (r : Gathered)
+    pub bundle-gathered : b ≡ true → (body : ℕ) → body ≡ 8 + 8 * text_count bundle → (r : Answered ℕ Refusal)
         → BundleGathered (gather_texts tag mode (entry_limit words) (marked_texts body [] bundle) []) bundle ws (entry_limit words) r
         → BundleGathered (gather_bundle tag mode bundle words) bundle ws (entry_limit words) r
     unfolding gather_bundle
@@ -101,7 +100,7 @@ module _ (bundle : Bytes) (b : Bool) (is : b ≡ well_formed bundle) where
         rw (well h) (rw same at g)
 
     pub bundle-refused : b ≡ false → (q : Refusal) → q ≡ unplaced MalformedBundle
-        → BundleGathered (gather_bundle tag mode bundle words) bundle ws (entry_limit words) (G.Refused q)
+        → BundleGathered (gather_bundle tag mode bundle words) bundle ws (entry_limit words) (Err q)
     unfolding gather_bundle
     bundle-refused h q e =
         let ill : well_formed bundle ≡ false = sym is ∙ h in

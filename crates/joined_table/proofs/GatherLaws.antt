@@ -30,11 +30,8 @@ use Rattle.section.specs.Reading.{capacity}
 use Rattle.report_parser.specs.declared.TextAnswer.{TextAnswer}
 use Rattle.report_parser.specs.declared.TextAnswer.TheVariants as T
 use Rattle.report_parser.specs.Reader.{seen_text}
-use Rattle.merge.specs.declared.Joined.{Joined}
-use Rattle.merge.specs.declared.Joined.TheVariants as J
 use Rattle.merge.specs.Merging.{Tables, seen_joined, HeldJoined, MergedAsModel}
-use Rattle.joined_table.specs.declared.Gathered.{Gathered}
-use Rattle.joined_table.specs.declared.Gathered.TheVariants as G
+use Rattle.std.specs.Prelude.{Result as Answered, Ok, Err}
 use Rattle.scratch_layout.specs.Layout.{index_at, base_at, ScratchRoom}
 use Rattle.joined_table.specs.Gathering.{in_text_of, joined_at, JoinedTable, ReadOne, ReadBehind, marked_texts, seen_gathered, GatheredAs}
 use Rattle.joined_table.proofs.TableLaws.{table_none}
@@ -55,7 +52,7 @@ module _ (tag : Kind → Bytes) (bundle : Bytes) (body : ℕ) (ws ws' : List ℕ
   answer = gather_text tag mode limit (text_from body bundle i).bytes (joined_at bundle ws limit n)
 
   -- it is not readable
-  pub text-refused : (q r : Refusal) → got ≡ T.Refused q → r ≡ in_text_of i q → GatheredAs (in_text i answer) bundle ws' limit (G.Refused r)
+  pub text-refused : (q r : Refusal) → got ≡ T.Refused q → r ≡ in_text_of i q → GatheredAs (in_text i answer) bundle ws' limit (Err r)
   unfolding gather_text
   text-refused q r e h =
       let read : refused q ≡ read_text tag limit (text_from body bundle i).bytes = rw e at b.read.is in
@@ -81,7 +78,7 @@ module _ (tag : Kind → Bytes) (bundle : Bytes) (body : ℕ) (ws ws' : List ℕ
             most = j.most;
           }
 
-      module _ (ws'' : List ℕ) (done : Joined) (m : MergedAsModel bundle ws' ws'' base index limit n kept mode done) where
+      module _ (ws'' : List ℕ) (done : Answered ℕ Fault) (m : MergedAsModel bundle ws' ws'' base index limit n kept mode done) where
         merged : seen_joined bundle (take (base_at limit) ws'') (index_at limit) done ≡ answer
         unfolding gather_text
         merged =
@@ -89,15 +86,15 @@ module _ (tag : Kind → Bytes) (bundle : Bytes) (body : ℕ) (ws ws' : List ℕ
             ∙ rw (← read_is, b.stays)
 
         -- they agree
-        pub text-joined : (k : ℕ) → done ≡ J.Entries k → GatheredAs (in_text i answer) bundle ws'' limit (G.Entries k)
+        pub text-joined : (k : ℕ) → done ≡ Ok k → GatheredAs (in_text i answer) bundle ws'' limit (Ok k)
         text-joined k f =
             let is : accepted (entries_at bundle (take (base_at limit) ws'') (index_at limit) k) ≡ answer = rw f at merged in
             let held : Table bundle (take base ws'') index k k × (k ≤ limit) = rw f at m.held in
             record { is = rw (← is); held = record { table = rw (at_base, at-index) at held.0; most = held.1 } }
 
         -- they do not
-        pub text_conflict : (fault : Fault) (q r : Refusal) → done ≡ J.Refused fault → q ≡ unplaced fault → r ≡ in_text_of i q
-            → GatheredAs (in_text i answer) bundle ws'' limit (G.Refused r)
+        pub text_conflict : (fault : Fault) (q r : Refusal) → done ≡ Err fault → q ≡ unplaced fault → r ≡ in_text_of i q
+            → GatheredAs (in_text i answer) bundle ws'' limit (Err r)
         text_conflict fault q r f g h =
             let is : refuse fault ≡ answer = rw f at merged in
             record { is = rw (h, g, ← is); held = tt }
@@ -113,12 +110,12 @@ module _ (tag : Kind → Bytes) (bundle : Bytes) (body : ℕ) (ws ys us : List �
   alone-is = rw none_yet (read-alone tag limit mode (text_from body bundle i).bytes) ∙ sym o.is
 
   -- it is not readable
-  pub front-refused : (q r : Refusal) → got ≡ T.Refused q → r ≡ in_text_of i q → GatheredAs (in_text i alone) bundle us limit (G.Refused r)
+  pub front-refused : (q r : Refusal) → got ≡ T.Refused q → r ≡ in_text_of i q → GatheredAs (in_text i alone) bundle us limit (Err r)
   front-refused q r e h = record { is = rw (alone-is, e, h); held = tt }
 
   -- all rows are the text's: they are the joined table
   pub front-joined : (kept used base : ℕ) → got ≡ T.Read kept used → kept ≡ used → base ≡ base_at limit → take base us ≡ ys
-      → GatheredAs (in_text i alone) bundle us limit (G.Entries kept)
+      → GatheredAs (in_text i alone) bundle us limit (Ok kept)
   front-joined kept used base e f g h =
       let held : Table bundle ys (index_at limit) used kept × (used ≤ capacity limit) × (kept ≤ limit) = rw e at o.held in
       let part : take (base_at limit) us ≡ ys = rw g at h in
@@ -132,7 +129,7 @@ joining_none bundle ws limit space =
     record { table = table_none bundle (take (base_at limit) ws) (index_at limit) (omega arith); most = omega arith }
 
 -- what was read in front doesn't matter
-pub text_again : (tag : Kind → Bytes) (bundle : Bytes) (body : ℕ) (ws us ws' : List ℕ) (mode : Mode) (limit n i : ℕ) (got : Gathered) → n ≡ 0
+pub text_again : (tag : Kind → Bytes) (bundle : Bytes) (body : ℕ) (ws us ws' : List ℕ) (mode : Mode) (limit n i : ℕ) (got : Answered ℕ Refusal) → n ≡ 0
     → GatheredAs (in_text i (gather_text tag mode limit (text_from body bundle i).bytes (joined_at bundle us limit 0))) bundle ws' limit got
     → GatheredAs (in_text i (gather_text tag mode limit (text_from body bundle i).bytes (joined_at bundle ws limit n))) bundle ws' limit got
 unfolding tabulate
@@ -198,14 +195,14 @@ module _ (tag : Kind → Bytes) (bundle : Bytes) (body : ℕ) (marks ws : List �
       }
 
   module _ (n i : ℕ) (l : Left tag bundle body marks ws mode limit count n i) where
-    pub left_done : count ≤ i → GatheredAs whole bundle ws limit (G.Entries n)
+    pub left_done : count ≤ i → GatheredAs whole bundle ws limit (Ok n)
     unfolding choose_texts filter from gather_texts
     left_done h =
         let none_left : count - i ≡ 0 = omega arith in
         let is = rw none_left at l.left in
         record { is = is; held = l.joining }
 
-    module _ (more : i < count) (ws' : List ℕ) (got : Gathered)
+    module _ (more : i < count) (ws' : List ℕ) (got : Answered ℕ Refusal)
         (g : GatheredAs (in_text i (gather_text tag mode limit (text_from body bundle i).bytes (joined_at bundle ws limit n))) bundle ws' limit got) where
       one_more : (seen_gathered bundle ws' limit got >>= λ joined. gather_texts tag mode limit (chosen body bundle marks count (i + 1)) joined) ≡ whole
       unfolding gather_texts
@@ -213,10 +210,10 @@ module _ (tag : Kind → Bytes) (bundle : Bytes) (body : ℕ) (marks ws : List �
           rw g.is
           (ap (λ (ts : List Text). gather_texts tag mode limit ts (joined_at bundle ws limit n)) (sym (next-chosen body bundle marks count i more (l.marked more))) ∙ l.left)
 
-      pub left-refused : (r : Refusal) → got ≡ G.Refused r → GatheredAs whole bundle ws' limit (G.Refused r)
+      pub left-refused : (r : Refusal) → got ≡ Err r → GatheredAs whole bundle ws' limit (Err r)
       left-refused r h = record { is = rw h at one_more; held = tt }
 
-      pub left-next : (k j : ℕ) → got ≡ G.Entries k → NextMarked marks count (i + 1) j → Left tag bundle body marks ws' mode limit count k j
+      pub left-next : (k j : ℕ) → got ≡ Ok k → NextMarked marks count (i + 1) j → Left tag bundle body marks ws' mode limit count k j
       left-next k j h ν = record {
         joining = rw h at g.held;
         left = ap (λ (ts : List Text). gather_texts tag mode limit ts (joined_at bundle ws' limit k)) (sym (next-passed body bundle marks count (i + 1) j ν)) ∙ rw h at one_more;

@@ -17,8 +17,7 @@ use Rattle.section.specs.Reading.{capacity}
 use Rattle.report_parser.specs.declared.TextAnswer.{TextAnswer}
 use Rattle.report_parser.specs.declared.TextAnswer.TheVariants as T
 use Rattle.report_parser.specs.Reader.{seen_text}
-use Rattle.joined_table.specs.declared.Gathered.{Gathered}
-use Rattle.joined_table.specs.declared.Gathered.TheVariants as G
+use Rattle.std.specs.Prelude.{Result as Answered, Ok, Err}
 use Rattle.scratch_layout.specs.Layout.{index_at, base_at}
 
 -- ---- refusals
@@ -58,30 +57,30 @@ pub record ReadBehind (tag : Kind → Bytes) (bundle : Bytes) (body : ℕ) (ws w
 abbrev pub marked_texts : ℕ → List ℕ → Bytes → List Text
 marked_texts body marks bundle = choose_texts (is_marked marks) (text_from body bundle) 0 (text_count bundle)
 
-abbrev pub seen_gathered : Bytes → List ℕ → ℕ → Gathered → Answer Report
-seen_gathered text ws limit (G.Entries n) = accepted (joined_at text ws limit n)
-seen_gathered text ws limit (G.Refused r) = refused r
+abbrev pub seen_gathered : Bytes → List ℕ → ℕ → Answered ℕ Refusal → Answer Report
+seen_gathered text ws limit (Ok n) = accepted (joined_at text ws limit n)
+seen_gathered text ws limit (Err r) = refused r
 
-abbrev pub HeldGathered : Bytes → List ℕ → ℕ → Gathered → Type 0
-HeldGathered text ws limit (G.Entries n) = JoinedTable text ws limit n
-HeldGathered text ws limit (G.Refused r) = Unit {0}
+abbrev pub HeldGathered : Bytes → List ℕ → ℕ → Answered ℕ Refusal → Type 0
+HeldGathered text ws limit (Ok n) = JoinedTable text ws limit n
+HeldGathered text ws limit (Err r) = Unit {0}
 
 -- the words hold what the answer says
-pub record GatheredAs (answer : Answer Report) (text ws : List ℕ) (limit : ℕ) (r : Gathered) : Type 0 where
+pub record GatheredAs (answer : Answer Report) (text ws : List ℕ) (limit : ℕ) (r : Answered ℕ Refusal) : Type 0 where
   pub is : seen_gathered text ws limit r ≡ answer
   pub held : HeldGathered text ws limit r
 
 -- ---- a bundle gathered
 
-abbrev pub seen_bundle : Bytes → List ℕ → ℕ → Gathered → Answer Report
-seen_bundle text ws limit (G.Entries n) = accepted (entries_at text ws (index_at limit) n)
-seen_bundle text ws limit (G.Refused r) = refused r
+abbrev pub seen_bundle : Bytes → List ℕ → ℕ → Answered ℕ Refusal → Answer Report
+seen_bundle text ws limit (Ok n) = accepted (entries_at text ws (index_at limit) n)
+seen_bundle text ws limit (Err r) = refused r
 
-abbrev pub HeldBundle : Bytes → List ℕ → ℕ → Gathered → Type 0
-HeldBundle text ws limit (G.Entries n) = Table text ws (index_at limit) n n × (n ≤ limit)
-HeldBundle text ws limit (G.Refused r) = Unit {0}
+abbrev pub HeldBundle : Bytes → List ℕ → ℕ → Answered ℕ Refusal → Type 0
+HeldBundle text ws limit (Ok n) = Table text ws (index_at limit) n n × (n ≤ limit)
+HeldBundle text ws limit (Err r) = Unit {0}
 
 -- the words hold the table of what is gathered, with no row that is no entry
-pub record BundleGathered (answer : Answer Report) (text ws : List ℕ) (limit : ℕ) (r : Gathered) : Type 0 where
+pub record BundleGathered (answer : Answer Report) (text ws : List ℕ) (limit : ℕ) (r : Answered ℕ Refusal) : Type 0 where
   pub is : seen_bundle text ws limit r ≡ answer
   pub held : HeldBundle text ws limit r

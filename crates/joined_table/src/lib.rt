@@ -5,17 +5,17 @@
 ghost use Rattle.std.specs.Prelude.{◌≡◌, [], true, ◌≤◌, ◌<◌, length};
 ghost use Rattle.model.specs.Limits.{max_texts, max_entries};
 ghost use Rattle.model.specs.Answer.{in_text};
-ghost use Rattle.model.specs.TagTable.{tags_of, are_tags};
 ghost use Rattle.model.specs.Bundle.{text_count};
 ghost use Rattle.bundle.specs.Places.{text_from, TextsInside};
 ghost use Rattle.model.specs.Gather.{entry_limit, gather_text, gather_texts, gather_bundle};
 ghost use Rattle.section.specs.Reading.{SectionRoom};
 ghost use Rattle.scratch_layout.specs.Layout.{index_at, ScratchRoom};
 ghost use Rattle.joined_table.specs.Gathering.{in_text_of, joined_at, JoinedTable, ReadOne, ReadBehind, marked_texts, GatheredAs, BundleGathered};
+ghost use Rattle.tag_table.specs.Tags.{tag_of};
 
-use merge::Joined;
 use model::{Fault, Mode, Refusal};
 use report_parser::TextAnswer;
+use tag_table::Tags;
 
 // A refusal, in the i-th text.
 pub fn in_text(i: usize, refusal: Refusal) -> Refusal
@@ -32,25 +32,17 @@ pub fn in_text(i: usize, refusal: Refusal) -> Refusal
     }
 }
 
-// How many entries are joined, or why there are none.
-#[derive(Clone, Copy)]
-pub enum Gathered {
-    Entries(usize),
-    Refused(Refusal),
-}
-
 // Reads the i-th text where it lies in the bundle.
 fn read_one(
-    tags: &[u8],
+    tags: Tags,
     bundle: &[u8],
     body: usize,
     words: &mut [u64],
     limit: usize,
     i: usize,
 ) -> TextAnswer
-    requires tags_value { are_tags tags.now ≡ true }
     requires texts_inside { TextsInside bundle.now body × (i < text_count bundle.now) × (limit ≤ max_entries) × SectionRoom words.old (index_at limit) limit }
-    ensures { ReadOne (tags_of tags.now) bundle.now body words.new limit i result }
+    ensures { ReadOne (tag_of tags.entry) bundle.now body words.new limit i result }
 {
     let part = bundle::text_part(bundle, body, i);
     let start = part.start;
@@ -61,16 +53,15 @@ fn read_one(
 
 // Reads the i-th text into the area behind the joined table.
 fn read_behind(
-    tags: &[u8],
+    tags: Tags,
     bundle: &[u8],
     body: usize,
     scratch: &mut [u64],
     limit: usize,
     i: usize,
 ) -> TextAnswer
-    requires tags_value { are_tags tags.now ≡ true }
     requires texts_inside { TextsInside bundle.now body × (i < text_count bundle.now) × ScratchRoom scratch.old limit }
-    ensures { ReadBehind (tags_of tags.now) bundle.now body scratch.old scratch.new limit i result }
+    ensures { ReadBehind (tag_of tags.entry) bundle.now body scratch.old scratch.new limit i result }
 {
     let base = scratch_layout::base_at(limit);
     read_one(tags, bundle, body, &mut scratch[base..], limit, i)
@@ -78,7 +69,7 @@ fn read_behind(
 
 // Reads the i-th text behind the joined table and merges it.
 fn gather_behind(
-    tags: &[u8],
+    tags: Tags,
     bundle: &[u8],
     body: usize,
     scratch: &mut [u64],
@@ -86,19 +77,18 @@ fn gather_behind(
     n: usize,
     i: usize,
     mode: Mode,
-) -> Gathered
-    requires tags_value { are_tags tags.now ≡ true }
+) -> Result<usize, Refusal>
     requires texts_inside { TextsInside bundle.now body × (i < text_count bundle.now) × ScratchRoom scratch.old limit × JoinedTable bundle.now scratch.old limit n }
-    ensures { GatheredAs (in_text i (gather_text (tags_of tags.now) mode limit (text_from body bundle.now i).bytes (joined_at bundle.now scratch.old limit n))) bundle.now scratch.new limit result }
+    ensures { GatheredAs (in_text i (gather_text (tag_of tags.entry) mode limit (text_from body bundle.now i).bytes (joined_at bundle.now scratch.old limit n))) bundle.now scratch.new limit result }
 {
     match read_behind(tags, bundle, body, scratch, limit, i) {
-        TextAnswer::Refused(refusal) => Gathered::Refused(in_text(i, refusal)),
+        TextAnswer::Refused(refusal) => Err(in_text(i, refusal)),
         TextAnswer::Read { kept, used } => {
             let base = scratch_layout::base_at(limit);
             let index = scratch_layout::index_at(limit);
             match merge::merge(bundle, scratch, base, index, limit, n, used, kept, mode) {
-                Joined::Entries(joined) => Gathered::Entries(joined),
-                Joined::Refused(fault) => Gathered::Refused(in_text(i, Refusal::from(fault))),
+                Ok(joined) => Ok(joined),
+                Err(fault) => Err(in_text(i, Refusal::from(fault))),
             }
         }
     }
@@ -108,7 +98,7 @@ fn gather_behind(
 // read into the joined table's area and is the joined table if all its rows are entries; otherwise it is read again
 // behind it and merged.
 fn gather_text(
-    tags: &[u8],
+    tags: Tags,
     bundle: &[u8],
     body: usize,
     scratch: &mut [u64],
@@ -116,20 +106,19 @@ fn gather_text(
     n: usize,
     i: usize,
     mode: Mode,
-) -> Gathered
-    requires tags_value { are_tags tags.now ≡ true }
+) -> Result<usize, Refusal>
     requires texts_inside { TextsInside bundle.now body × (i < text_count bundle.now) × ScratchRoom scratch.old limit × JoinedTable bundle.now scratch.old limit n }
-    ensures { GatheredAs (in_text i (gather_text (tags_of tags.now) mode limit (text_from body bundle.now i).bytes (joined_at bundle.now scratch.old limit n))) bundle.now scratch.new limit result }
+    ensures { GatheredAs (in_text i (gather_text (tag_of tags.entry) mode limit (text_from body bundle.now i).bytes (joined_at bundle.now scratch.old limit n))) bundle.now scratch.new limit result }
 {
     if n == 0 {
         let base = scratch_layout::base_at(limit);
         match read_one(tags, bundle, body, &mut scratch[..base], limit, i) {
             TextAnswer::Refused(refusal) => {
-                return Gathered::Refused(in_text(i, refusal));
+                return Err(in_text(i, refusal));
             }
             TextAnswer::Read { kept, used } => {
                 if kept == used {
-                    return Gathered::Entries(kept);
+                    return Ok(kept);
                 }
                 return gather_behind(tags, bundle, body, scratch, limit, 0, i, mode);
             }
@@ -140,61 +129,57 @@ fn gather_text(
 
 // "Gather begins with an empty report": the marked texts, one after the other.
 fn gather_texts(
-    tags: &[u8],
+    tags: Tags,
     bundle: &[u8],
     body: usize,
     marks: &[u8],
     scratch: &mut [u64],
     limit: usize,
     mode: Mode,
-) -> Gathered
-    requires tags_value { are_tags tags.now ≡ true }
+) -> Result<usize, Refusal>
     requires texts_inside { TextsInside bundle.now body × ScratchRoom scratch.old limit }
-    ensures { GatheredAs (gather_texts (tags_of tags.now) mode limit (marked_texts body marks.now bundle.now) []) bundle.now scratch.new limit result }
+    ensures { GatheredAs (gather_texts (tag_of tags.entry) mode limit (marked_texts body marks.now bundle.now) []) bundle.now scratch.new limit result }
 {
     let count = bundle::text_count(bundle);
     let mut n = 0;
     let mut i = bundle::next_marked(marks, count, 0);
+    // moves to the next text that is marked
     while i < count {
-        match gather_text(tags, bundle, body, scratch, limit, n, i, mode) {
-            Gathered::Refused(refusal) => {
-                return Gathered::Refused(refusal);
-            }
-            Gathered::Entries(joined) => {
-                n = joined;
-            }
-        }
+        n = gather_text(tags, bundle, body, scratch, limit, n, i, mode)?;
         i = bundle::next_marked(marks, count, i + 1);
     }
-    Gathered::Entries(n)
+    Ok(n)
 }
 
 // The marked texts of a bundle whose text bytes begin at `body`; the scratch says how many entries there may be. Refusals name a text by its
 // index in the whole bundle.
 pub fn gather_marked(
-    tags: &[u8],
+    tags: Tags,
     bundle: &[u8],
     body: usize,
     marks: &[u8],
     scratch: &mut [u64],
     mode: Mode,
-) -> Gathered
-    requires tags_value { are_tags tags.now ≡ true }
+) -> Result<usize, Refusal>
     requires texts_inside { TextsInside bundle.now body }
-    ensures { BundleGathered (gather_texts (tags_of tags.now) mode (entry_limit (length scratch.old)) (marked_texts body marks.now bundle.now) []) bundle.now scratch.new (entry_limit (length scratch.old)) result }
+    ensures { BundleGathered (gather_texts (tag_of tags.entry) mode (entry_limit (length scratch.old)) (marked_texts body marks.now bundle.now) []) bundle.now scratch.new (entry_limit (length scratch.old)) result }
 {
     let limit = scratch_layout::entry_limit(scratch.len());
     gather_texts(tags, bundle, body, marks, scratch, limit, mode)
 }
 
 // All texts of a bundle that is well formed.
-pub fn gather_bundle(tags: &[u8], bundle: &[u8], scratch: &mut [u64], mode: Mode) -> Gathered
-    requires { are_tags tags.now ≡ true }
-    ensures { BundleGathered (gather_bundle (tags_of tags.now) mode bundle.now (length scratch.old)) bundle.now scratch.new (entry_limit (length scratch.old)) result }
+pub fn gather_bundle(
+    tags: Tags,
+    bundle: &[u8],
+    scratch: &mut [u64],
+    mode: Mode,
+) -> Result<usize, Refusal>
+    ensures { BundleGathered (gather_bundle (tag_of tags.entry) mode bundle.now (length scratch.old)) bundle.now scratch.new (entry_limit (length scratch.old)) result }
 {
     if bundle::is_well_formed(bundle) {
         let body = bundle::body_at(bundle);
         return gather_marked(tags, bundle, body, b"", scratch, mode);
     }
-    Gathered::Refused(Refusal::from(Fault::MalformedBundle))
+    Err(Refusal::from(Fault::MalformedBundle))
 }

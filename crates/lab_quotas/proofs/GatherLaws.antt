@@ -1,6 +1,5 @@
 -- The texts of a lab gathered by themselves: the gather over the whole bundle, with the lab's own text indexes. Assumes nothing.
-use Prim.Native.Nat.{ℕ, zero, suc, ◌+◌, ◌*◌, ◌≤◌, ◌<◌}
-use native.Mathlib.Omega.{arith}
+use Prim.Native.Nat.{ℕ, zero, suc, ◌+◌, ◌*◌, ◌<◌}
 use mathlib.Core.Path.{◌≡◌, refl, sym, ap, ◌∙◌}
 use mathlib.Core.Bool.{Bool, true, false}
 use mathlib.Core.List.{List, [], ◌∷◌}
@@ -14,8 +13,7 @@ use Rattle.std.specs.Prelude.{if◌then◌else◌}
 use Rattle.model.specs.Bytes.{Bytes}
 use Rattle.model.specs.Answer.{Answer, accepted, refused, in_text}
 use Rattle.model.specs.Report.{Report}
-use Rattle.model.specs.Limits.{max_texts}
-use Rattle.model.specs.Bundle.{Text, contents, well_formed, text_count, text_at}
+use Rattle.model.specs.Bundle.{Text, contents, text_count, text_at}
 use Rattle.model.specs.Gather.{entry_limit, gather_text, gather_texts}
 use Rattle.text_choice.specs.declared.Mark.{Mark}
 use Rattle.text_choice.specs.declared.Mark.TheVariants.{RefusedLab}
@@ -27,8 +25,7 @@ use Rattle.bundle.specs.Marks.{MarkedAs}
 use Rattle.table.proofs.TabulateLaws.{length-tabulate}
 use Rattle.table_section.specs.Sections.{entry_at, entries_at}
 use Rattle.scratch_layout.specs.Layout.{index_at}
-use Rattle.joined_table.specs.declared.Gathered.{Gathered}
-use Rattle.joined_table.specs.declared.Gathered.TheVariants as G
+use Rattle.std.specs.Prelude.{Result as Answered, Ok, Err}
 use Rattle.joined_table.specs.Gathering.{in_text_of, marked_texts, BundleGathered}
 use Rattle.joined_table.proofs.BundleLaws.{marked-chosen}
 use Rattle.lab_quotas.specs.Labs.{is_of_lab, rank_of, lab_mark}
@@ -90,12 +87,12 @@ module _ (tag : Kind → Bytes) (bundle : Bytes) (labs : List ℕ) (count : leng
   mark_is quota = ap (λ (a : Answer Report). marked quota (map_accepted length a)) lab_ranked
 
   -- the marked texts are gathered, with this answer
-  module _ (marks : List ℕ) (body : ℕ) (at : body ≡ 8 + 8 * text_count bundle) (chosen : MarkedAs (is_of_lab labs lab) (length labs) marks) (ws : List ℕ) (got : Gathered)
+  module _ (marks : List ℕ) (body : ℕ) (at : body ≡ 8 + 8 * text_count bundle) (chosen : MarkedAs (is_of_lab labs lab) (length labs) marks) (ws : List ℕ) (got : Answered ℕ Refusal)
       (g : BundleGathered (gather_texts tag Checked (entry_limit words) (marked_texts body marks bundle) []) bundle ws (entry_limit words) got) where
     gathered : BundleGathered whole bundle ws (entry_limit words) got
     gathered = rw (marked-chosen bundle (is_of_lab labs lab) marks body at (rw count at chosen)) at g
 
-    module _ (q : Refusal) (e : got ≡ G.Refused q) where
+    module _ (q : Refusal) (e : got ≡ Err q) where
       lab_refused : whole ≡ refused q
       lab_refused = sym (rw e at gathered.is)
 
@@ -107,7 +104,7 @@ module _ (tag : Kind → Bytes) (bundle : Bytes) (labs : List ℕ) (count : leng
       unfolding renamed
       mark_refused quota r h = ap RefusedLab h ∙ sym (mark_is quota ∙ rw lab_refused)
 
-    pub mark_counted : (n : ℕ) → got ≡ G.Entries n → (quota : ℕ) (r : Mark) → r ≡ lab_mark quota n
+    pub mark_counted : (n : ℕ) → got ≡ Ok n → (quota : ℕ) (r : Mark) → r ≡ lab_mark quota n
         → r ≡ mark_of tag (entry_limit words) quota (lab_contents bundle labs lab)
     mark_counted n e quota r h =
         let is : accepted (entries_at bundle ws (index_at (entry_limit words)) n) ≡ whole = rw e at gathered.is in

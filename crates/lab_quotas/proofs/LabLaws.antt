@@ -1,13 +1,12 @@
 -- Lab numbers, the texts of a lab, and the words of a mark. Assumes nothing.
 use Prim.Native.Nat.{ℕ, zero, suc, ◌+◌, ◌*◌, ◌-◌, ◌≤◌, ◌<◌}
 use native.Mathlib.Omega.{arith}
-use mathlib.Core.Path.{◌≡◌, refl, sym, ap, ◌∙◌}
+use mathlib.Core.Path.{◌≡◌, refl, sym, ◌∙◌}
 use mathlib.Core.Logic.{◌≢◌}
 use mathlib.Core.Bool.{Bool, true, false, ◌&&◌}
 use mathlib.Core.List.{List, [], ◌∷◌}
-use mir.Val.{bool_byte}
 use lib.Dec.{leb, eqb}
-use lib.ListN.{length, get_or, set}
+use lib.ListN.{length, get_or}
 use borrow.Author.Tests.{leb-true, le-leb, lt-leb, eq-eqb, ne_eqb, eqb-true}
 use Rattle.model.specs.declared.Refusal.{Refusal}
 use Rattle.std.specs.Prelude.{if◌then◌else◌}
@@ -16,22 +15,16 @@ use Rattle.model.specs.Limits.{max_labs}
 use Rattle.model.specs.Answer.{number_of}
 use Rattle.model.specs.Bytes.{Bytes}
 use Rattle.model.specs.Bundle.{text_count}
-use Rattle.model.specs.Output.{output_after}
 use Rattle.model.proofs.ListLaws.{and_left, and_right}
 use Rattle.text_choice.specs.declared.Mark.{Mark}
 use Rattle.text_choice.specs.declared.Mark.TheVariants.{LetIn, OverQuota, RefusedLab}
-use Rattle.text_choice.specs.Quotas.{is_lab, are_labs, mark_words}
-use Rattle.format.specs.Put.{over}
+use Rattle.text_choice.specs.Quotas.{is_lab, are_labs, lab_at, mark_words}
 use Rattle.joined_table.specs.Gathering.{in_text_of}
-use Rattle.lab_quotas.specs.Labs.{mark_size, rank_of, lab_mark}
+use Rattle.std.proofs.Common.{count_by, take, add-one}
+use Rattle.std.proofs.lemmas.List.Sums.{count_by_more_no, count_by_more_yes}
+use Rattle.lab_quotas.specs.Labs.{mark_size, is_of_lab, rank_of, lab_mark}
 
 -- ---- lab numbers
-
-pub lab_none : (lab : ℕ) → lab ≡ 0 → false ≡ is_lab lab
-lab_none lab e = rw e
-
-pub lab_most : (lab : ℕ) → lab ≢ 0 → leb lab max_labs ≡ is_lab lab
-lab_most lab h = let some : 1 ≤ lab = omega arith in rw (le-leb 1 lab some)
 
 module _ (lab : ℕ) (is : is_lab lab ≡ true) where
   pub lab_least : 1 ≤ lab
@@ -113,21 +106,23 @@ module _ (bundle : Bytes) (labs quotas : List ℕ) (are : are_labs bundle labs q
 
 -- ---- the texts of a lab before a text
 
-pub rank_next : (test : ℕ → Bool) (j n : ℕ) → n ≡ rank_of test j → n + bool_byte (test j) ≡ rank_of test (j + 1)
-unfolding rank_of
-rank_next test j n e = let next : j + 1 ≡ suc j = omega arith in rw next (go (test j))
-  where
-    go : (b : Bool) → n + bool_byte b ≡ (if b then suc (rank_of test j) else rank_of test j)
-    go true = omega (arith, e)
-    go false = omega (arith, e)
+module _ (lab : ℕ) (labs : List ℕ) where
+  abbrev test : ℕ → Bool
+  test x = eqb lab x
+
+  pub rank_counted : (i : ℕ) → i ≤ length labs → count_by test (take i labs) ≡ rank_of (is_of_lab labs lab) i
+  unfolding rank_of
+  rank_counted zero h = refl
+  rank_counted (suc i) h = rw (← add-one i) (go (test (lab_at labs i)) refl (omega arith) (rank_counted i (omega arith)))
+    where
+      go : (b : Bool) → test (lab_at labs i) ≡ b → i < length labs → count_by test (take i labs) ≡ rank_of (is_of_lab labs lab) i
+          → count_by test (take (i + 1) labs) ≡ (if b then suc (rank_of (is_of_lab labs lab) i) else rank_of (is_of_lab labs lab) i)
+      go true e l ih = omega (arith, count_by_more_yes test labs i 0 l e, ih)
+      go false e l ih = count_by_more_no test labs i 0 l e ∙ ih
 
 -- the index of a refusal among the lab's texts
 pub ranked_as : (r q : Refusal) (n m : ℕ) → r ≡ in_text_of n q → n ≡ m → r ≡ in_text_of m q
 ranked_as r q n m e h = rw h at e
-
-pub byte_few : (b : Bool) → bool_byte b ≤ 1
-byte_few true = omega arith
-byte_few false = omega arith
 
 -- ---- marks
 
@@ -151,20 +146,3 @@ module _ (mark : Mark) where
       → 2 ∷ number ∷ r.text ∷ r.line ∷ r.field ∷ [] ≡ mark_words mark
   unfolding mark_words
   refused-words r e number n = rw (e, n)
-
--- five words put at the front
-pub five_put : (words out : List ℕ) → length words ≡ mark_size → mark_size ≤ length out
-    → set (set (set (set (set out 0 (get_or words 0 0)) 1 (get_or words 1 0)) 2 (get_or words 2 0)) 3 (get_or words 3 0)) 4 (get_or words 4 0) ≡ over words out
-unfolding output_after
-five_put (a ∷ b ∷ c ∷ d ∷ e ∷ []) (v ∷ w ∷ x ∷ y ∷ z ∷ out) l h = refl
-five_put [] out l h = absurd (omega arith)
-five_put (a ∷ []) out l h = absurd (omega arith)
-five_put (a ∷ b ∷ []) out l h = absurd (omega arith)
-five_put (a ∷ b ∷ c ∷ []) out l h = absurd (omega arith)
-five_put (a ∷ b ∷ c ∷ d ∷ []) out l h = absurd (omega arith)
-five_put (a ∷ b ∷ c ∷ d ∷ e ∷ f ∷ words) out l h = absurd (omega arith)
-five_put (a ∷ b ∷ c ∷ d ∷ e ∷ []) [] l h = absurd (omega arith)
-five_put (a ∷ b ∷ c ∷ d ∷ e ∷ []) (v ∷ []) l h = absurd (omega arith)
-five_put (a ∷ b ∷ c ∷ d ∷ e ∷ []) (v ∷ w ∷ []) l h = absurd (omega arith)
-five_put (a ∷ b ∷ c ∷ d ∷ e ∷ []) (v ∷ w ∷ x ∷ []) l h = absurd (omega arith)
-five_put (a ∷ b ∷ c ∷ d ∷ e ∷ []) (v ∷ w ∷ x ∷ y ∷ []) l h = absurd (omega arith)

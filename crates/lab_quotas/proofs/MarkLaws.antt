@@ -2,7 +2,6 @@
 use Prim.Native.Nat.{ℕ, zero, suc, ◌+◌, ◌*◌, ◌-◌, ◌≤◌, ◌<◌}
 use native.Mathlib.Omega.{arith}
 use mathlib.Core.Path.{◌≡◌, refl, sym, ap, ◌∙◌}
-use mathlib.Core.Bool.{Bool, true, false}
 use mathlib.Core.List.{List, [], ◌∷◌, ◌++◌, map, map-append, append_assoc, append-nil}
 use lib.Dec.{eqb}
 use lib.ListN.{length, take, drop, get_or, length-append, length-map, length-drop}
@@ -17,7 +16,7 @@ use Rattle.model.specs.Output.{output_after}
 use Rattle.model.specs.Gather.{entry_limit}
 use Rattle.text_choice.specs.declared.Mark.{Mark}
 use Rattle.text_choice.specs.declared.Mark.TheVariants.{LetIn, OverQuota, RefusedLab}
-use Rattle.text_choice.specs.Quotas.{quota_of, lab_contents, is_let_in, mark_words, mark_of, mark_at}
+use Rattle.text_choice.specs.Quotas.{lab_contents, is_let_in, mark_words, mark_of, mark_at}
 use Rattle.format.specs.Put.{over}
 use Rattle.format.proofs.OverLaws.{to_end, over-more, over_size}
 use Rattle.lab_quotas.specs.Labs.{mark_size, marks_to}

@@ -13,7 +13,8 @@ use Rattle.model.specs.Gather.{entry_limit, gather_texts}
 use Rattle.text_choice.specs.declared.Mark.{Mark}
 use Rattle.text_choice.specs.declared.Mark.TheVariants.{LetIn, OverQuota}
 use Rattle.text_choice.specs.Quotas.{are_labs, lab_at, mark_words, mark_at, let_in_texts, gather_quotas, marks_after}
-use Rattle.joined_table.specs.declared.Gathered.{Gathered}
+use Rattle.std.specs.Prelude.{Result as Answered}
+use Rattle.model.specs.declared.Refusal.{Refusal}
 use Rattle.joined_table.specs.Gathering.{BundleGathered}
 
 -- a mark has five words
@@ -53,6 +54,6 @@ module _ (tag : Kind → Bytes) where
       else refuse MalformedBundle
 
   -- the words hold what the joint gather made, and the slice for the marks is left as the definition says
-  pub record LabsGathered (bundle : Bytes) (labs quotas : List ℕ) (words : ℕ) (ws marks marks' : List ℕ) (r : Gathered) : Type 0 where
+  pub record LabsGathered (bundle : Bytes) (labs quotas : List ℕ) (words : ℕ) (ws marks marks' : List ℕ) (r : Answered ℕ Refusal) : Type 0 where
     pub joint : BundleGathered (gather_joint bundle labs quotas words) bundle ws (entry_limit words) r
     pub marked : (room : ℕ) → marks' ≡ marks_after (gather_quotas tag bundle labs quotas words room) marks

@@ -6,7 +6,6 @@ ghost use Rattle.std.specs.Prelude.{◌≡◌, [], true, ℕ, ◌*◌, ◌≤◌
 ghost use Rattle.model.specs.declared.Mode.TheVariants.{Checked};
 ghost use Rattle.model.specs.Limits.{max_texts, max_labs};
 ghost use Rattle.model.specs.Lists.{all};
-ghost use Rattle.model.specs.TagTable.{tags_of, are_tags};
 ghost use Rattle.model.specs.Bundle.{text_count, text_at, well_formed};
 ghost use Rattle.model.specs.Gather.{entry_limit, gather_texts};
 ghost use Rattle.text_choice.specs.Choice.{choose_texts};
@@ -15,10 +14,11 @@ ghost use Rattle.format.specs.Put.{over};
 ghost use Rattle.bundle.specs.Marks.{MarkedAs};
 ghost use Rattle.joined_table.specs.Gathering.{in_text_of, BundleGathered};
 ghost use Rattle.lab_quotas.specs.Labs.{mark_size, is_of_lab, rank_of, lab_mark, is_let_in_by, is_in_by, marks_to, LabsGathered};
+ghost use Rattle.tag_table.specs.Tags.{tag_of};
 
-use joined_table::Gathered;
 use model::{Fault, Mode, Refusal};
 use text_choice::Mark;
+use tag_table::Tags;
 
 const MAX_TEXTS: usize = bundle::MAX_TEXTS;
 
@@ -33,20 +33,14 @@ const MARKS: usize = LABS * MARK_WORDS;
 fn is_lab(lab: u8) -> bool
     ensures { result ≡ is_lab lab }
 {
-    if lab == 0 {
-        return false;
-    }
-    lab <= 8
+    (1..=8).contains(&lab)
 }
 
 fn all_labs(labs: &[u8]) -> bool
     ensures { result ≡ all is_lab labs.now }
 {
-    let mut i = 0;
-    while i < labs.len() {
-        if is_lab(labs[i]) {
-            i += 1;
-        } else {
+    for lab in labs {
+        if !is_lab(*lab) {
             return false;
         }
     }
@@ -72,10 +66,8 @@ fn mark_lab(labs: &[u8], lab: u8, chosen: &mut [u8])
     requires { length labs.now ≤ length chosen.old }
     ensures { MarkedAs (is_of_lab labs.now lab) (length labs.now) chosen.new }
 {
-    let mut i = 0;
-    while i < labs.len() {
+    for i in 0..labs.len() {
         chosen[i] = (lab == labs[i]) as u8;
-        i += 1;
     }
 }
 
@@ -84,13 +76,7 @@ fn rank(labs: &[u8], lab: u8, i: usize) -> usize
     requires { i ≤ length labs.now }
     ensures { (result ≡ rank_of (is_of_lab labs.now lab) i) × (result ≤ i) }
 {
-    let mut n = 0;
-    let mut j = 0;
-    while j < i {
-        n += (lab == labs[j]) as usize;
-        j += 1;
-    }
-    n
+    labs[..i].iter().filter(|other| lab == **other).count()
 }
 
 // A refusal of a lab's gather: its "text index counts that lab's texts only".
@@ -114,23 +100,22 @@ fn mark_entries(entries: usize, quota: usize) -> Mark
 
 // "Each lab's texts are first gathered by themselves."
 fn gather_lab(
-    tags: &[u8],
+    tags: Tags,
     bundle: &[u8],
     labs: &[u8],
     lab: u8,
     quota: u32,
     scratch: &mut [u64],
 ) -> Mark
-    requires tags_value { are_tags tags.now ≡ true }
     requires bundle_value { (well_formed bundle.now ≡ true) × (length labs.now ≡ text_count bundle.now) }
-    ensures { result ≡ mark_of (tags_of tags.now) (entry_limit (length scratch.old)) quota (lab_contents bundle.now labs.now lab) }
+    ensures { result ≡ mark_of (tag_of tags.entry) (entry_limit (length scratch.old)) quota (lab_contents bundle.now labs.now lab) }
 {
     let mut chosen = [0u8; MAX_TEXTS];
     mark_lab(labs, lab, &mut chosen);
     let body = bundle::body_at(bundle);
     match joined_table::gather_marked(tags, bundle, body, &chosen, scratch, Mode::Checked) {
-        Gathered::Refused(refusal) => Mark::RefusedLab(in_lab(labs, lab, refusal)),
-        Gathered::Entries(entries) => mark_entries(entries, quota as usize),
+        Err(refusal) => Mark::RefusedLab(in_lab(labs, lab, refusal)),
+        Ok(entries) => mark_entries(entries, quota as usize),
     }
 }
 
@@ -160,32 +145,25 @@ fn put_mark(words: [u64; MARK_WORDS], out: &mut [u64])
     requires { mark_size ≤ length out.old }
     ensures { out.new ≡ over words out.old }
 {
-    out[0] = words[0];
-    out[1] = words[1];
-    out[2] = words[2];
-    out[3] = words[3];
-    out[4] = words[4];
+    out[..MARK_WORDS].copy_from_slice(&words);
 }
 
 // The marks of labs 1 to 8, in order, at the front of marks.
 fn mark_labs(
-    tags: &[u8],
+    tags: Tags,
     bundle: &[u8],
     labs: &[u8],
     quotas: &[u32],
     scratch: &mut [u64],
     marks: &mut [u64],
 )
-    requires tags_value { are_tags tags.now ≡ true }
     requires bundle_value { (well_formed bundle.now ≡ true) × (are_labs bundle.now labs.now quotas.now ≡ true) × (max_labs * mark_size ≤ length marks.old) }
-    ensures { marks.new ≡ over (marks_to (tags_of tags.now) (entry_limit (length scratch.old)) bundle.now labs.now quotas.now max_labs) marks.old }
+    ensures { marks.new ≡ over (marks_to (tag_of tags.entry) (entry_limit (length scratch.old)) bundle.now labs.now quotas.now max_labs) marks.old }
 {
-    let mut i = 0;
-    while i < LABS {
+    for i in 0..LABS {
         let mark = gather_lab(tags, bundle, labs, i as u8 + 1, quotas[i], scratch);
         let at = MARK_WORDS * i;
         put_mark(mark_words(mark), &mut marks[at..]);
-        i += 1;
     }
 }
 
@@ -203,24 +181,21 @@ fn mark_let_in(labs: &[u8], marks: &[u64], chosen: &mut [u8])
     requires { (all is_lab labs.now ≡ true) × (max_labs * mark_size ≤ length marks.now) × (length labs.now ≤ length chosen.old) }
     ensures { MarkedAs (is_in_by marks.now labs.now) (length labs.now) chosen.new }
 {
-    let mut i = 0;
-    while i < labs.len() {
+    for i in 0..labs.len() {
         chosen[i] = is_let_in(marks, labs[i]) as u8;
-        i += 1;
     }
 }
 
 // The texts of the labs that are let in, in the order of the bundle.
 fn gather_let_in(
-    tags: &[u8],
+    tags: Tags,
     bundle: &[u8],
     labs: &[u8],
     marks: &[u64],
     scratch: &mut [u64],
-) -> Gathered
-    requires tags_value { are_tags tags.now ≡ true }
+) -> Result<usize, Refusal>
     requires bundle_value { (well_formed bundle.now ≡ true) × (length labs.now ≡ text_count bundle.now) × (all is_lab labs.now ≡ true) × (max_labs * mark_size ≤ length marks.now) }
-    ensures { BundleGathered (gather_texts (tags_of tags.now) Checked (entry_limit (length scratch.old)) (choose_texts (is_in_by marks.now labs.now) (text_at bundle.now) 0 (text_count bundle.now)) []) bundle.now scratch.new (entry_limit (length scratch.old)) result }
+    ensures { BundleGathered (gather_texts (tag_of tags.entry) Checked (entry_limit (length scratch.old)) (choose_texts (is_in_by marks.now labs.now) (text_at bundle.now) 0 (text_count bundle.now)) []) bundle.now scratch.new (entry_limit (length scratch.old)) result }
 {
     let mut chosen = [0u8; MAX_TEXTS];
     mark_let_in(labs, marks, &mut chosen);
@@ -230,17 +205,16 @@ fn gather_let_in(
 
 // Marks all labs, and gathers the texts of those that are let in.
 fn gather_marked_labs(
-    tags: &[u8],
+    tags: Tags,
     bundle: &[u8],
     labs: &[u8],
     quotas: &[u32],
     scratch: &mut [u64],
     marks: &mut [u64],
-) -> Gathered
-    requires tags_value { are_tags tags.now ≡ true }
+) -> Result<usize, Refusal>
     requires bundle_value { (well_formed bundle.now ≡ true) × (are_labs bundle.now labs.now quotas.now ≡ true) × (max_labs * mark_size ≤ length marks.old) }
-    ensures marked { marks.new ≡ over (marks_to (tags_of tags.now) (entry_limit (length scratch.old)) bundle.now labs.now quotas.now max_labs) marks.old }
-    ensures joint { BundleGathered (gather_texts (tags_of tags.now) Checked (entry_limit (length scratch.old)) (let_in_texts (tags_of tags.now) (entry_limit (length scratch.old)) bundle.now labs.now quotas.now) []) bundle.now scratch.new (entry_limit (length scratch.old)) result }
+    ensures marked { marks.new ≡ over (marks_to (tag_of tags.entry) (entry_limit (length scratch.old)) bundle.now labs.now quotas.now max_labs) marks.old }
+    ensures joint { BundleGathered (gather_texts (tag_of tags.entry) Checked (entry_limit (length scratch.old)) (let_in_texts (tag_of tags.entry) (entry_limit (length scratch.old)) bundle.now labs.now quotas.now) []) bundle.now scratch.new (entry_limit (length scratch.old)) result }
 {
     mark_labs(tags, bundle, labs, quotas, scratch, marks);
     gather_let_in(tags, bundle, labs, marks, scratch)
@@ -248,15 +222,14 @@ fn gather_marked_labs(
 
 // The joint gather of a bundle, and the marks of all labs where the slice holds them. 29 comes right after 16.
 pub fn gather_labs(
-    tags: &[u8],
+    tags: Tags,
     bundle: &[u8],
     labs: &[u8],
     quotas: &[u32],
     scratch: &mut [u64],
     marks: &mut [u64],
-) -> Gathered
-    requires { are_tags tags.now ≡ true }
-    ensures { LabsGathered (tags_of tags.now) bundle.now labs.now quotas.now (length scratch.old) scratch.new marks.old marks.new result }
+) -> Result<usize, Refusal>
+    ensures { LabsGathered (tag_of tags.entry) bundle.now labs.now quotas.now (length scratch.old) scratch.new marks.old marks.new result }
 {
     if bundle::is_well_formed(bundle) {
         if are_labs(bundle, labs, quotas) {
@@ -266,7 +239,7 @@ pub fn gather_labs(
             }
             return gather_marked_labs(tags, bundle, labs, quotas, scratch, marks);
         }
-        return Gathered::Refused(Refusal::from(Fault::MalformedLabs));
+        return Err(Refusal::from(Fault::MalformedLabs));
     }
-    Gathered::Refused(Refusal::from(Fault::MalformedBundle))
+    Err(Refusal::from(Fault::MalformedBundle))
 }

@@ -19,7 +19,7 @@ ghost use Rattle.model.specs.Answer.{accepted};
 ghost use Rattle.model.specs.declared.Kind.{Kind};
 ghost use Rattle.model.specs.Bytes.{Bytes};
 ghost use Rattle.model.specs.Tags.{default_tag};
-ghost use Rattle.model.specs.TagTable.{load_tags, tagged, tags_of, are_tags};
+ghost use Rattle.model.specs.TagTable.{load_tags, tagged};
 ghost use Rattle.model.specs.Calls.{WriteCall};
 ghost use Rattle.model.specs.Gather.{entry_limit};
 ghost use Rattle.model.specs.Gather.{gather as gatherOf};
@@ -28,11 +28,11 @@ ghost use Rattle.model.specs.Printing.{print_report};
 ghost use Rattle.line_num_pairs.specs.Pairs.{ranges_in};
 ghost use Rattle.joined_table.specs.Gathering.{seen_bundle, HeldBundle};
 ghost use Rattle.lcov.specs.Printed.{printed_by};
-ghost use Rattle.lcov.specs.Demand.{GatherCall, ReadCall, GatherTagged, ReadTagged, AcceptsAndWrites, refused_tags};
+ghost use Rattle.lcov.specs.Demand.{GatherCall, ReadCall, GatherTagged, ReadTagged, AcceptsAndWrites};
+ghost use Rattle.tag_table.specs.Tags.{tag_of};
 
 pub use bounds::{hit_bounds, hit_bounds_tagged};
 pub use compare::{Ordering, compare_bytes, compare_paths};
-use joined_table::Gathered;
 pub use latest::{windows, windows_tagged};
 pub use line_num::{
     insert as insert_into_structs, insert_by_value, query as query_structs, query_by_value,
@@ -46,9 +46,9 @@ use model::{Bound, Fault, Mode, Refusal};
 pub use page::{totals, totals_tagged};
 pub use quotas::{gather_quotas, gather_quotas_tagged};
 pub use record_parse::read_number;
-use report_parser::TextAnswer;
+use report_parser::TextRead;
+use tag_table::Tags;
 pub use revisions::{gather_revisions, gather_revisions_tagged};
-use tag_table::Loading;
 
 // The fixed numbers of model/specs/Limits.antt that code outside needs too: `words_per_entry`, and the scratch and the output of the program
 // `gather`, which `program_words` and `program_output` are.
@@ -60,61 +60,51 @@ pub const PROGRAM_OUTPUT: usize = 65_536;
 
 // What was gathered of a bundle printed: the joined report, or why there is none.
 fn print_joined(
-    tags: &[u8],
+    tags: Tags,
     bundle: &[u8],
     scratch: &mut [u64],
-    got: Gathered,
+    got: Result<usize, Refusal>,
     out: &mut [u8],
 ) -> Result<usize, Refusal>
-    requires tags_value { are_tags tags.now ≡ true }
     requires held_bundle { HeldBundle bundle.now scratch.old (entry_limit (length scratch.old)) got }
-    ensures { WriteCall (printed_by (print_report (tags_of tags.now)) (seen_bundle bundle.now scratch.old (entry_limit (length scratch.old)) got) (length out.old)) out.old out.new result }
+    ensures { WriteCall (printed_by (print_report (tag_of tags.entry)) (seen_bundle bundle.now scratch.old (entry_limit (length scratch.old)) got) (length out.old)) out.old out.new result }
 {
-    match got {
-        Gathered::Refused(refusal) => Err(refusal),
-        Gathered::Entries(n) => {
-            let limit = scratch_layout::entry_limit(scratch.len());
-            let index = scratch_layout::index_at(limit);
-            let spare = scratch_layout::spare_at(limit);
-            print_report::print_report(tags, bundle, scratch, index, n, n, spare, out)
-        }
-    }
+    let n = got?;
+    let limit = scratch_layout::entry_limit(scratch.len());
+    let index = scratch_layout::index_at(limit);
+    let spare = scratch_layout::spare_at(limit);
+    print_report::print_report(tags, bundle, scratch, index, n, n, spare, out)
 }
 
 // The texts of a bundle gathered in one of the two modes, the joined report printed.
 fn gather(
-    tags: &[u8],
+    tags: Tags,
     bundle: &[u8],
     scratch: &mut [u64],
     out: &mut [u8],
     mode: Mode,
 ) -> Result<usize, Refusal>
-    requires { are_tags tags.now ≡ true }
-    ensures { WriteCall (gatherOf (tags_of tags.now) mode bundle.now (length scratch.old) (length out.old)) out.old out.new result }
+    ensures { WriteCall (gatherOf (tag_of tags.entry) mode bundle.now (length scratch.old) (length out.old)) out.old out.new result }
 {
     let got = joined_table::gather_bundle(tags, bundle, scratch, mode);
     print_joined(tags, bundle, scratch, got, out)
 }
 
 // One text read, its report printed.
-fn read(tags: &[u8], text: &[u8], scratch: &mut [u64], out: &mut [u8]) -> Result<usize, Refusal>
-    requires { are_tags tags.now ≡ true }
-    ensures { ReadCall (tags_of tags.now) text.now (length scratch.old) out.old out.new result }
+fn read(tags: Tags, text: &[u8], scratch: &mut [u64], out: &mut [u8]) -> Result<usize, Refusal>
+    ensures { ReadCall (tag_of tags.entry) text.now (length scratch.old) out.old out.new result }
 {
     let limit = scratch_layout::entry_limit(scratch.len());
     let index = scratch_layout::index_at(limit);
-    match report_parser::read_lines(tags, text, 0, scratch, index, limit) {
-        TextAnswer::Refused(refusal) => Err(refusal),
-        TextAnswer::Read { kept, used } => {
-            let spare = scratch_layout::spare_at(limit);
-            print_report::print_report(tags, text, scratch, index, used, kept, spare, out)
-        }
-    }
+    let TextRead { kept, used } =
+        report_parser::read_lines(tags, text, 0, scratch, index, limit)?;
+    let spare = scratch_layout::spare_at(limit);
+    print_report::print_report(tags, text, scratch, index, used, kept, spare, out)
 }
 
 // One text read, its report filtered by the used pairs of a slice of ranges and printed.
 fn filter(
-    tags: &[u8],
+    tags: Tags,
     text: &[u8],
     pairs: &[[u32; 2]],
     used: usize,
@@ -122,32 +112,19 @@ fn filter(
     scratch: &mut [u64],
     out: &mut [u8],
 ) -> Result<usize, Refusal>
-    requires { are_tags tags.now ≡ true }
-    ensures { WriteCall (filter_text (tags_of tags.now) bound text.now (ranges_in pairs.now) used (length scratch.old) (length out.old)) out.old out.new result }
+    ensures { WriteCall (filter_text (tag_of tags.entry) bound text.now (ranges_in pairs.now) used (length scratch.old) (length out.old)) out.old out.new result }
 {
-    if line_num_pairs::is_well_formed(pairs, used) {
-        let limit = scratch_layout::entry_limit(scratch.len());
-        let index = scratch_layout::index_at(limit);
-        match report_parser::read_lines(tags, text, 0, scratch, index, limit) {
-            TextAnswer::Refused(refusal) => {
-                return Err(refusal);
-            }
-            TextAnswer::Read { kept, used: rows } => {
-                let spare = scratch_layout::spare_at(limit);
-                return filter::print_filtered(
-                    tags, text, scratch, pairs, used, bound, index, rows, kept, spare, out,
-                );
-            }
-        }
+    if !line_num_pairs::is_well_formed(pairs, used) {
+        return Err(Refusal::from(Fault::MalformedRanges));
     }
-    Err(Refusal::from(Fault::MalformedRanges))
-}
-
-// A table of tags that does not load is refused before anything else is looked at.
-fn refused_tags(fault: Fault) -> Result<usize, Refusal>
-    ensures { result ≡ refused_tags fault }
-{
-    Err(Refusal::from(fault))
+    let limit = scratch_layout::entry_limit(scratch.len());
+    let index = scratch_layout::index_at(limit);
+    let TextRead { kept, used: rows } =
+        report_parser::read_lines(tags, text, 0, scratch, index, limit)?;
+    let spare = scratch_layout::spare_at(limit);
+    filter::print_filtered(
+        tags, text, scratch, pairs, used, bound, index, rows, kept, spare, out,
+    )
 }
 
 // The checked gather (`Report::merge`): given start lines and checksums must agree. The last promise is demand 3's for this call; the whole
@@ -156,7 +133,7 @@ pub fn gather_checked(bundle: &[u8], scratch: &mut [u64], out: &mut [u8]) -> Res
     ensures call { GatherCall default_tag bundle.now (length scratch.old) out.old out.new result }
     ensures demand { AcceptsAndWrites default_tag bundle.now (length scratch.old) out.old out.new result }
 {
-    gather(b"", bundle, scratch, out, Mode::Checked)
+    gather(Tags::defaults(), bundle, scratch, out, Mode::Checked)
 }
 
 // The same under the tags of a lent table.
@@ -169,17 +146,15 @@ pub fn gather_checked_tagged(
     ensures call { GatherTagged tags.now bundle.now (length scratch.old) out.old out.new result }
     ensures demand { (tag : Kind → Bytes) → load_tags tags.now ≡ accepted tag → AcceptsAndWrites tag bundle.now (length scratch.old) out.old out.new result }
 {
-    match tag_table::load(tags) {
-        Loading::Refused(fault) => refused_tags(fault),
-        Loading::Loaded => gather(tags, bundle, scratch, out, Mode::Checked),
-    }
+    let tags = tag_table::load(tags)?;
+    gather(tags, bundle, scratch, out, Mode::Checked)
 }
 
 // The lossy gather (`merge_lossy`): "the later given start line or checksum wins".
 pub fn gather_lossy(bundle: &[u8], scratch: &mut [u64], out: &mut [u8]) -> Result<usize, Refusal>
     ensures { WriteCall (gatherOf default_tag Lossy bundle.now (length scratch.old) (length out.old)) out.old out.new result }
 {
-    gather(b"", bundle, scratch, out, Mode::Lossy)
+    gather(Tags::defaults(), bundle, scratch, out, Mode::Lossy)
 }
 
 // The same under the tags of a lent table.
@@ -191,17 +166,15 @@ pub fn gather_lossy_tagged(
 ) -> Result<usize, Refusal>
     ensures { WriteCall (tagged tags.now (λ tag. gatherOf tag Lossy bundle.now (length scratch.old) (length out.old))) out.old out.new result }
 {
-    match tag_table::load(tags) {
-        Loading::Refused(fault) => refused_tags(fault),
-        Loading::Loaded => gather(tags, bundle, scratch, out, Mode::Lossy),
-    }
+    let tags = tag_table::load(tags)?;
+    gather(tags, bundle, scratch, out, Mode::Lossy)
 }
 
 // One text read, its report printed.
 pub fn read_text(text: &[u8], scratch: &mut [u64], out: &mut [u8]) -> Result<usize, Refusal>
     ensures { ReadCall default_tag text.now (length scratch.old) out.old out.new result }
 {
-    read(b"", text, scratch, out)
+    read(Tags::defaults(), text, scratch, out)
 }
 
 // The same under the tags of a lent table.
@@ -213,10 +186,8 @@ pub fn read_text_tagged(
 ) -> Result<usize, Refusal>
     ensures { ReadTagged tags.now text.now (length scratch.old) out.old out.new result }
 {
-    match tag_table::load(tags) {
-        Loading::Refused(fault) => refused_tags(fault),
-        Loading::Loaded => read(tags, text, scratch, out),
-    }
+    let tags = tag_table::load(tags)?;
+    read(tags, text, scratch, out)
 }
 
 // One text read, its report filtered by the used pairs of a slice of ranges and printed: `LineNum::apply`.
@@ -229,7 +200,7 @@ pub fn filter_text(
 ) -> Result<usize, Refusal>
     ensures { WriteCall (filter_text default_tag NextStart text.now (ranges_in pairs.now) used (length scratch.old) (length out.old)) out.old out.new result }
 {
-    filter(b"", text, pairs, used, Bound::NextStart, scratch, out)
+    filter(Tags::defaults(), text, pairs, used, Bound::NextStart, scratch, out)
 }
 
 // The same under the tags of a lent table.
@@ -243,10 +214,8 @@ pub fn filter_text_tagged(
 ) -> Result<usize, Refusal>
     ensures { WriteCall (tagged tags.now (λ tag. filter_text tag NextStart text.now (ranges_in pairs.now) used (length scratch.old) (length out.old))) out.old out.new result }
 {
-    match tag_table::load(tags) {
-        Loading::Refused(fault) => refused_tags(fault),
-        Loading::Loaded => filter(tags, text, pairs, used, Bound::NextStart, scratch, out),
-    }
+    let tags = tag_table::load(tags)?;
+    filter(tags, text, pairs, used, Bound::NextStart, scratch, out)
 }
 
 // The same, where a function ends one before the next greater start: functions that start on one line end together.
@@ -259,7 +228,7 @@ pub fn filter_text_distinct_starts(
 ) -> Result<usize, Refusal>
     ensures { WriteCall (filter_text default_tag GreaterStart text.now (ranges_in pairs.now) used (length scratch.old) (length out.old)) out.old out.new result }
 {
-    filter(b"", text, pairs, used, Bound::GreaterStart, scratch, out)
+    filter(Tags::defaults(), text, pairs, used, Bound::GreaterStart, scratch, out)
 }
 
 // The same under the tags of a lent table.
@@ -273,8 +242,6 @@ pub fn filter_text_distinct_starts_tagged(
 ) -> Result<usize, Refusal>
     ensures { WriteCall (tagged tags.now (λ tag. filter_text tag GreaterStart text.now (ranges_in pairs.now) used (length scratch.old) (length out.old))) out.old out.new result }
 {
-    match tag_table::load(tags) {
-        Loading::Refused(fault) => refused_tags(fault),
-        Loading::Loaded => filter(tags, text, pairs, used, Bound::GreaterStart, scratch, out),
-    }
+    let tags = tag_table::load(tags)?;
+    filter(tags, text, pairs, used, Bound::GreaterStart, scratch, out)
 }

@@ -2,17 +2,18 @@
 // gathered together.
 ghost use Rattle.std.specs.Prelude.{◌≡◌, true, length};
 ghost use Rattle.model.specs.Tags.{default_tag};
-ghost use Rattle.model.specs.TagTable.{tagged, tags_of, are_tags};
+ghost use Rattle.model.specs.TagTable.{tagged};
 ghost use Rattle.text_choice.specs.Quotas.{gather_quotas};
 ghost use Rattle.lcov.specs.Quotas.{QuotasCall};
+ghost use Rattle.tag_table.specs.Tags.{tag_of};
 
-use crate::{print_joined, refused_tags};
+use crate::print_joined;
 use model::Refusal;
-use tag_table::Loading;
+use tag_table::Tags;
 
 // The labs marked, and the joint report printed.
 fn gather_let_in(
-    tags: &[u8],
+    tags: Tags,
     bundle: &[u8],
     labs: &[u8],
     quotas: &[u32],
@@ -20,8 +21,7 @@ fn gather_let_in(
     out: &mut [u8],
     marks: &mut [u64],
 ) -> Result<usize, Refusal>
-    requires { are_tags tags.now ≡ true }
-    ensures { QuotasCall (gather_quotas (tags_of tags.now) bundle.now labs.now quotas.now (length scratch.old) (length out.old)) out.old out.new marks.old marks.new result }
+    ensures { QuotasCall (gather_quotas (tag_of tags.entry) bundle.now labs.now quotas.now (length scratch.old) (length out.old)) out.old out.new marks.old marks.new result }
 {
     let got = lab_quotas::gather_labs(tags, bundle, labs, quotas, scratch, marks);
     print_joined(tags, bundle, scratch, got, out)
@@ -39,7 +39,7 @@ pub fn gather_quotas(
 ) -> Result<usize, Refusal>
     ensures { QuotasCall (gather_quotas default_tag bundle.now labs.now quotas.now (length scratch.old) (length out.old)) out.old out.new marks.old marks.new result }
 {
-    gather_let_in(b"", bundle, labs, quotas, scratch, out, marks)
+    gather_let_in(Tags::defaults(), bundle, labs, quotas, scratch, out, marks)
 }
 
 // The same under the tags of a lent table.
@@ -54,8 +54,6 @@ pub fn gather_quotas_tagged(
 ) -> Result<usize, Refusal>
     ensures { QuotasCall (tagged tags.now (λ tag. gather_quotas tag bundle.now labs.now quotas.now (length scratch.old) (length out.old))) out.old out.new marks.old marks.new result }
 {
-    match tag_table::load(tags) {
-        Loading::Refused(fault) => refused_tags(fault),
-        Loading::Loaded => gather_let_in(tags, bundle, labs, quotas, scratch, out, marks),
-    }
+    let tags = tag_table::load(tags)?;
+    gather_let_in(tags, bundle, labs, quotas, scratch, out, marks)
 }

@@ -2,17 +2,17 @@
 ghost use Rattle.std.specs.Prelude.{◌≡◌, true, length};
 ghost use Rattle.model.specs.Calls.{WriteCall};
 ghost use Rattle.model.specs.Tags.{default_tag};
-ghost use Rattle.model.specs.TagTable.{tagged, tags_of, are_tags};
+ghost use Rattle.model.specs.TagTable.{tagged};
 ghost use Rattle.text_choice.specs.Revisions.{gather_revisions};
+ghost use Rattle.tag_table.specs.Tags.{tag_of};
 
-use crate::{print_joined, refused_tags};
+use crate::print_joined;
 use model::Refusal;
-use tag_table::Loading;
+use tag_table::Tags;
 
 // The texts with the highest revisions gathered, the joined report printed.
-fn gather_chosen(tags: &[u8], bundle: &[u8], scratch: &mut [u64], out: &mut [u8]) -> Result<usize, Refusal>
-    requires { are_tags tags.now ≡ true }
-    ensures { WriteCall (gather_revisions (tags_of tags.now) bundle.now (length scratch.old) (length out.old)) out.old out.new result }
+fn gather_chosen(tags: Tags, bundle: &[u8], scratch: &mut [u64], out: &mut [u8]) -> Result<usize, Refusal>
+    ensures { WriteCall (gather_revisions (tag_of tags.entry) bundle.now (length scratch.old) (length out.old)) out.old out.new result }
 {
     let got = joined_revisions::gather_highest(tags, bundle, scratch);
     print_joined(tags, bundle, scratch, got, out)
@@ -22,7 +22,7 @@ fn gather_chosen(tags: &[u8], bundle: &[u8], scratch: &mut [u64], out: &mut [u8]
 pub fn gather_revisions(bundle: &[u8], scratch: &mut [u64], out: &mut [u8]) -> Result<usize, Refusal>
     ensures { WriteCall (gather_revisions default_tag bundle.now (length scratch.old) (length out.old)) out.old out.new result }
 {
-    gather_chosen(b"", bundle, scratch, out)
+    gather_chosen(Tags::defaults(), bundle, scratch, out)
 }
 
 // The same under the tags of a lent table.
@@ -34,8 +34,6 @@ pub fn gather_revisions_tagged(
 ) -> Result<usize, Refusal>
     ensures { WriteCall (tagged tags.now (λ tag. gather_revisions tag bundle.now (length scratch.old) (length out.old))) out.old out.new result }
 {
-    match tag_table::load(tags) {
-        Loading::Refused(fault) => refused_tags(fault),
-        Loading::Loaded => gather_chosen(tags, bundle, scratch, out),
-    }
+    let tags = tag_table::load(tags)?;
+    gather_chosen(tags, bundle, scratch, out)
 }

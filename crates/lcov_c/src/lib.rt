@@ -6,8 +6,9 @@ ghost use Rattle.model.specs.declared.Bound.TheVariants.{NextStart, GreaterStart
 ghost use Rattle.model.specs.declared.Mode.TheVariants.{Checked, Lossy};
 ghost use Rattle.model.specs.Limits.{program_words};
 ghost use Rattle.model.specs.Tags.{default_tag};
-ghost use Rattle.model.specs.TagTable.{tagged, tags_of, are_tags};
+ghost use Rattle.model.specs.TagTable.{tagged};
 ghost use Rattle.model.specs.Parts.{lent_line};
+ghost use Rattle.model.specs.Calls.{WriteCall};
 ghost use Rattle.model.specs.Number.{read_field};
 ghost use Rattle.model.specs.Gather.{read_and_print, gather};
 ghost use Rattle.model.specs.Filter.{filter_text};
@@ -17,51 +18,51 @@ ghost use Rattle.text_choice.specs.Revisions.{gather_revisions};
 ghost use Rattle.text_choice.specs.Windows.{gather_windows};
 ghost use Rattle.text_choice.specs.Quotas.{joint_of, marks_after, gather_quotas};
 ghost use Rattle.model.specs.Path.{components, compare_paths};
-ghost use Rattle.lcov_c_words.specs.Words.{with_prefix};
+ghost use Rattle.lcov_c_words.specs.Words.{record_words, counted_words, held_words, bounds_words, with_prefix};
 ghost use Rattle.model.specs.Ranges.{half_open, insert_call, query_call};
 ghost use Rattle.line_num_pairs.specs.Pairs.{pair, ranges_in};
-ghost use Rattle.lcov_c.specs.Exports.{ReadLine, ReadNumber, printed_line, AnswerStored, RangeInserted, Queried, BoundsStored, range_words, order_number};
+ghost use Rattle.lcov_c.specs.Exports.{Stored, printed_line, AnswerStored, RangeInserted, range_words, order_number};
+ghost use Rattle.tag_table.specs.Tags.{tag_of};
 
-use compare::Order;
-use model::{Record, Refusal};
-use tag_table::Loading;
+use model::Refusal;
+use std::cmp::Ordering;
+use tag_table::Tags;
 
 const SCRATCH_WORDS: usize = lcov::PROGRAM_WORDS;
 
 // Reads a line. Answers 0 and the record's words, or a refusal's number and its values.
 #[unsafe(no_mangle)]
 pub extern "C" fn lcov_read_line(line: &[u8], answer: &mut [u64]) -> u32
-    ensures { ReadLine (lent_line default_tag line.now) answer.old answer.new result }
+    ensures { Stored record_words (lent_line default_tag line.now) answer.old answer.new result }
 {
     let got = lcov::read_line(line);
-    lcov_c_words::put_words(lcov_c_words::line_words(got), answer);
-    lcov_c_words::line_number(got)
+    lcov_c_words::store_answer(got, answer)
 }
 
 // The same under the tags of a lent table.
 #[unsafe(no_mangle)]
 pub extern "C" fn lcov_read_line_tagged(tags: &[u8], line: &[u8], answer: &mut [u64]) -> u32
-    ensures { ReadLine (tagged tags.now (λ tag. lent_line tag line.now)) answer.old answer.new result }
+    ensures { Stored record_words (tagged tags.now (λ tag. lent_line tag line.now)) answer.old answer.new result }
 {
     let got = lcov::read_line_tagged(tags, line);
-    lcov_c_words::put_words(lcov_c_words::line_words(got), answer);
-    lcov_c_words::line_number(got)
+    lcov_c_words::store_answer(got, answer)
 }
 
-// Reads a line and prints its record, with byte 10 after it. `lcov_print_line` has the same body with no table: as a call of this function it
-// would take a fifth longer.
-fn print_read(tags: &[u8], line: &[u8], out: &mut [u8], answer: &mut [u64]) -> u32
-    requires { are_tags tags.now ≡ true }
-    ensures { AnswerStored (printed_line (tags_of tags.now) line.now (length out.old)) answer.old answer.new out.old out.new result }
+// Reads a line and prints its record, with byte 10 after it.
+#[inline]
+fn print_read(tags: Tags, line: &[u8], out: &mut [u8]) -> Result<usize, Refusal>
+    ensures { WriteCall (printed_line (tag_of tags.entry) line.now (length out.old)) out.old out.new result }
 {
-    let got = record_parse::read_line(tags, line);
-    let Ok(made) = got else {
-        lcov_c_words::put_words(lcov_c_words::line_words(got), answer);
-        return lcov_c_words::line_number(got);
-    };
-    let printed = record_display::print_line(tags, line, made, out);
-    lcov_c_words::put_words(lcov_c_words::write_words(printed), answer);
-    lcov_c_words::write_number(printed)
+    let made = record_parse::read_line(tags, line)?;
+    record_display::print_line(tags, line, made, out)
+}
+
+// The same under the tags of a lent table.
+fn print_read_tagged(tags: &[u8], line: &[u8], out: &mut [u8]) -> Result<usize, Refusal>
+    ensures { WriteCall (tagged tags.now (λ tag. printed_line tag line.now (length out.old))) out.old out.new result }
+{
+    let tags = tag_table::load(tags)?;
+    print_read(tags, line, out)
 }
 
 // Reads a line and prints its record, with byte 10 after it, to out. Answers 0 and the written length, or a refusal's number and its
@@ -70,14 +71,8 @@ fn print_read(tags: &[u8], line: &[u8], out: &mut [u8], answer: &mut [u64]) -> u
 pub extern "C" fn lcov_print_line(line: &[u8], out: &mut [u8], answer: &mut [u64]) -> u32
     ensures { AnswerStored (printed_line default_tag line.now (length out.old)) answer.old answer.new out.old out.new result }
 {
-    let got = record_parse::read_line(b"", line);
-    let Ok(made) = got else {
-        lcov_c_words::put_words(lcov_c_words::line_words(got), answer);
-        return lcov_c_words::line_number(got);
-    };
-    let printed = record_display::print_line(b"", line, made, out);
-    lcov_c_words::put_words(lcov_c_words::write_words(printed), answer);
-    lcov_c_words::write_number(printed)
+    let got = print_read(Tags::defaults(), line, out);
+    lcov_c_words::store_answer(got, answer)
 }
 
 // The same under the tags of a lent table.
@@ -90,23 +85,17 @@ pub extern "C" fn lcov_print_line_tagged(
 ) -> u32
     ensures { AnswerStored (tagged tags.now (λ tag. printed_line tag line.now (length out.old))) answer.old answer.new out.old out.new result }
 {
-    match tag_table::load(tags) {
-        Loading::Refused(fault) => {
-            let refusal = Refusal::from(fault);
-            lcov_c_words::store_answer(Err(refusal), answer)
-        }
-        Loading::Loaded => print_read(tags, line, out, answer),
-    }
+    let got = print_read_tagged(tags, line, out);
+    lcov_c_words::store_answer(got, answer)
 }
 
 // Reads one number field, a number up to max. Answers 0, its value and how many digits were read, or a refusal's number.
 #[unsafe(no_mangle)]
 pub extern "C" fn lcov_read_number(field: &[u8], max: u64, answer: &mut [u64]) -> u32
-    ensures { ReadNumber (read_field max field.now) answer.old answer.new result }
+    ensures { Stored counted_words (read_field max field.now) answer.old answer.new result }
 {
     let got = record_parse::read_number(field, max);
-    lcov_c_words::put_words(lcov_c_words::counted_words(got), answer);
-    lcov_c_words::counted_number(got)
+    lcov_c_words::store_answer(got, answer)
 }
 
 // Gathers a bundle, checked, in lent scratch.
@@ -272,11 +261,10 @@ pub extern "C" fn lcov_hit_bounds(
     scratch: &mut [u64],
     answer: &mut [u64],
 ) -> u32
-    ensures { BoundsStored (hit_bounds default_tag least.now greatest.now (length scratch.old)) answer.old answer.new result }
+    ensures { Stored bounds_words (hit_bounds default_tag least.now greatest.now (length scratch.old)) answer.old answer.new result }
 {
     let got = lcov::hit_bounds(least, greatest, scratch);
-    lcov_c_words::put_words(lcov_c_words::bounds_words(got), answer);
-    lcov_c_words::bounds_number(got)
+    lcov_c_words::store_answer(got, answer)
 }
 
 // The same under the tags of a lent table.
@@ -288,11 +276,10 @@ pub extern "C" fn lcov_hit_bounds_tagged(
     scratch: &mut [u64],
     answer: &mut [u64],
 ) -> u32
-    ensures { BoundsStored (tagged tags.now (λ tag. hit_bounds tag least.now greatest.now (length scratch.old))) answer.old answer.new result }
+    ensures { Stored bounds_words (tagged tags.now (λ tag. hit_bounds tag least.now greatest.now (length scratch.old))) answer.old answer.new result }
 {
     let got = lcov::hit_bounds_tagged(tags, least, greatest, scratch);
-    lcov_c_words::put_words(lcov_c_words::bounds_words(got), answer);
-    lcov_c_words::bounds_number(got)
+    lcov_c_words::store_answer(got, answer)
 }
 
 // Gathers a bundle, checked, and writes the page of totals.
@@ -376,8 +363,7 @@ pub extern "C" fn lcov_insert_range(
     ensures { RangeInserted (insert_call (ranges_in pairs.old) used (pair start end)) answer.old answer.new (ranges_in pairs.old) (ranges_in pairs.new) result }
 {
     let got = line_num_pairs::insert(pairs, used, start, end);
-    lcov_c_words::put_words(lcov_c_words::insert_words(got), answer);
-    lcov_c_words::insert_number(got)
+    lcov_c_words::store_answer(got, answer)
 }
 
 // Asks whether one of the first `used` pairs of a lent slice shares a line with start to end. Answers 0 and 1 for yes, 0 for no, or a refusal.
@@ -389,11 +375,10 @@ pub extern "C" fn lcov_query_range(
     end: u32,
     answer: &mut [u64],
 ) -> u32
-    ensures { Queried (query_call (ranges_in pairs.now) used start end) answer.old answer.new result }
+    ensures { Stored held_words (query_call (ranges_in pairs.now) used start end) answer.old answer.new result }
 {
     let got = line_num_pairs::query(pairs, used, start, end);
-    lcov_c_words::put_words(lcov_c_words::query_words(got), answer);
-    lcov_c_words::query_number(got)
+    lcov_c_words::store_answer(got, answer)
 }
 
 // The range that the half-open a..b is.
@@ -479,8 +464,7 @@ pub extern "C" fn lcov_filter_distinct_starts_tagged(
 pub extern "C" fn lcov_compare_paths(a: &[u8], b: &[u8]) -> u32
     ensures { result ≡ order_number (compare_paths (components a.now) (components b.now)) }
 {
-    let order = compare::compare_paths(a, b);
-    match order {
+    match compare::compare_paths(a, b) {
         Ordering::Less => 0,
         Ordering::Equal => 1,
         Ordering::Greater => 2,

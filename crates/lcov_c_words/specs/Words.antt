@@ -1,7 +1,6 @@
 -- What the C calling form hands back: a number, which is 0 or a refusal's, and eight words. Assumes nothing.
 use Rattle.model_bounds.specs.declared.Bounds.{Bounds}
 use Rattle.model.specs.declared.Counted.{Counted}
-use Rattle.model.specs.declared.Record.{Record as LentRecord}
 use Rattle.std.specs.Prelude.{ℕ, Bool, true, false, List, [], ◌∷◌, length, Option, Result, Some, None, Ok, Err}
 use Rattle.model.specs.declared.Refusal.{Refusal}
 use Rattle.model.specs.declared.Part.{Part}
@@ -21,7 +20,7 @@ use Rattle.model.specs.declared.Record.TheVariants.{
   LinesHit,
   EndOfRecord,
 }
-use Rattle.model.specs.Answer.{accepted, number_of}
+use Rattle.model.specs.Answer.{number_of}
 use Rattle.model.specs.Output.{written, output_after}
 
 -- kind, four numbers, whether an end line, taken count or checksum is given, and the text's start and length
@@ -60,61 +59,32 @@ record_words EndOfRecord = eight 13 0 0 0 0 0 0 0
 abbrev pub refusal_words : Refusal → List ℕ
 refusal_words r = eight r.text r.line r.field r.needed 0 0 0 0
 
-abbrev pub line_words : Result LentRecord Refusal → List ℕ
-line_words (Ok made) = record_words made
-line_words (Err r) = refusal_words r
-
-abbrev pub line_number : Result LentRecord Refusal → ℕ
-line_number (Ok made) = 0
-line_number (Err r) = number_of r.fault
-
 -- the value, and how many digits were read
-abbrev pub counted_words : Result Counted Refusal → List ℕ
-counted_words (Ok_NumberAnswer value digits) = eight value digits 0 0 0 0 0 0
-counted_words (Err r) = refusal_words r
+abbrev pub counted_words : Counted → List ℕ
+counted_words c = eight c.value c.digits 0 0 0 0 0 0
 
-abbrev pub counted_number : Result Counted Refusal → ℕ
-counted_number (Ok_NumberAnswer value digits) = 0
-counted_number (Err r) = number_of r.fault
-
-abbrev pub write_words : Result ℕ Refusal → List ℕ
-write_words (Ok n) = eight n 0 0 0 0 0 0 0
-write_words (Err r) = refusal_words r
-
-abbrev pub write_number : Result ℕ Refusal → ℕ
-write_number (Ok n) = 0
-write_number (Err r) = number_of r.fault
-
--- the number of pairs used
-abbrev pub insert_words : Result ℕ Refusal → List ℕ
-insert_words (Ok n) = eight n 0 0 0 0 0 0 0
-insert_words (Err r) = refusal_words r
-
-abbrev pub insert_number : Result ℕ Refusal → ℕ
-insert_number (Ok n) = 0
-insert_number (Err r) = number_of r.fault
+-- the number of bytes written, or of pairs used
+abbrev pub length_words : ℕ → List ℕ
+length_words n = eight n 0 0 0 0 0 0 0
 
 -- 1 for yes, 0 for no
-abbrev pub held_word : Bool → ℕ
-held_word true = 1
-held_word false = 0
-
-abbrev pub query_words : Result Bool Refusal → List ℕ
-query_words (Ok held) = eight (held_word held) 0 0 0 0 0 0 0
-query_words (Err r) = refusal_words r
-
-abbrev pub query_number : Result Bool Refusal → ℕ
-query_number (Ok held) = 0
-query_number (Err r) = number_of r.fault
+abbrev pub held_words : Bool → List ℕ
+held_words true = eight 1 0 0 0 0 0 0 0
+held_words false = eight 0 0 0 0 0 0 0 0
 
 -- hit lines, hit functions and hit branches, each the least and the greatest number
-abbrev pub bounds_words : Result Bounds Refusal → List ℕ
-bounds_words (Ok_BoundsAnswer l g) = eight l.lines g.lines l.functions g.functions l.branches g.branches 0 0
-bounds_words (Err r) = refusal_words r
+abbrev pub bounds_words : Bounds → List ℕ
+bounds_words b = eight b.least.lines b.greatest.lines b.least.functions b.greatest.functions b.least.branches b.greatest.branches 0 0
 
-abbrev pub bounds_number : Result Bounds Refusal → ℕ
-bounds_number (Ok_BoundsAnswer l g) = 0
-bounds_number (Err r) = number_of r.fault
+-- the words of a value, or those of a refusal
+abbrev pub answer_words : {A : Type 0} → (A → List ℕ) → Result A Refusal → List ℕ
+answer_words words (Ok a) = words a
+answer_words words (Err r) = refusal_words r
+
+-- 0, or a refusal's number
+abbrev pub answer_number : {A : Type 0} → Result A Refusal → ℕ
+answer_number (Ok a) = 0
+answer_number (Err r) = number_of r.fault
 
 -- the slice for the words, which are put into it where it holds them all
 abbrev pub with_prefix : List ℕ → List ℕ → List ℕ

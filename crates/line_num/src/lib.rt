@@ -11,20 +11,6 @@ ghost use Rattle.line_num.specs.Steps.{plan_by, plan_of, answer_of, PlanFits, re
 
 use model::{Fault, Range, Refusal};
 
-fn range_at(list: &[Range], i: usize) -> Range
-    requires { i < length list.now }
-    ensures { result ≡ get_or list.now i (pair 0 0) }
-{
-    list[i]
-}
-
-fn put_range(list: &mut [Range], i: usize, range: Range)
-    requires { i < length list.old }
-    ensures { list.new ≡ set list.old i range }
-{
-    list[i] = range;
-}
-
 // One pass over the ranges used: it queries the lines from start to end, and computes what an insert of them would
 // write.
 #[derive(Clone, Copy)]
@@ -110,10 +96,7 @@ fn stays(found: Scan, x: Range) -> bool
 fn counted(at: usize, next: usize) -> usize
     ensures { result ≡ min (at + 1) next }
 {
-    if at < next {
-        return at + 1;
-    }
-    next
+    at.saturating_add(1).min(next)
 }
 
 // The pass with one more range: x, at the place before `next`.
@@ -135,32 +118,19 @@ fn scanned(found: Scan, next: usize, x: Range) -> Scan
         after.at = counted(found.at, next);
         return after;
     }
-    after.low = line_num_pairs::min_u32(found.low, x.start);
-    after.high = line_num_pairs::max_u32(found.high, x.end);
+    after.low = found.low.min(x.start);
+    after.high = found.high.max(x.end);
     after
-}
-
-// The lesser of two places, or of a number and a length.
-fn min_usize(used: usize, len: usize) -> usize
-    ensures { result ≡ min used len }
-{
-    if used < len {
-        return used;
-    }
-    len
 }
 
 // The pass over the ranges used, or over the whole slice where it is shorter.
 fn scan_all(list: &[Range], used: usize, start: u32, end: u32) -> Scan
     ensures { result ≡ scan_of list.now used start end }
 {
-    let n = min_usize(used, list.len());
+    let n = used.min(list.len());
     let mut found = scan_start(start, end);
-    let mut i = 0;
-    while i < n {
-        let x = list[i];
-        i += 1;
-        found = scanned(found, i, x);
+    for i in 0..n {
+        found = scanned(found, i + 1, list[i]);
     }
     found
 }
@@ -210,10 +180,10 @@ fn planned(found: Scan, reads: usize, from: usize, n: usize, steps: usize) -> Pl
     ensures { result ≡ plan_by found reads from n steps }
 {
     Plan {
-        reads: reads,
+        reads,
         from,
         n,
-        steps: steps,
+        steps,
         start: found.start,
         end: found.end,
         low: found.low,
@@ -278,7 +248,7 @@ fn put_at(plan: Plan, found: Scan, t: usize, k: usize, x: Range) -> Put
     if t < plan.reads {
         if passes(found, x) {
             return Put {
-                at: min_usize(found.at, k),
+                at: found.at.min(k),
                 range: Range {
                     start: found.low,
                     end: found.high,
@@ -287,7 +257,7 @@ fn put_at(plan: Plan, found: Scan, t: usize, k: usize, x: Range) -> Put
         }
         if stays(found, x) {
             return Put {
-                at: min_usize(found.at, k),
+                at: found.at.min(k),
                 range: x,
             };
         }
@@ -313,17 +283,14 @@ fn rewrite(list: &mut [Range], plan: Plan)
     requires { PlanFits plan (length list.old) }
     ensures { list.new ≡ rewritten plan list.old }
 {
-    let turns = plan.steps;
     let mut found = scan_start(plan.start, plan.end);
-    let mut t = 0;
-    while t < turns {
+    for t in 0..plan.steps {
         let k = read_at(plan, t);
         let x = list[k];
         let put = put_at(plan, found, t, k, x);
         let at = put.at;
         list[at] = put.range;
-        t += 1;
-        found = scanned(found, t, x);
+        found = scanned(found, t + 1, x);
     }
 }
 

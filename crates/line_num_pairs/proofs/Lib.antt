@@ -2,5 +2,4 @@ pub mod SpanLaws
 pub mod WellLaws
 pub mod QueryLaws
 pub mod JoinLaws
-pub mod MoveLaws
 pub mod CallLaws

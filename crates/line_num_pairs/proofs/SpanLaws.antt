@@ -1,22 +1,13 @@
 -- Laws of spans: pairs of a slice as a list. Assumes nothing.
-use Prim.Native.Nat.{ℕ, zero, suc, ◌+◌, ◌-◌, ◌≤◌, ◌<◌}
+use Prim.Native.Nat.{ℕ, zero, suc, ◌+◌, ◌≤◌, ◌<◌}
 use native.Mathlib.Omega.{arith}
 use mathlib.Core.Path.{◌≡◌, refl, ap, ap₂}
 use mathlib.Core.List.{List, [], ◌∷◌, ◌++◌}
 use lib.ListN.{length, set, take, replicate}
 use lib.Seq.{get_or-set_same, get_or-set_other}
 use Rattle.model.specs.declared.Range.{Range}
-use Rattle.model.specs.Ranges.{half_open}
 use Rattle.table.specs.Places.{Shifted}
 use Rattle.line_num_pairs.specs.Pairs.{pair, range_at, span, ranges_in, RangePlaced}
-
-pub half_none : (a b : ℕ) → b ≡ 0 → pair a 0 ≡ half_open a b
-unfolding half_open
-half_none a b e = ap (pair a) (let z : 0 ≡ b - 1 = omega arith in z)
-
-pub half_some : (a b : ℕ) → pair a (b - 1) ≡ half_open a b
-unfolding half_open
-half_some a b = refl
 
 pub length-span : (f : ℕ → Range) (i n : ℕ) → length (span f i n) ≡ n
 unfolding span

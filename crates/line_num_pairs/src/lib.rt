@@ -14,31 +14,10 @@ use model::{Fault, Range, Refusal};
 pub fn half_open(a: u32, b: u32) -> Range
     ensures { result ≡ half_open a b }
 {
-    if b == 0 {
-        return Range { start: a, end: 0 };
-    }
     Range {
         start: a,
-        end: b - 1,
+        end: b.saturating_sub(1),
     }
-}
-
-pub fn min_u32(a: u32, b: u32) -> u32
-    ensures { result ≡ min a b }
-{
-    if a < b {
-        return a;
-    }
-    b
-}
-
-pub fn max_u32(a: u32, b: u32) -> u32
-    ensures { result ≡ max a b }
-{
-    if a < b {
-        return b;
-    }
-    a
 }
 
 fn range_at(pairs: &[[u32; 2]], k: usize) -> Range
@@ -66,8 +45,7 @@ pub fn is_well_formed(pairs: &[[u32; 2]], used: usize) -> bool
         return false;
     }
     let mut least: u64 = 0;
-    let mut k = 0;
-    while k < used {
+    for k in 0..used {
         let range = range_at(pairs, k);
         if (range.start as u64) < least {
             return false;
@@ -76,7 +54,6 @@ pub fn is_well_formed(pairs: &[[u32; 2]], used: usize) -> bool
             return false;
         }
         least = range.end as u64 + 2;
-        k += 1;
     }
     true
 }
@@ -89,6 +66,7 @@ fn ends_before(pairs: &[[u32; 2]], used: usize, line: u64) -> usize
 {
     let mut lo = 0;
     let mut hi = used;
+    // the range that is searched is halved
     while lo < hi {
         let mid = lo + (hi - lo) / 2;
         let range = range_at(pairs, mid);
@@ -137,8 +115,7 @@ fn join_from(pairs: &[[u32; 2]], used: usize, first: usize, range: Range) -> Joi
 {
     let mut start = range.start;
     let mut end = range.end;
-    let mut past = first;
-    while past < used {
+    for past in first..used {
         let next = range_at(pairs, past);
         if end as u64 + 1 < next.start as u64 {
             return Joined {
@@ -146,39 +123,12 @@ fn join_from(pairs: &[[u32; 2]], used: usize, first: usize, range: Range) -> Joi
                 past,
             };
         }
-        start = min_u32(start, next.start);
-        end = max_u32(end, next.end);
-        past += 1;
+        start = start.min(next.start);
+        end = end.max(next.end);
     }
     Joined {
         range: Range { start, end },
-        past,
-    }
-}
-
-// Copies n pairs in ascending order: the target starts no later than the source.
-fn copy_forward(pairs: &mut [[u32; 2]], from: usize, to: usize, n: usize)
-    requires { (to ≤ from) × (from + n ≤ length pairs.old) }
-    ensures { Carried (range_at pairs.old) (range_at pairs.new) from to n }
-{
-    let mut i = 0;
-    while i < n {
-        let range = range_at(pairs, from + i);
-        put_range(pairs, to + i, range);
-        i += 1;
-    }
-}
-
-// Copies n pairs in descending order: the target starts no earlier than the source.
-fn copy_backward(pairs: &mut [[u32; 2]], from: usize, to: usize, n: usize)
-    requires { (from ≤ to) × (to + n ≤ length pairs.old) }
-    ensures { Carried (range_at pairs.old) (range_at pairs.new) from to n }
-{
-    let mut i = n;
-    while 0 < i {
-        i -= 1;
-        let range = range_at(pairs, from + i);
-        put_range(pairs, to + i, range);
+        past: used,
     }
 }
 
@@ -187,22 +137,15 @@ fn move_pairs(pairs: &mut [[u32; 2]], used: usize, first: usize, past: usize)
     requires { (first ≤ past) × (past ≤ used) × (used ≤ length pairs.old) × (first + 1 + (used - past) ≤ length pairs.old) }
     ensures { Carried (range_at pairs.old) (range_at pairs.new) past (first + 1) (used - past) }
 {
-    if past == first {
-        copy_backward(pairs, past, first + 1, used - past);
-    } else {
-        copy_forward(pairs, past, first + 1, used - past);
-    }
+    pairs.copy_within(past..used, first + 1);
 }
 
 // Zeros from place `from` to the end of the slice.
 fn clear_from(pairs: &mut [[u32; 2]], from: usize)
     ensures { Cleared (range_at pairs.old) (range_at pairs.new) from (length pairs.old) }
 {
-    let end = pairs.len();
-    let mut k = from;
-    while k < end {
-        put_range(pairs, k, Range { start: 0, end: 0 });
-        k += 1;
+    if from < pairs.len() {
+        pairs[from..].fill([0, 0]);
     }
 }
 

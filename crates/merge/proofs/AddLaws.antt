@@ -20,13 +20,11 @@ use Rattle.model.specs.Answer.{refuse}
 use Rattle.model.specs.Report.{Entry, Report, Key, item_key, entry_key, compare_keys, combine_entries}
 use Rattle.model.proofs.KeyOrder.{keys-order}
 use Rattle.model.proofs.Entries.{entries_keyed}
-use Rattle.table_item.specs.declared.Found.{Found}
 use Rattle.table_item.specs.declared.Found.TheVariants.{At, Insert}
 use Rattle.table_item.specs.Items.{kind_of, item_of}
 use Rattle.table_item.proofs.CompareLaws.{key_of}
 use Rattle.table_section.specs.Sections.{entry_of, entry_at, entries_at, RowInBounds}
-use Rattle.merge_combine.specs.declared.CombinedRow.{CombinedRow}
-use Rattle.merge_combine.specs.declared.CombinedRow.TheVariants.{One, Refused}
+use Rattle.std.specs.Prelude.{Ok, Err, Result as Answered}
 use Rattle.merge_combine.specs.Combined.{RowsCombined}
 use Rattle.merge_search.specs.Search.{compare_entries, SearchResult}
 use Rattle.merge.specs.declared.Walk.{Walk}
@@ -60,14 +58,9 @@ same_kind text x y wx wy e =
     let both = sym (key_of text x wx.good.kind) ∙ sym keys ∙ key_of text y wy.good.kind in
     cc
 
--- ---- answers as a match has them
-
-pub result_as : (text ws : List ℕ) (index n : ℕ) (key : Row) (r q : Found) → r ≡ q → SearchResult text ws index n key r → SearchResult text ws index n key q
-result_as text ws index n key r q z s = rw z at s
-
-pub combined_as : {text : Bytes} {mode : Mode} {old place new : Row} {r q : CombinedRow} → old ≡ place → r ≡ q → RowsCombined text mode old new r
-    → RowsCombined text mode place new q
-combined_as {text} {mode} {old} {place} {new} {r} {q} x z j = rw x at (rw z at j)
+-- the row that was read is the one at a place
+pub combined_at : {text : Bytes} {mode : Mode} {old place new : Row} {r : Answered Row Fault} → old ≡ place → RowsCombined text mode old new r → RowsCombined text mode place new r
+combined_at {text} {mode} {old} {place} {new} {r} x j = rw x at j
 
 -- ---- what `add_row` owes
 
@@ -115,10 +108,10 @@ module _ {text ws : List ℕ} {index limit : ℕ} {walk : Walk} {r : Row} (mode 
     at_place : added mode e joined ≡ map_accepted (λ y. set joined i y) (combine_entries mode (f i) e)
     at_place = add-known entry_key compare_keys (combine_entries mode) e f n i s.0 (λ k l. keys-order.greater (s.1 k l)) s.2
 
-    pub added-refused : (fault : Fault) → RowsCombined text mode (row ws index i) r (Refused fault) → added mode e joined ≡ refuse fault
+    pub added-refused : (fault : Fault) → RowsCombined text mode (row ws index i) r (Err fault) → added mode e joined ≡ refuse fault
     added-refused fault j = at_place ∙ ap (map_accepted (λ y. set joined i y)) (sym j.is)
 
-    pub added-known : {ws' : List ℕ} (both : Row) → RowsCombined text mode (row ws index i) r (One both) → Store ws' index (n + p)
+    pub added-known : {ws' : List ℕ} (both : Row) → RowsCombined text mode (row ws index i) r (Ok both) → Store ws' index (n + p)
         → Updated (row ws index) (row ws' index) (n + p) i both → length ws' ≡ length ws
         → Stepped text ws ws' index limit walk r mode (record { main = n; delta = p; from = i + 1; full = walk.full })
     added-known {ws'} both j σ π len =

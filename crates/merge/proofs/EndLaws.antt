@@ -26,10 +26,9 @@ use Rattle.model.proofs.MergeValid.{merge-valid}
 use Rattle.table_section.specs.Sections.{entry_of, entry_at, entries_at, RowInBounds}
 use Rattle.section.specs.Table.{Table}
 use Rattle.section_upsert.proofs.UpsertLaws.{within-fits, within-past}
-use Rattle.merge.specs.declared.Joined.{Joined}
-use Rattle.merge.specs.declared.Joined.TheVariants.{Entries, Refused}
+use Rattle.std.specs.Prelude.{Result, Ok, Err}
 use Rattle.merge.specs.declared.Walk.{Walk}
-use Rattle.merge.specs.Walking.{new_at, news_at, fresh, spare_word, DeltaMerged, ended_of}
+use Rattle.merge.specs.Walking.{new_at, news_at, spare_word, DeltaMerged, ended_of}
 use Rattle.merge.specs.Merging.{Tables, MergedAsModel}
 use Rattle.merge.proofs.StandLaws.{all, Standing, standing_fits, standing_full}
 use Rattle.merge.proofs.PartLaws.{part-row, part-store}
@@ -38,17 +37,17 @@ use Rattle.merge.proofs.WalkLaws.{Walked, standing_as, answer, rows_part}
 
 -- ---- the end
 
-pub ended_full : (full : Bool) (n : ℕ) → full ≡ true → Refused TooManyEntries ≡ ended_of full n
+pub ended_full : (full : Bool) (n : ℕ) → full ≡ true → Err TooManyEntries ≡ ended_of full n
 ended_full full n e = rw e
 
-pub ended-fits : (full : Bool) (n : ℕ) → full ≡ false → Entries n ≡ ended_of full n
+pub ended-fits : (full : Bool) (n : ℕ) → full ≡ false → Ok n ≡ ended_of full n
 ended-fits full n e = rw e
 
 -- ---- the answers
 
 pub merged-refused : {text words₀ words : List ℕ} {base index limit n m : ℕ} {mode : Mode} {fault : Fault}
     → refuse fault ≡ answer text words₀ base index limit n m mode
-    → MergedAsModel text words₀ words base index limit n m mode (Refused fault)
+    → MergedAsModel text words₀ words base index limit n m mode (Err fault)
 merged-refused e = record { is = e; held = tt }
 
 -- the whole text is merged
@@ -136,5 +135,5 @@ module _ {text words₀ : List ℕ} (words : List ℕ) {base index limit n used 
                 τ.into.valid τ.other.valid (report e);
           }
 
-      pub merged_done : (r : Joined) → r ≡ ended_of walk.full both → MergedAsModel text words₀ words' base index limit n m mode r
+      pub merged_done : (r : Result ℕ Fault) → r ≡ ended_of walk.full both → MergedAsModel text words₀ words' base index limit n m mode r
       merged_done r e = rw e (done walk.full refl)

@@ -1,19 +1,14 @@
 -- Parts of the words that are lent: the rows in the front part, and the words as they come back. Assumes nothing.
 use Prim.Native.Nat.{ℕ, ◌+◌, ◌*◌, ◌-◌, ◌≤◌, ◌<◌}
 use native.Mathlib.Omega.{arith}
-use mathlib.Core.Path.{◌≡◌, refl, sym, ap, ◌∙◌}
+use mathlib.Core.Path.{refl, ◌≡◌, sym, ap, ◌∙◌}
 use mathlib.Core.List.{List, ◌++◌}
-use lib.ListN.{length, set, take, drop, length-append, length-take, length-drop}
-use lib.Seq.{take_at, drop_at, take_all, take-take, take-set-le, get_or-drop, get_or-set_same, get_or-set_other}
-use Rattle.table.specs.declared.Row.{Row}
+use lib.ListN.{length, take, drop, length-append, length-take, length-drop}
+use lib.Seq.{take_at, drop_at, take_all, take-take}
 use Rattle.table.specs.Rows.{row_words, word, row_at}
 use Rattle.table.specs.Store.{number, row, Store}
 use Rattle.table.proofs.WordLaws.{row_cong}
-use Rattle.model.specs.declared.Mode.{Mode}
 use Rattle.merge_search.specs.Search.{EntriesAscending}
-use Rattle.merge.specs.declared.Walk.{Walk}
-use Rattle.merge.specs.declared.Added.{Added}
-use Rattle.merge.specs.Walking.{RowAdded, PositionNoted, spare_word}
 
 -- ---- the front part of the words
 
@@ -69,40 +64,12 @@ module _ {base : ℕ} {words₀ words : List ℕ} (λ₀ : Lent base words₀ wo
       size = simp (length-append, length-drop) (omega (arith, front_size, λ₀.size));
     }
 
--- ---- a step
+-- ---- words that were lent
 
--- the words before the spare ones were lent and came back as ys, and then a spare word may be written
+-- the words before a place were lent and came back as ys
 module _ (words ys : List ℕ) (spare : ℕ) (inside : spare ≤ length words) (len : length ys ≡ length (take spare words)) where
-  abbrev back_again : List ℕ
-  back_again = ys ++ drop spare words
-
-  pub lent-part : take spare back_again ≡ ys
+  pub lent-part : take spare (ys ++ drop spare words) ≡ ys
   lent-part = lent-front (record { other = refl; size = refl }) ys inside len
 
-  pub lent_noted : (k v : ℕ) → take spare (set back_again (spare + k) v) ≡ ys
-  lent_noted k v = take-set-le spare back_again (spare + k) v (omega arith) ∙ lent-part
-
-  pub lent_size : length back_again ≡ length words
+  pub lent_size : length (ys ++ drop spare words) ≡ length words
   lent_size = (lent_back (record { other = refl; size = refl }) ys inside len).size
-
-  spare-stays : (j : ℕ) → spare_word back_again spare j ≡ spare_word words spare j
-  spare-stays j =
-      sym (get_or-drop spare back_again j 0)
-      ∙ ap (λ (l : List ℕ). word l j) (lent_back {words₀ = words} {words = words} (record { other = refl; size = refl }) ys inside len).other
-      ∙ get_or-drop spare words j 0
-
-  module _ {walk next : Walk} where
-    pub noted_none : next.delta ≤ walk.delta → PositionNoted (spare_word words spare) (spare_word back_again spare) walk next
-    noted_none h = record { older = λ j l. spare-stays j; newest = λ l. absurd (omega arith) }
-
-    pub noted_place : spare + walk.delta < length words
-        → PositionNoted (spare_word words spare) (spare_word (set back_again (spare + walk.delta) next.from) spare) walk next
-    noted_place h = record {
-      older = λ j l. get_or-set_other back_again (spare + walk.delta) (spare + j) next.from 0 (omega arith) ∙ spare-stays j;
-      newest = λ l. get_or-set_same back_again (spare + walk.delta) next.from 0 (omega (arith, lent_size));
-    }
-
--- an answer by a match, of words that came back
-pub adding_as : (text ws : List ℕ) (index limit : ℕ) (walk : Walk) (r : Row) (mode : Mode) {ws' ws'' : List ℕ} {a b : Added} → ws'' ≡ ws' → a ≡ b
-    → RowAdded text ws ws' index limit walk r mode a → RowAdded text ws ws'' index limit walk r mode b
-adding_as text ws index limit walk r mode e q s = rw (e, ← q) s

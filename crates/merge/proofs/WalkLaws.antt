@@ -3,7 +3,6 @@ use Prim.Native.Nat.{ℕ, ◌+◌, ◌≤◌, ◌<◌}
 use native.Mathlib.Omega.{arith}
 use mathlib.Core.Path.{◌≡◌, refl, sym, ap, ◌∙◌}
 use mathlib.Core.Bool.{Bool, false}
-use mathlib.Core.List.Memᴰ.{head as here}
 use mathlib.Core.List.{List, ◌∷◌}
 use lib.Dec.{compare_is_eq}
 use lib.ListN.{length, take, drop, length-take}
@@ -26,11 +25,9 @@ use Rattle.section.specs.Table.{Table}
 use Rattle.table_item.proofs.SearchLaws.{sorted_at}
 use Rattle.merge_search.specs.Names.{SameEntry}
 use Rattle.merge_search.specs.Search.{compare_entries}
-use Rattle.merge.specs.declared.Joined.TheVariants.{Refused}
 use Rattle.merge.specs.declared.Walk.{Walk}
-use Rattle.merge.specs.declared.Added.{Added}
-use Rattle.merge.specs.declared.Added.TheVariants as A
-use Rattle.merge.specs.Walking.{new_at, news_at, TableWithin, Ahead, RowComesNext, RowOutcome, known, fresh, left, Stepped, RowAdded, PositionNoted, PositionsKept, spare_word}
+use Rattle.std.specs.Prelude.{Err}
+use Rattle.merge.specs.Walking.{new_at, news_at, TableWithin, Ahead, RowComesNext, RowOutcome, known, fresh, left, Stepped, RowAdded, PositionNoted, spare_word}
 use Rattle.merge.specs.Merging.{Tables}
 use Rattle.merge.proofs.StandLaws.{counted, Standing, standing_start, standing_refused, standing_known, standing_fresh, standing_left}
 use Rattle.merge.proofs.PartLaws.{part-row, part-store}
@@ -143,13 +140,8 @@ module _ {text ws back : List ℕ} {place : ℕ → ℕ} {index limit used m : �
   pub walked_ready : RowComesNext text ws index limit walk r × RowInBounds text r
   walked_ready = (record { joined = ω.joined; ahead = ahead_hand }, μ.whole)
 
-  pub walked_refused : (ws' : List ℕ) (a : Added) (fault : Fault) → a ≡ A.Refused fault → RowAdded text ws ws' index limit walk r mode a
-      → refuse fault ≡ whole
-  walked_refused ws' a fault q s = standing_refused at_hand ω.joined.ascending.sorted sorted_hand (unplaced fault) (go a q s)
-    where
-      go : (a : Added) → a ≡ A.Refused fault → RowAdded text ws ws' index limit walk r mode a
-          → RowAdded text ws ws' index limit walk r mode (A.Refused fault)
-      go a q s = rw q at s
+  pub walked_refused : (ws' : List ℕ) (fault : Fault) → RowAdded text ws ws' index limit walk r mode (Err fault) → refuse fault ≡ whole
+  walked_refused ws' fault q = standing_refused at_hand ω.joined.ascending.sorted sorted_hand (unplaced fault) q
 
   -- ---- the row is taken
 
@@ -202,8 +194,8 @@ module _ {text ws back : List ℕ} {place : ℕ → ℕ} {index limit used m : �
         (ap (entry_of text) stands-there)))
         (standing_fresh at_hand ω.joined.ascending.sorted sorted_hand (result_none r ω.joined.ascending s)))
 
-    step : Stepped text ws ws' index limit walk r mode next → Walked text ws' back place' index limit m mode whole next (k + 1)
-    step σ = record {
+    pub walked_next : Stepped text ws ws' index limit walk r mode next → Walked text ws' back place' index limit m mode whole next (k + 1)
+    walked_next σ = record {
       most = omega arith;
       joined = σ.joined;
       seats = sits σ.same σ.taken;
@@ -211,13 +203,3 @@ module _ {text ws back : List ℕ} {place : ℕ → ℕ} {index limit used m : �
           (ap (λ (x : Entry). compare_entries x (f j)) μ.entry ∙ sorted_at entry_key compare_keys f m τ.valid.sorted k j (omega arith) o);
       standing = stands σ.same σ.taken;
     }
-
-  pub walked_next : (ws' : List ℕ) (place' : ℕ → ℕ) (a : Added) (next : Walk) → a ≡ A.Next next → RowAdded text ws ws' index limit walk r mode a
-      → PositionsKept place place' walk a → Walked text ws' back place' index limit m mode whole next (k + 1)
-  walked_next ws' place' a next q s ν = step ws' place' next (noted a q ν) (go a q s)
-    where
-      go : (a : Added) → a ≡ A.Next next → RowAdded text ws ws' index limit walk r mode a → Stepped text ws ws' index limit walk r mode next
-      go a q s = rw q at s
-
-      noted : (a : Added) → a ≡ A.Next next → PositionsKept place place' walk a → PositionNoted place place' walk next
-      noted a q ν = rw q at ν

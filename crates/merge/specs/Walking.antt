@@ -1,13 +1,14 @@
 -- A walk through the entries that are merged into the joined ones: n entries in order, and behind them those that are new, in order too.
 -- Assumes nothing.
 use Prim.Native.Nat.{Ordering}
-use Rattle.std.specs.Prelude.{ℕ, ◌+◌, ◌*◌, ◌≤◌, ◌<◌, ◌≡◌, Bool, true, false, List, length}
+use Rattle.std.specs.Prelude.{ℕ, ◌+◌, ◌*◌, ◌≤◌, ◌<◌, ◌≡◌, Bool, true, false, List, length, Result, Ok, Err}
 use Rattle.table.specs.declared.Row.{Row}
 use Rattle.table.specs.Places.{tabulate, Unchanged}
 use Rattle.table.specs.Rows.{row_words, word}
 use Rattle.table.specs.Store.{row, Store}
 use Rattle.table_interleave.specs.Interleaved.{Interleaved}
 use Rattle.ordmap.specs.Keyed.{add}
+use Rattle.model.specs.declared.Fault.{Fault}
 use Rattle.model.specs.declared.Fault.TheVariants.{TooManyEntries}
 use Rattle.model.specs.declared.Mode.{Mode}
 use Rattle.model.specs.Bytes.{Bytes}
@@ -16,11 +17,7 @@ use Rattle.model.specs.Report.{Entry, Report, entry_key, compare_keys, combine_e
 use Rattle.table_item.specs.declared.Found.TheVariants.{Insert}
 use Rattle.table_section.specs.Sections.{entry_of, entry_at, entries_at, RowInBounds}
 use Rattle.merge_search.specs.Search.{EntriesAscending, Passed, SearchResult, compare_entries}
-use Rattle.merge.specs.declared.Joined.{Joined}
-use Rattle.merge.specs.declared.Joined.TheVariants as J
 use Rattle.merge.specs.declared.Walk.{Walk}
-use Rattle.merge.specs.declared.Added.{Added}
-use Rattle.merge.specs.declared.Added.TheVariants.{Next, Refused}
 
 -- ---- the joined entries
 
@@ -94,9 +91,9 @@ pub record Stepped (text ws ws' : List ℕ) (index limit : ℕ) (walk : Walk) (r
   pub ahead : (later : Row) → compare_entries (entry_of text r) (entry_of text later) ≡ Ordering.lt → Ahead text ws' index next later
   pub taken : RowOutcome text ws ws' index limit walk r mode next
 
-abbrev pub RowAdded : Bytes → List ℕ → List ℕ → ℕ → ℕ → Walk → Row → Mode → Added → Type 0
-RowAdded text ws ws' index limit walk r mode (Next next) = Stepped text ws ws' index limit walk r mode next
-RowAdded text ws ws' index limit walk r mode (Refused fault) = added mode (entry_of text r) (entries_at text ws index walk.main) ≡ refuse fault
+abbrev pub RowAdded : Bytes → List ℕ → List ℕ → ℕ → ℕ → Walk → Row → Mode → Result Walk Fault → Type 0
+RowAdded text ws ws' index limit walk r mode (Ok next) = Stepped text ws ws' index limit walk r mode next
+RowAdded text ws ws' index limit walk r mode (Err fault) = added mode (entry_of text r) (entries_at text ws index walk.main) ≡ refuse fault
 
 -- ---- the places of the new entries
 
@@ -105,9 +102,9 @@ pub record PositionNoted (place place' : ℕ → ℕ) (walk next : Walk) : Type 
   pub older : (j : ℕ) → j < walk.delta → place' j ≡ place j
   pub newest : walk.delta < next.delta → place' walk.delta ≡ next.from
 
-abbrev pub PositionsKept : (ℕ → ℕ) → (ℕ → ℕ) → Walk → Added → Type 0
-PositionsKept place place' walk (Next next) = PositionNoted place place' walk next
-PositionsKept place place' walk (Refused fault) = Unit {0}
+abbrev pub PositionsKept : (ℕ → ℕ) → (ℕ → ℕ) → Walk → Result Walk Fault → Type 0
+PositionsKept place place' walk (Ok next) = PositionNoted place place' walk next
+PositionsKept place place' walk (Err fault) = Unit {0}
 
 -- word j of the spare ones
 abbrev pub spare_word : List ℕ → ℕ → ℕ → ℕ
@@ -120,6 +117,6 @@ pub record DeltaMerged (ws ws' : List ℕ) (index spare n p : ℕ) : Type 0 wher
   pub store : Store ws' index (n + p)
   pub rows : Interleaved (row ws index) (row ws' index) (spare_word ws spare) (n + p) 0 n p
 
-abbrev pub ended_of : Bool → ℕ → Joined
-ended_of true n = J.Refused TooManyEntries
-ended_of false n = J.Entries n
+abbrev pub ended_of : Bool → ℕ → Result ℕ Fault
+ended_of true n = Err TooManyEntries
+ended_of false n = Ok n

@@ -14,18 +14,10 @@ ghost use Rattle.table_section.specs.Sections.{RowInBounds};
 ghost use Rattle.merge.specs.Walking.{RowsWithin, RowPushed, RowComesNext, RowAdded, PositionsKept, spare_word, DeltaMerged, ended_of};
 ghost use Rattle.merge.specs.Merging.{Tables, MergedAsModel};
 
-use merge_combine::CombinedRow;
 use merge_search::names;
 use model::{Fault, Mode};
 use table::Row;
 use table_item::Found;
-
-// The number of entries that are now joined, or why there are none.
-#[derive(Clone, Copy)]
-pub enum Joined {
-    Entries(usize),
-    Refused(Fault),
-}
 
 // The sizes of main and delta, the position in main before which all entries come before what is still to be merged, and whether a new
 // row found no free row.
@@ -37,36 +29,25 @@ struct Walk {
     full: bool,
 }
 
-#[derive(Clone, Copy)]
-enum Added {
-    Next(Walk),
-    Refused(Fault),
-}
-
 // Appends a row whose key is new to the delta; its insert position is i. Where no row is free, the row is left out.
 fn add_new(words: &mut [u64], index: usize, limit: usize, walk: Walk, row: Row, i: usize) -> Walk
     requires { RowsWithin words.old index limit walk }
     ensures { RowPushed words.old words.new index limit walk row i result }
 {
-    let n = walk.main;
-    let new = walk.delta;
-    let used = n + new;
+    let used = walk.main + walk.delta;
     if limit <= used {
         return Walk {
-            main: n,
-            delta: new,
             from: i,
             full: true,
+            ..walk
         };
     }
-    let full = walk.full;
     table::push_row(words, index, used);
     table::put(words, index, used + 1, used, row);
     Walk {
-        main: n,
-        delta: new + 1,
+        delta: walk.delta + 1,
         from: i,
-        full,
+        ..walk
     }
 }
 
@@ -80,36 +61,23 @@ fn add_row(
     stride: usize,
     row: Row,
     mode: Mode,
-) -> Added
+) -> Result<Walk, Fault>
     requires { RowComesNext text.now words.old index limit walk row × RowInBounds text.now row }
     ensures { RowAdded text.now words.old words.new index limit walk row mode result }
 {
     let n = walk.main;
-    let new = walk.delta;
-    let used = n + new;
-    let full = walk.full;
-    let found = merge_search::search_with_hint(text, words, index, used, n, walk.from, stride, row);
-    match found {
+    let used = n + walk.delta;
+    match merge_search::search_with_hint(text, words, index, used, n, walk.from, stride, row) {
         Found::At(i) => {
             let old = table::get(words, index, used, i);
-            match merge_combine::combine_rows(text, old, row, mode) {
-                CombinedRow::One(both) => {
-                    table::put(words, index, used, i, both);
-                    return Added::Next(Walk {
-                        main: n,
-                        delta: new,
-                        from: i + 1,
-                        full,
-                    });
-                }
-                CombinedRow::Refused(fault) => {
-                    return Added::Refused(fault);
-                }
-            }
+            let both = merge_combine::combine_rows(text, old, row, mode)?;
+            table::put(words, index, used, i, both);
+            Ok(Walk {
+                from: i + 1,
+                ..walk
+            })
         }
-        Found::Insert(i) => {
-            return Added::Next(add_new(words, index, limit, walk, row, i));
-        }
+        Found::Insert(i) => Ok(add_new(words, index, limit, walk, row, i)),
     }
 }
 
@@ -123,7 +91,7 @@ fn step(
     stride: usize,
     row: Row,
     mode: Mode,
-) -> Added
+) -> Result<Walk, Fault>
     requires row_comes_next { RowComesNext text.now (take (index + limit) words.old) index limit walk row × RowInBounds text.now row }
     requires limit_in_bounds { index + limit + limit ≤ length words.old }
     ensures row_added { RowAdded text.now (take (index + limit) words.old) (take (index + limit) words.new) index limit walk row mode result }
@@ -131,7 +99,7 @@ fn step(
 {
     let spare = index + limit;
     let new = walk.delta;
-    match add_row(
+    let next = add_row(
         text,
         &mut words[..spare],
         index,
@@ -140,17 +108,11 @@ fn step(
         stride,
         row,
         mode,
-    ) {
-        Added::Refused(fault) => {
-            return Added::Refused(fault);
-        }
-        Added::Next(next) => {
-            if new < next.delta {
-                words[spare + new] = next.from as u64;
-            }
-            return Added::Next(next);
-        }
+    )?;
+    if new < next.delta {
+        words[spare + new] = next.from as u64;
     }
+    Ok(next)
 }
 
 // Interleaves the delta with main. Nothing moves where all of it belongs behind main.
@@ -168,13 +130,13 @@ fn merge_delta(words: &mut [u64], index: usize, spare: usize, n: usize, new: usi
 }
 
 // The entries are counted when the whole text is merged: "11 to 13 in walk order .., then 10".
-fn finish_merge(full: bool, n: usize) -> Joined
+fn finish_merge(full: bool, n: usize) -> Result<usize, Fault>
     ensures { result ≡ ended_of full n }
 {
     if full {
-        return Joined::Refused(Fault::TooManyEntries);
+        return Err(Fault::TooManyEntries);
     }
-    Joined::Entries(n)
+    Ok(n)
 }
 
 // The distance of a row's key from the start of its search, as a hint for the next row. Nothing is promised of it.
@@ -200,7 +162,7 @@ pub fn merge(
     used: usize,
     m: usize,
     mode: Mode,
-) -> Joined
+) -> Result<usize, Fault>
     requires { Tables text.now words.old base index limit n used m }
     ensures { MergedAsModel text.now words.old words.new base index limit n m mode result }
 {
@@ -213,30 +175,22 @@ pub fn merge(
     let spare = index + limit;
     let mut section = names::no_section();
     let mut gap = 0;
-    let mut k = 0;
-    while k < m {
+    for k in 0..m {
         let read = table::get(&words[base..], index, used, k);
         let row = names::with_known_names(read, section);
-        match step(text, &mut words[..base], index, limit, walk, gap, row, mode) {
-            Added::Refused(fault) => {
-                return Joined::Refused(fault);
-            }
-            Added::Next(next) => {
-                section = names::section_of(
-                    text,
-                    &words[..spare],
-                    index,
-                    next.main + next.delta,
-                    next.main,
-                    next.from,
-                    read,
-                    section,
-                );
-                gap = stride_hint(walk, next);
-                walk = next;
-                k += 1;
-            }
-        }
+        let next = step(text, &mut words[..base], index, limit, walk, gap, row, mode)?;
+        section = names::section_of(
+            text,
+            &words[..spare],
+            index,
+            next.main + next.delta,
+            next.main,
+            next.from,
+            read,
+            section,
+        );
+        gap = stride_hint(walk, next);
+        walk = next;
     }
     merge_delta(&mut words[..base], index, spare, walk.main, walk.delta);
     finish_merge(walk.full, walk.main + walk.delta)

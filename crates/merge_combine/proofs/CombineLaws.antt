@@ -18,37 +18,14 @@ use Rattle.std.specs.Prelude.{if◌then◌else◌}
 use Rattle.model.specs.Bytes.{Bytes, same_bytes}
 use Rattle.model.specs.Limits.{u64_max}
 use Rattle.model.specs.Answer.{Answer, accepted, refused, ◌>>=◌, refuse}
-use Rattle.model.specs.Report.{
-  extent_at,
-  Extent,
-  updated,
-  Item,
-  extent_of,
-  larger,
-  join_extents,
-  combine_extents,
-  function_item,
-  branch_item,
-  line_item,
-  section_key,
-  in_section,
-  taken_of,
-  checksum_of,
-  count_of,
-  sum,
-  sum_taken,
-  agree,
-  combine_items,
-  combine_entries,
-}
+use Rattle.model.specs.Report.{extent_at, Extent, updated, Item, extent_of, join_extents, combine_extents, function_item, branch_item, line_item, section_key, in_section, taken_of, checksum_of, count_of, sum, sum_taken, agree, combine_items, combine_entries}
 use Rattle.table_item.specs.Items.{part, kind_of, function_kind, branch_kind, line_kind, if_given, line_numbers, extent_in, start_key, function_in, item_of, ItemInBounds}
 use Rattle.table_item.proofs.CountLaws.{function-item}
 use Rattle.table_item.proofs.RowLaws.{KeyOf, function-extent}
 use Rattle.table_section.specs.Sections.{entry_of, RowInBounds}
 use Rattle.merge_combine.specs.declared.Choice.{Choice}
 use Rattle.merge_combine.specs.declared.Choice.TheVariants.{Earlier, Later, Neither}
-use Rattle.merge_combine.specs.declared.CombinedRow.{CombinedRow}
-use Rattle.merge_combine.specs.declared.CombinedRow.TheVariants.{One, Refused}
+use Rattle.std.specs.Prelude.{Result, Ok, Err}
 use Rattle.merge_combine.specs.Combined.{choice_of, made, with_larger_end, summed, RowsCombined}
 
 -- ---- which of two stays
@@ -191,7 +168,7 @@ unfolding item_of
 line-item text r e = rw e
 
 -- a section's header row is unchanged
-pub combined_section : (text : Bytes) (mode : Mode) (old new : Row) → kind_of old ≡ 0 → RowInBounds text old → RowsCombined text mode old new (One old)
+pub combined_section : (text : Bytes) (mode : Mode) (old new : Row) → kind_of old ≡ 0 → RowInBounds text old → RowsCombined text mode old new (Ok old)
 unfolding combine_entries combine_items item_of
 combined_section text mode old new e w = record { is = rw e; whole = w }
 
@@ -221,7 +198,7 @@ module _ (text : Bytes) (mode : Mode) (old new : Row) where
       go : (b : Bool)
           → combine_items mode (item_of text old) (item_of text new)
           ≡ ((if b then accepted (old.count + new.count) else refuse CountOverflow) >>= λ total. accepted (f total))
-          → RowsCombined text mode old new (if b then One (made old tag k2 k3 (old.count + new.count)) else Refused CountOverflow)
+          → RowsCombined text mode old new (if b then Ok (made old tag k2 k3 (old.count + new.count)) else Err CountOverflow)
       go true q = record { is = entry-made tag k2 k3 (old.count + new.count) (ap accepted (is (old.count + new.count)) ∙ sym q); whole = whole (old.count + new.count) }
       go false q = record { is = entry-refused CountOverflow (sym q); whole = tt }
 
@@ -256,7 +233,7 @@ module _ (text : Bytes) (mode : Mode) (old new : Row) where
           ∙ ap (λ (d : Choice). function_with (chosen_extent x y d)) (sym (e ∙ ap₂ (λ (m n : ℕ). choice_of mode m n (eqb m n)) earlier-is later_is) ∙ f)
 
       pub function-earlier : (r : Row) → choice ≡ Earlier → r ≡ with_larger_end (new.tag % 2) (old.tag % 2) (made old old.tag old.k2 old.k3 total) new
-          → RowInBounds text old → RowsCombined text mode old new (One r)
+          → RowInBounds text old → RowsCombined text mode old new (Ok r)
       function-earlier r f q w = rw q (go (new.tag % 2) (old.tag % 2) refl refl)
         where
           like : (later ≡ 0) ⊎ (earlier ≡ later)
@@ -264,7 +241,7 @@ module _ (text : Bytes) (mode : Mode) (old new : Row) where
 
           kept : (n m : ℕ) (tag k3 : ℕ) → new.tag % 2 ≡ n → old.tag % 2 ≡ m → tag / 2 ≡ function_kind
               → extent_in (tag % 2) k3 ≡ joined_extents (extent_in m old.k3) (extent_in n new.k3)
-              → RowsCombined text mode old new (One (made old tag old.k2 k3 total))
+              → RowsCombined text mode old new (Ok (made old tag old.k2 k3 total))
           kept n m tag k3 u v k q = record {
             is = entry-made tag old.k2 k3 total
                 (ap accepted
@@ -276,7 +253,7 @@ module _ (text : Bytes) (mode : Mode) (old new : Row) where
           }
 
           go : (n m : ℕ) → new.tag % 2 ≡ n → old.tag % 2 ≡ m
-              → RowsCombined text mode old new (One (with_larger_end n m (made old old.tag old.k2 old.k3 total) new))
+              → RowsCombined text mode old new (Ok (with_larger_end n m (made old old.tag old.k2 old.k3 total) new))
           go zero m u v =
               kept zero m old.tag old.k3 u v a
               (ap (λ (i : ℕ). extent_in i old.k3) v ∙ plain-kept m old.k3 new.k3)
@@ -290,7 +267,7 @@ module _ (text : Bytes) (mode : Mode) (old new : Row) where
               same = same_key like (earlier-is ∙ ap (λ (i : ℕ). start_key (extent_in i old.k3)) v) (later_is ∙ ap (λ (i : ℕ). start_key (extent_in i new.k3)) u)
 
               by-words : (less : Bool) → ltb old.k3 new.k3 ≡ less
-                  → RowsCombined text mode old new (One (if less then made old new.tag old.k2 new.k3 total else made old old.tag old.k2 old.k3 total))
+                  → RowsCombined text mode old new (Ok (if less then made old new.tag old.k2 new.k3 total else made old old.tag old.k2 old.k3 total))
               by-words true l =
                   kept (suc n) (suc m) new.tag new.k3 u v b
                   (ap (λ (i : ℕ). extent_in i new.k3) u ∙ packed_joined n m old.k3 new.k3 new.k3 same (omega (arith, ltb-true old.k3 new.k3 l)))
@@ -298,13 +275,13 @@ module _ (text : Bytes) (mode : Mode) (old new : Row) where
                   kept (suc n) (suc m) old.tag old.k3 u v a
                   (ap (λ (i : ℕ). extent_in i old.k3) v ∙ packed_joined n m old.k3 new.k3 old.k3 same (omega (arith, ltb-false old.k3 new.k3 l)))
 
-      pub function_later : (r : Row) → choice ≡ Later → r ≡ made old new.tag old.k2 new.k3 total → RowInBounds text old → RowsCombined text mode old new (One r)
+      pub function_later : (r : Row) → choice ≡ Later → r ≡ made old new.tag old.k2 new.k3 total → RowInBounds text old → RowsCombined text mode old new (Ok r)
       function_later r f q w = rw q record {
         is = entry-made new.tag old.k2 new.k3 total (ap accepted (function-item text (made old new.tag old.k2 new.k3 total) b) ∙ sym (functions-by Later f));
         whole = function-whole new.tag new.k3 b w;
       }
 
-      pub function_neither : choice ≡ Neither → RowsCombined text mode old new (Refused UnmatchedFunctionLine)
+      pub function_neither : choice ≡ Neither → RowsCombined text mode old new (Err UnmatchedFunctionLine)
       function_neither f = record { is = entry-refused UnmatchedFunctionLine (sym (functions-by Neither f)); whole = tt }
 
   -- ---- branches
@@ -318,14 +295,14 @@ module _ (text : Bytes) (mode : Mode) (old new : Row) where
     unfolding combine_items taken_of
     branches-by = ap₂ (combine_items mode) (branch-item text old a) (branch-item text new b)
 
-    pub branch-earlier : new.tag % 2 ≡ 0 → RowInBounds text old → RowsCombined text mode old new (One old)
+    pub branch-earlier : new.tag % 2 ≡ 0 → RowInBounds text old → RowsCombined text mode old new (Ok old)
     unfolding sum_taken
     branch-earlier z w = record {
       is = entry-made old.tag old.k2 old.k3 old.count (ap accepted (branch-item text old a) ∙ sym (branches-by ∙ rw z));
       whole = w;
     }
 
-    pub branch_later : new.tag % 2 ≢ 0 → old.tag % 2 ≡ 0 → RowInBounds text old → RowsCombined text mode old new (One (made old new.tag old.k2 old.k3 new.count))
+    pub branch_later : new.tag % 2 ≢ 0 → old.tag % 2 ≡ 0 → RowInBounds text old → RowsCombined text mode old new (Ok (made old new.tag old.k2 old.k3 new.count))
     unfolding sum_taken
     branch_later n z w =
         let o : new.tag % 2 ≡ 1 = omega arith in
@@ -334,7 +311,7 @@ module _ (text : Bytes) (mode : Mode) (old new : Row) where
           whole = branch-whole new.tag new.count b w;
         }
 
-    pub branch-sum : (r : CombinedRow) → r ≡ summed old new.count → new.tag % 2 ≢ 0 → old.tag % 2 ≢ 0 → RowInBounds text old → RowsCombined text mode old new r
+    pub branch-sum : (r : Result Row Fault) → r ≡ summed old new.count → new.tag % 2 ≢ 0 → old.tag % 2 ≢ 0 → RowInBounds text old → RowsCombined text mode old new r
     unfolding sum_taken
     branch-sum r e n z w =
         let o : new.tag % 2 ≡ 1 = omega arith in
@@ -367,7 +344,7 @@ module _ (text : Bytes) (mode : Mode) (old new : Row) where
         ∙ ap line_with (agreed same_bytes mode UnmatchedChecksum (old.tag % 2) (new.tag % 2) (part text old.k2 old.k3) (part text new.k2 new.k3) alike (λ y z. same (omega arith) (omega arith)))
         ∙ ap (λ (c : Choice). line_with (chosen UnmatchedChecksum (if_given (old.tag % 2) (part text old.k2 old.k3)) (if_given (new.tag % 2) (part text new.k2 new.k3)) c)) (sym e ∙ f)
 
-    pub line-earlier : (r : CombinedRow) → choice ≡ Earlier → r ≡ summed old new.count → RowsCombined text mode old new r
+    pub line-earlier : (r : Result Row Fault) → choice ≡ Earlier → r ≡ summed old new.count → RowsCombined text mode old new r
     line-earlier r f q =
         rw q
         (combined_sum old.tag old.k2 old.k3 (λ n. line_item old.k1 n (if_given (old.tag % 2) (part text old.k2 old.k3)))
@@ -375,7 +352,7 @@ module _ (text : Bytes) (mode : Mode) (old new : Row) where
         (λ n. whole-made old.tag old.k2 old.k3 n w (record { kind = w.good.kind; name = λ z. absurd (omega arith); checksum = w.good.checksum }))
         (lines-by Earlier f))
 
-    pub line_later : (r : CombinedRow) → choice ≡ Later → r ≡ summed (made old new.tag new.k2 new.k3 old.count) new.count → RowsCombined text mode old new r
+    pub line_later : (r : Result Row Fault) → choice ≡ Later → r ≡ summed (made old new.tag new.k2 new.k3 old.count) new.count → RowsCombined text mode old new r
     line_later r f q =
         rw q
         (combined_sum new.tag new.k2 new.k3 (λ n. line_item old.k1 n (if_given (new.tag % 2) (part text new.k2 new.k3)))
@@ -383,13 +360,13 @@ module _ (text : Bytes) (mode : Mode) (old new : Row) where
         (λ n. whole-made new.tag new.k2 new.k3 n w (record { kind = v.good.kind; name = λ z. absurd (omega arith); checksum = v.good.checksum }))
         (lines-by Later f))
 
-    pub line_neither : choice ≡ Neither → RowsCombined text mode old new (Refused UnmatchedChecksum)
+    pub line_neither : choice ≡ Neither → RowsCombined text mode old new (Err UnmatchedChecksum)
     line_neither f = record { is = entry-refused UnmatchedChecksum (sym (lines-by Neither f)); whole = tt }
 
 -- ---- sums
 
-pub sum_fits : (r : Row) (more : ℕ) → r.count + more ≤ u64_max → One (made r r.tag r.k2 r.k3 (r.count + more)) ≡ summed r more
+pub sum_fits : (r : Row) (more : ℕ) → r.count + more ≤ u64_max → Ok (made r r.tag r.k2 r.k3 (r.count + more)) ≡ summed r more
 sum_fits r more h = rw (le-leb (r.count + more) u64_max h)
 
-pub sum_past : (r : Row) (more : ℕ) → u64_max < r.count + more → Refused CountOverflow ≡ summed r more
+pub sum_past : (r : Row) (more : ℕ) → u64_max < r.count + more → Err CountOverflow ≡ summed r more
 sum_past r more h = rw (lt-leb (r.count + more) u64_max h)

@@ -1,6 +1,7 @@
 -- What two rows of one key make. Assumes nothing.
-use Rattle.std.specs.Prelude.{ℕ, zero, suc, ◌+◌, ◌≡◌, Bool, true, false, leb, ltb, if◌then◌else◌}
+use Rattle.std.specs.Prelude.{ℕ, zero, suc, ◌+◌, ◌≡◌, Bool, true, false, leb, ltb, if◌then◌else◌, Result, Ok, Err}
 use Rattle.table.specs.declared.Row.{Row}
+use Rattle.model.specs.declared.Fault.{Fault}
 use Rattle.model.specs.declared.Fault.TheVariants.{CountOverflow}
 use Rattle.model.specs.declared.Mode.{Mode}
 use Rattle.model.specs.declared.Mode.TheVariants.{Checked, Lossy}
@@ -11,8 +12,6 @@ use Rattle.model.specs.Report.{Entry, combine_entries}
 use Rattle.table_section.specs.Sections.{entry_of, RowInBounds}
 use Rattle.merge_combine.specs.declared.Choice.{Choice}
 use Rattle.merge_combine.specs.declared.Choice.TheVariants.{Earlier, Later, Neither}
-use Rattle.merge_combine.specs.declared.CombinedRow.{CombinedRow}
-use Rattle.merge_combine.specs.declared.CombinedRow.TheVariants.{One, Refused}
 
 -- a value that only one gives is kept; two given values must be equal, or the later one wins
 abbrev pub choice_of : Mode → ℕ → ℕ → Bool → Choice
@@ -43,18 +42,18 @@ with_larger_end (suc n) zero r other = made r other.tag r.k2 other.k3 r.count
 with_larger_end (suc n) (suc m) r other = if ltb r.k3 other.k3 then made r other.tag r.k2 other.k3 r.count else r
 
 -- the row with a count added to its own
-abbrev pub summed : Row → ℕ → CombinedRow
-summed r more = if leb (r.count + more) u64_max then One (made r r.tag r.k2 r.k3 (r.count + more)) else Refused CountOverflow
+abbrev pub summed : Row → ℕ → Result Row Fault
+summed r more = if leb (r.count + more) u64_max then Ok (made r r.tag r.k2 r.k3 (r.count + more)) else Err CountOverflow
 
-abbrev pub seen_combined : Bytes → CombinedRow → Answer Entry
-seen_combined text (One r) = accepted (entry_of text r)
-seen_combined text (Refused fault) = refuse fault
+abbrev pub seen_combined : Bytes → Result Row Fault → Answer Entry
+seen_combined text (Ok r) = accepted (entry_of text r)
+seen_combined text (Err fault) = refuse fault
 
-abbrev pub CombinedInBounds : Bytes → CombinedRow → Type 0
-CombinedInBounds text (One r) = RowInBounds text r
-CombinedInBounds text (Refused fault) = Unit {0}
+abbrev pub CombinedInBounds : Bytes → Result Row Fault → Type 0
+CombinedInBounds text (Ok r) = RowInBounds text r
+CombinedInBounds text (Err fault) = Unit {0}
 
 -- the answer is what the model makes of the two entries
-pub record RowsCombined (text : Bytes) (mode : Mode) (old new : Row) (r : CombinedRow) : Type 0 where
+pub record RowsCombined (text : Bytes) (mode : Mode) (old new : Row) (r : Result Row Fault) : Type 0 where
   pub is : seen_combined text r ≡ combine_entries mode (entry_of text old) (entry_of text new)
   pub whole : CombinedInBounds text r

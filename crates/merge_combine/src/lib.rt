@@ -22,13 +22,6 @@ enum Choice {
     Neither,
 }
 
-// The row that two make, or why there is none.
-#[derive(Clone, Copy)]
-pub enum CombinedRow {
-    One(Row),
-    Refused(Fault),
-}
-
 // `earlier` and `later` are not 0 where a value is given; `alike` is used where both are.
 fn choose(mode: Mode, earlier: u64, later: u64, alike: bool) -> Choice
     ensures { result ≡ choice_of mode earlier later alike }
@@ -52,37 +45,25 @@ fn choose(mode: Mode, earlier: u64, later: u64, alike: bool) -> Choice
     }
 }
 
-// A sum that stops at 2^64 − 1.
-fn saturating_add(a: u64, b: u64) -> u64
-    ensures { result ≡ min (a + b) u64_max }
-{
-    if u64::MAX - a < b {
-        return u64::MAX;
-    }
-    a + b
-}
-
 // The row with a count added to its own, which must fit.
-fn with_sum(row: Row, more: u64) -> CombinedRow
+fn with_sum(row: Row, more: u64) -> Result<Row, Fault>
     ensures { result ≡ summed row more }
 {
-    let count = row.count;
-    if u64::MAX - count < more {
-        return CombinedRow::Refused(Fault::CountOverflow);
-    }
-    let mut both = row;
-    both.count = count + more;
-    CombinedRow::One(both)
+    let Some(count) = row.count.checked_add(more) else {
+        return Err(Fault::CountOverflow);
+    };
+    Ok(Row { count, ..row })
 }
 
 // The row with the start and end line of another one.
 fn with_extent(row: Row, other: Row) -> Row
     ensures { result ≡ made row other.tag row.k2 other.k3 row.count }
 {
-    let mut both = row;
-    both.tag = other.tag;
-    both.k3 = other.k3;
-    both
+    Row {
+        tag: other.tag,
+        k3: other.k3,
+        ..row
+    }
 }
 
 // The row with the larger of two end lines, where the other row has no start line or the same one. Of two words with one start line the
@@ -102,39 +83,42 @@ fn with_larger_end(row: Row, other: Row) -> Row
     row
 }
 
-fn combine_functions(old: Row, new: Row, mode: Mode) -> CombinedRow
+fn combine_functions(old: Row, new: Row, mode: Mode) -> Result<Row, Fault>
     requires { (kind_of old ≡ function_kind) × (kind_of new ≡ function_kind) }
     ensures { (text : List ℕ) → RowInBounds text old → RowInBounds text new → RowsCombined text mode old new result }
 {
-    let mut both = old;
-    both.count = saturating_add(old.count, new.count);
+    let both = Row {
+        count: old.count.saturating_add(new.count),
+        ..old
+    };
     let earlier = table_item::start_key(old);
     let later = table_item::start_key(new);
     match choose(mode, earlier, later, earlier == later) {
         Choice::Earlier => {
-            return CombinedRow::One(with_larger_end(both, new));
+            return Ok(with_larger_end(both, new));
         }
         Choice::Later => {
-            return CombinedRow::One(with_extent(both, new));
+            return Ok(with_extent(both, new));
         }
         Choice::Neither => {
-            return CombinedRow::Refused(Fault::UnmatchedFunctionLine);
+            return Err(Fault::UnmatchedFunctionLine);
         }
     }
 }
 
-fn combine_branches(old: Row, new: Row) -> CombinedRow
+fn combine_branches(old: Row, new: Row) -> Result<Row, Fault>
     requires { (kind_of old ≡ branch_kind) × (kind_of new ≡ branch_kind) }
     ensures { (text : List ℕ) (mode : Mode) → RowInBounds text old → RowInBounds text new → RowsCombined text mode old new result }
 {
     if new.tag % 2 == 0 {
-        return CombinedRow::One(old);
+        return Ok(old);
     }
     if old.tag % 2 == 0 {
-        let mut both = old;
-        both.tag = new.tag;
-        both.count = new.count;
-        return CombinedRow::One(both);
+        return Ok(Row {
+            tag: new.tag,
+            count: new.count,
+            ..old
+        });
     }
     with_sum(old, new.count)
 }
@@ -153,7 +137,7 @@ fn same_checksums(text: &[u8], old: Row, new: Row) -> bool
     table_item::compare_parts(text, old.k2, old.k3, new.k2, new.k3).is_eq()
 }
 
-fn combine_lines(text: &[u8], old: Row, new: Row, mode: Mode) -> CombinedRow
+fn combine_lines(text: &[u8], old: Row, new: Row, mode: Mode) -> Result<Row, Fault>
     requires { RowInBounds text.now old × RowInBounds text.now new × (kind_of old ≡ line_kind) × (kind_of new ≡ line_kind) }
     ensures { RowsCombined text.now mode old new result }
 {
@@ -163,20 +147,22 @@ fn combine_lines(text: &[u8], old: Row, new: Row, mode: Mode) -> CombinedRow
             return with_sum(old, new.count);
         }
         Choice::Later => {
-            let mut both = old;
-            both.tag = new.tag;
-            both.k2 = new.k2;
-            both.k3 = new.k3;
+            let both = Row {
+                tag: new.tag,
+                k2: new.k2,
+                k3: new.k3,
+                ..old
+            };
             return with_sum(both, new.count);
         }
         Choice::Neither => {
-            return CombinedRow::Refused(Fault::UnmatchedChecksum);
+            return Err(Fault::UnmatchedChecksum);
         }
     }
 }
 
 // The earlier row with what the later one of its key adds; a section's header row is unchanged.
-pub fn combine_rows(text: &[u8], old: Row, new: Row, mode: Mode) -> CombinedRow
+pub fn combine_rows(text: &[u8], old: Row, new: Row, mode: Mode) -> Result<Row, Fault>
     requires { RowInBounds text.now old × RowInBounds text.now new × (kind_of old ≡ kind_of new) }
     ensures { RowsCombined text.now mode old new result }
 {
@@ -190,5 +176,5 @@ pub fn combine_rows(text: &[u8], old: Row, new: Row, mode: Mode) -> CombinedRow
     if kind == table_item::LINE {
         return combine_lines(text, old, new, mode);
     }
-    CombinedRow::One(old)
+    Ok(old)
 }

@@ -19,7 +19,7 @@ use Rattle.model.specs.Order.{is_less}
 use Rattle.model.specs.Bytes.{Bytes}
 use Rattle.model.specs.Report.{Entry, section_key, entry_key, compare_items, compare_sections, compare_keys}
 use Rattle.model.proofs.KeyOrder.{keys-order, sections-order}
-use Rattle.table_item.specs.declared.Found.TheVariants.{At, Insert}
+use Rattle.std.specs.Prelude.{Result, Ok, Err}
 use Rattle.table_item.specs.Items.{item_of, kind_of, branch_kind, line_kind, ItemInBounds}
 use Rattle.table_item.proofs.CompareLaws.{branches, lines, lines-before}
 use Rattle.table_item.proofs.SearchLaws.{is_lt, sorted_at}
@@ -145,13 +145,13 @@ module _ {text ws : List ℕ} {index used n : ℕ} (key : Row) (ρ : EntriesAsce
       passed = let z : at - 1 + 1 ≡ at = omega arith in rw z at (passed-up key ρ (at - 1) (omega arith) t)
 
 module _ (text ws : List ℕ) (index n i : ℕ) (key : Row) (κ : PartitionPoint (Before text ws index key) n i) where
-  pub result_end : n ≤ i → SearchResult text ws index n key (Insert i)
+  pub result_end : n ≤ i → SearchResult text ws index n key (Err i)
   result_end h = (κ.most, passed_partition text ws index key κ, λ l. absurd (omega arith))
 
-  pub result_known : i < n → compare_is_eq (compare_entries (entry_of text key) (entry_at text ws index i)) ≡ true → SearchResult text ws index n key (At i)
+  pub result_known : i < n → compare_is_eq (compare_entries (entry_of text key) (entry_at text ws index i)) ≡ true → SearchResult text ws index n key (Ok i)
   result_known h q = (h, passed_partition text ws index key κ, is_eq _ q)
 
-  pub result_gap : i < n → compare_is_eq (compare_entries (entry_of text key) (entry_at text ws index i)) ≡ false → SearchResult text ws index n key (Insert i)
+  pub result_gap : i < n → compare_is_eq (compare_entries (entry_of text key) (entry_at text ws index i)) ≡ false → SearchResult text ws index n key (Err i)
   result_gap h q = (κ.most, passed_partition text ws index key κ, λ l. go (compare_entries (entry_of text key) (entry_at text ws index i)) refl q)
     where
       go : (o : Ordering) → compare_entries (entry_of text key) (entry_at text ws index i) ≡ o → compare_is_eq o ≡ false → compare_entries (entry_of text key) (entry_at text ws index i) ≡ Ordering.lt
@@ -188,8 +188,8 @@ module _ {text ws : List ℕ} {index used n : ℕ} (key : Row) (whole : RowInBou
   stands : eqb key.k1 (row ws index at).k1 ≡ compare_is_eq (compare_entries (entry_of text key) (entry_at text ws index at))
   stands = same_lines whole (ρ.whole at l) (flipped β.here)
 
-  pub between_known : {here : Row} → here ≡ row ws index at → key.k1 ≡ here.k1 → SearchResult text ws index n key (At at)
+  pub between_known : {here : Row} → here ≡ row ws index at → key.k1 ≡ here.k1 → SearchResult text ws index n key (Ok at)
   between_known e q = result_known text ws index n at key between_partition l (sym stands ∙ eq-eqb _ _ (rw e at q))
 
-  pub between_gap : {here : Row} → here ≡ row ws index at → key.k1 ≢ here.k1 → SearchResult text ws index n key (Insert at)
+  pub between_gap : {here : Row} → here ≡ row ws index at → key.k1 ≢ here.k1 → SearchResult text ws index n key (Err at)
   between_gap e q = result_gap text ws index n at key between_partition l (sym stands ∙ ne_eqb _ _ (rw e at q))

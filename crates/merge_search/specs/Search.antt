@@ -7,8 +7,7 @@ use Rattle.ordmap.specs.Keyed.{Sorted}
 use Rattle.model.specs.Order.{is_less}
 use Rattle.model.specs.Bytes.{Bytes}
 use Rattle.model.specs.Report.{Entry, entry_key, compare_keys}
-use Rattle.table_item.specs.declared.Found.{Found}
-use Rattle.table_item.specs.declared.Found.TheVariants.{At, Insert}
+use Rattle.std.specs.Prelude.{Result, Ok, Err}
 use Rattle.table_section.specs.Sections.{entry_of, entry_at, entries_at, RowInBounds}
 use Rattle.merge_search.specs.Names.{LinesOfOne}
 
@@ -45,6 +44,6 @@ pub record GallopBounds (test : ℕ → Bool) (n lo hi : ℕ) : Type 0 where
   pub stop : hi < n → test hi ≡ false
 
 -- the position of the row's key, or its insert position
-abbrev pub SearchResult : Bytes → List ℕ → ℕ → ℕ → Row → Found → Type 0
-SearchResult text ws index n key (At i) = (i < n) × Passed text ws index key i × (compare_entries (entry_of text key) (entry_at text ws index i) ≡ Ordering.eq)
-SearchResult text ws index n key (Insert i) = (i ≤ n) × Passed text ws index key i × (i < n → compare_entries (entry_of text key) (entry_at text ws index i) ≡ Ordering.lt)
+abbrev pub SearchResult : Bytes → List ℕ → ℕ → ℕ → Row → Result ℕ ℕ → Type 0
+SearchResult text ws index n key (Ok i) = (i < n) × Passed text ws index key i × (compare_entries (entry_of text key) (entry_at text ws index i) ≡ Ordering.eq)
+SearchResult text ws index n key (Err i) = (i ≤ n) × Passed text ws index key i × (i < n → compare_entries (entry_of text key) (entry_at text ws index i) ≡ Ordering.lt)

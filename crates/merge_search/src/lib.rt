@@ -4,7 +4,7 @@
 pub mod names;
 
 ghost use Rattle.std.specs.Prelude.{◌≡◌, true, List, ℕ, ◌≤◌, ◌<◌};
-ghost use Prim.Native.Nat.{Ordering};
+ghost use Prim.Native.Nat.{Ordering as Compared};
 ghost use Rattle.model.specs.Report.{entry_key, compare_items, compare_keys};
 ghost use Rattle.compare.specs.Orders.{order_of};
 ghost use Rattle.table.specs.Store.{Store};
@@ -14,10 +14,9 @@ ghost use Rattle.table_section.specs.Sections.{entry_of, RowInBounds};
 ghost use Rattle.merge_search.specs.Names.{LinesOfOne};
 ghost use Rattle.merge_search.specs.Search.{EntriesAscending, compare_entries, Before, Between, Passed, GallopBounds, SearchResult};
 
-use compare::Order;
 use names::same_names;
+use std::cmp::Ordering;
 use table::Row;
-use table_item::Found;
 
 // By section, then by item.
 fn compare_rows(text: &[u8], x: Row, y: Row) -> Ordering
@@ -35,12 +34,7 @@ fn compare_rows(text: &[u8], x: Row, y: Row) -> Ordering
 fn lines_of_one(x: Row, y: Row) -> bool
     ensures { result ≡ true → LinesOfOne x y }
 {
-    if x.tag / 2 == table_item::LINE {
-        if y.tag / 2 == table_item::LINE {
-            return same_names(x, y);
-        }
-    }
-    false
+    x.tag / 2 == table_item::LINE && y.tag / 2 == table_item::LINE && same_names(x, y)
 }
 
 // Two lines of one section are compared at once: a text has more of them than of all else.
@@ -145,18 +139,18 @@ fn resolve(
     n: usize,
     i: usize,
     key: Row,
-) -> Found
+) -> Result<usize, usize>
     requires { EntriesAscending text.now words.now index used n × RowInBounds text.now key × PartitionPoint (Before text.now words.now index key) n i }
     ensures { SearchResult text.now words.now index n key result }
 {
     if n <= i {
-        return Found::Insert(i);
+        return Err(i);
     }
     let here = table::get(words, index, used, i);
     if compare_entries(text, key, here).is_eq() {
-        return Found::At(i);
+        return Ok(i);
     }
-    Found::Insert(i)
+    Err(i)
 }
 
 // The key's position among the n entries; those before position `from` come before it.
@@ -168,7 +162,7 @@ fn gallop_search(
     n: usize,
     from: usize,
     key: Row,
-) -> Found
+) -> Result<usize, usize>
     requires { EntriesAscending text.now words.now index used n × RowInBounds text.now key × (from ≤ n) × Passed text.now words.now index key from }
     ensures { SearchResult text.now words.now index n key result }
 {
@@ -178,36 +172,24 @@ fn gallop_search(
 
 // Whether both rows are lines of one number, or branches of the same three.
 fn same_numbers(x: Row, y: Row) -> bool
-    ensures { result ≡ true → (text : List ℕ) → ItemInBounds text x → ItemInBounds text y → compare_items (item_of text x) (item_of text y) ≡ Ordering.eq }
+    ensures { result ≡ true → (text : List ℕ) → ItemInBounds text x → ItemInBounds text y → compare_items (item_of text x) (item_of text y) ≡ Compared.eq }
 {
     let kind = x.tag / 2;
-    if kind != y.tag / 2 {
-        return false;
-    }
-    if x.k1 != y.k1 {
+    if kind != y.tag / 2 || x.k1 != y.k1 {
         return false;
     }
     if kind == table_item::LINE {
         return true;
     }
-    if kind != table_item::BRANCH {
-        return false;
-    }
-    if x.k2 != y.k2 {
-        return false;
-    }
-    x.k3 == y.k3
+    kind == table_item::BRANCH && x.k2 == y.k2 && x.k3 == y.k3
 }
 
 // Whether both rows are lines or branches of one key, in sections whose names are at the same offsets. Most keys of a text are in the joined
 // table, where they are expected: a few words of both rows show it, and no call passes the key through memory.
 fn has_same_key(x: Row, y: Row) -> bool
-    ensures { result ≡ true → (text : List ℕ) → RowInBounds text x → RowInBounds text y → compare_entries (entry_of text x) (entry_of text y) ≡ Ordering.eq }
+    ensures { result ≡ true → (text : List ℕ) → RowInBounds text x → RowInBounds text y → compare_entries (entry_of text x) (entry_of text y) ≡ Compared.eq }
 {
-    if same_numbers(x, y) {
-        return same_names(x, y);
-    }
-    false
+    same_numbers(x, y) && same_names(x, y)
 }
 
 // Compares with the entry at `from` first, and gallops only if the key is greater: one comparison for a key that is or
@@ -220,23 +202,23 @@ fn search_first(
     n: usize,
     from: usize,
     key: Row,
-) -> Found
+) -> Result<usize, usize>
     requires { EntriesAscending text.now words.now index used n × RowInBounds text.now key × (from ≤ n) × Passed text.now words.now index key from }
     ensures { SearchResult text.now words.now index n key result }
 {
     if n <= from {
-        return Found::Insert(from);
+        return Err(from);
     }
     let first = table::get(words, index, used, from);
     if has_same_key(key, first) {
-        return Found::At(from);
+        return Ok(from);
     }
     let order = compare_entries(text, key, first);
     if order.is_lt() {
-        return Found::Insert(from);
+        return Err(from);
     }
     if order.is_eq() {
-        return Found::At(from);
+        return Ok(from);
     }
     gallop_search(text, words, index, used, n, from + 1, key)
 }
@@ -269,7 +251,7 @@ fn search_near(
     from: usize,
     at: usize,
     key: Row,
-) -> Found
+) -> Result<usize, usize>
     requires entries_ascending { EntriesAscending text.now words.now index used n × RowInBounds text.now key × (from ≤ n) × Passed text.now words.now index key from }
     requires from_lt_at { (from < at) × (at < n) }
     ensures { SearchResult text.now words.now index n key result }
@@ -277,9 +259,9 @@ fn search_near(
     if is_between(words, index, used, at, key) {
         let here = table::get(words, index, used, at);
         if key.k1 == here.k1 {
-            return Found::At(at);
+            return Ok(at);
         }
-        return Found::Insert(at);
+        return Err(at);
     }
     if is_before(text, words, index, used, n, at, key) {
         return gallop_search(text, words, index, used, n, at + 1, key);
@@ -301,7 +283,7 @@ pub fn search_with_hint(
     from: usize,
     stride: usize,
     key: Row,
-) -> Found
+) -> Result<usize, usize>
     requires { EntriesAscending text.now words.now index used n × RowInBounds text.now key × (from ≤ n) × Passed text.now words.now index key from }
     ensures { SearchResult text.now words.now index n key result }
 {

@@ -39,16 +39,10 @@ pub fn no_section() -> Section
 pub fn same_names(x: Row, y: Row) -> bool
     ensures { result ≡ true → SameNamePositions x y }
 {
-    if x.test == y.test {
-        if x.test_len == y.test_len {
-            if x.path == y.path {
-                if x.path_len == y.path_len {
-                    return true;
-                }
-            }
-        }
-    }
-    false
+    x.test == y.test
+        && x.test_len == y.test_len
+        && x.path == y.path
+        && x.path_len == y.path_len
 }
 
 // A row of the current section with the joined table's offsets of its names. A header row is unchanged: its item is its

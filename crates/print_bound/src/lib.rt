@@ -7,14 +7,15 @@ ghost use Rattle.table.specs.Store.{Store};
 ghost use Rattle.model.specs.Limits.{u64_max};
 ghost use Rattle.model.specs.Number.{decimal};
 ghost use Rattle.table_section.specs.Sections.{entry_of};
-ghost use Rattle.model.specs.TagTable.{tags_of, are_tags};
 ghost use Rattle.model.specs.declared.Kind.{Kind};
 ghost use Rattle.model.specs.declared.Kind.TheVariants.{FunctionName, FunctionData};
 ghost use Rattle.model.specs.Bytes.{Bytes};
 ghost use Rattle.print_bound.specs.Bound.{entry_most, section_tags, WidthsOf, FitsBound};
+ghost use Rattle.tag_table.specs.Tags.{tag_of};
 
 use model::Kind;
 use table::Row;
+use tag_table::Tags;
 
 // How many digits v has at most: one test, since most numbers of a report are small.
 fn max_digits(v: u64) -> u64
@@ -26,20 +27,9 @@ fn max_digits(v: u64) -> u64
     20
 }
 
-// A sum, held at 2^64 − 1.
-fn saturating_add(a: u64, b: u64) -> u64
-    ensures { result ≡ min (a + b) u64_max }
-{
-    if u64::MAX - a < b {
-        return u64::MAX;
-    }
-    a + b
-}
-
 // What FN and FNDA have besides two names, at most: their tags, three numbers and what is between them.
-fn function_width(tags: &[u8]) -> u64
-    requires { are_tags tags.now ≡ true }
-    ensures { result ≡ 67 + length (tags_of tags.now FunctionName) + length (tags_of tags.now FunctionData) }
+fn function_width(tags: Tags) -> u64
+    ensures { result ≡ 67 + length (tag_of tags.entry FunctionName) + length (tag_of tags.entry FunctionData) }
 {
     let start = tag_table::tag_len(tags, Kind::FunctionName);
     let calls = tag_table::tag_len(tags, Kind::FunctionData);
@@ -47,9 +37,8 @@ fn function_width(tags: &[u8]) -> u64
 }
 
 // What a section's own nine lines have besides its names, at most.
-fn section_width(tags: &[u8]) -> u64
-    requires { are_tags tags.now ≡ true }
-    ensures { result ≡ 47 + section_tags (tags_of tags.now) }
+fn section_width(tags: Tags) -> u64
+    ensures { result ≡ 47 + section_tags (tag_of tags.entry) }
 {
     let names = tag_table::tag_len(tags, Kind::TestName)
         + tag_table::tag_len(tags, Kind::SourceFile);
@@ -72,9 +61,8 @@ struct Widths {
     section: u64,
 }
 
-fn widths_of(tags: &[u8]) -> Widths
-    requires { are_tags tags.now ≡ true }
-    ensures { WidthsOf (tags_of tags.now) result }
+fn widths_of(tags: Tags) -> Widths
+    ensures { WidthsOf (tag_of tags.entry) result }
 {
     Widths {
         line: 4 + tag_table::tag_len(tags, Kind::LineData) as u64,
@@ -92,71 +80,69 @@ fn max_line_len(widths: Widths, row: Row) -> u64
     let kind = row.tag / 2;
     if table_item::BRANCH < kind {
         let numbers = widths.line + max_digits(row.k1) + max_digits(row.count);
-        return saturating_add(row.k3, numbers);
+        return row.k3.saturating_add(numbers);
     }
     if kind == table_item::BRANCH {
         let place = max_digits(row.k1) + max_digits(row.k2) + max_digits(row.k3);
         return widths.branch + place + max_digits(row.count);
     }
     if kind == table_item::FUNCTION {
-        return saturating_add(saturating_add(row.k2, row.k2), widths.function);
+        return row
+            .k2
+            .saturating_add(row.k2)
+            .saturating_add(widths.function);
     }
-    saturating_add(saturating_add(row.test_len, row.path_len), widths.section)
+    row.test_len
+        .saturating_add(row.path_len)
+        .saturating_add(widths.section)
 }
 
 // Whether all used rows print at most `room` bytes, in memory order, which is faster than index order. Every used row
 // must be an entry: a row that is none may never have been written.
-fn all_fit(tags: &[u8], words: &[u64], index: usize, used: usize, room: usize) -> bool
-    requires tags_value { are_tags tags.now ≡ true }
+fn all_fit(tags: Tags, words: &[u64], index: usize, used: usize, room: usize) -> bool
     requires store { Store words.now index used × (room < u64_max) }
-    ensures { FitsBound (tags_of tags.now) words.now index used room result }
+    ensures { FitsBound (tag_of tags.entry) words.now index used room result }
 {
     let widths = widths_of(tags);
     let mut left = room as u64;
-    let mut j = 0;
-    while j < used {
+    for j in 0..used {
         let most = max_line_len(widths, table::read_row(words, j));
-        if left < most {
+        let Some(rest) = left.checked_sub(most) else {
             return false;
-        }
-        left = left - most;
-        j += 1;
+        };
+        left = rest;
     }
     true
 }
 
 // Whether the first n rows print at most `room` bytes, in index order: it reads no other row.
-fn first_fit(tags: &[u8], words: &[u64], index: usize, used: usize, n: usize, room: usize) -> bool
-    requires tags_value { are_tags tags.now ≡ true }
+fn first_fit(tags: Tags, words: &[u64], index: usize, used: usize, n: usize, room: usize) -> bool
     requires store { Store words.now index used × (n ≤ used) × (room < u64_max) }
-    ensures { FitsBound (tags_of tags.now) words.now index n room result }
+    ensures { FitsBound (tag_of tags.entry) words.now index n room result }
 {
     let widths = widths_of(tags);
     let mut left = room as u64;
-    let mut i = 0;
-    while i < n {
+    for i in 0..n {
         let most = max_line_len(widths, table::get(words, index, used, i));
-        if left < most {
+        let Some(rest) = left.checked_sub(most) else {
             return false;
-        }
-        left = left - most;
-        i += 1;
+        };
+        left = rest;
     }
     true
 }
 
 // True only if the first n rows print at most `room` bytes; false does not show the contrary.
 pub fn surely_fits(
-    tags: &[u8],
+    tags: Tags,
     words: &[u64],
     index: usize,
     used: usize,
     n: usize,
     room: usize,
 ) -> bool
-    requires tags_value { are_tags tags.now ≡ true }
     requires store { Store words.now index used × (n ≤ used) × (room < u64_max) }
-    ensures { FitsBound (tags_of tags.now) words.now index n room result }
+    ensures { FitsBound (tag_of tags.entry) words.now index n room result }
 {
     if n == used {
         return all_fit(tags, words, index, used, room);

@@ -10,7 +10,6 @@ ghost use Rattle.model.specs.Limits.{max_entries};
 ghost use Rattle.model.specs.Lists.{sort};
 ghost use Rattle.model.specs.Output.{written, output_after};
 ghost use Rattle.model.specs.Printing.{compare_printed, print_report};
-ghost use Rattle.model.specs.TagTable.{tags_of, are_tags};
 ghost use Rattle.table_item.specs.Items.{kind_of};
 ghost use Rattle.table_item.specs.SortedItems.{items_at};
 ghost use Rattle.table_section.specs.Sections.{entries_at};
@@ -18,23 +17,23 @@ ghost use Rattle.section.specs.Table.{Table};
 ghost use Rattle.print_sort.specs.Sorting.{items_by};
 ghost use Rattle.print_rows.specs.Emit.{RoomFor, Emitted, Printable};
 ghost use Rattle.print_report.specs.Printing.{printed_from, PrintableTable, UnchangedBefore, IsKindRange, AreKindRanges, function_lines, FunctionRows, branch_lines, line_lines, GroupRows, SectionPrinted, RequiredLength};
+ghost use Rattle.tag_table.specs.Tags.{tag_of};
 
 use model::{Fault, Refusal};
+use tag_table::Tags;
 
 // The end of the range of rows of a kind that starts at position `from`.
 fn kind_end(words: &[u64], index: usize, used: usize, n: usize, from: usize, kind: u64) -> usize
     requires { Store words.now index used × (n ≤ used) × (from ≤ n) }
     ensures { IsKindRange words.now index n from kind result }
 {
-    let mut at = from;
-    while at < n {
+    for at in from..n {
         let row = table::get(words, index, used, at);
         if row.tag / 2 != kind {
             return at;
         }
-        at += 1;
     }
-    at
+    n
 }
 
 // Where a section's functions, branches and lines end.
@@ -68,7 +67,7 @@ pub fn find_kind_ranges(
 
 // FN, FNDA, FNF and FNH of the n functions whose row numbers are at word `numbers` on.
 pub fn print_numbered(
-    tags: &[u8],
+    tags: Tags,
     text: &[u8],
     words: &[u64],
     numbers: usize,
@@ -77,10 +76,9 @@ pub fn print_numbered(
     at: usize,
     write: bool,
 ) -> usize
-    requires tags_value { are_tags tags.now ≡ true }
     requires printable { Printable text.now words.now numbers n × (n ≤ max_entries) }
-    requires room_for { RoomFor write out.old at (function_lines (tags_of tags.now) (items_by text.now words.now numbers n)) }
-    ensures { Emitted write out.old out.new at (function_lines (tags_of tags.now) (items_by text.now words.now numbers n)) result }
+    requires room_for { RoomFor write out.old at (function_lines (tag_of tags) (items_by text.now words.now numbers n)) }
+    ensures { Emitted write out.old out.new at (function_lines (tag_of tags.entry) (items_by text.now words.now numbers n)) result }
 {
     let end = print_rows::emit_rows(tags, text, words, numbers, n, true, out, at, write);
     print_rows::emit_group(
@@ -99,7 +97,7 @@ pub fn print_numbered(
 // The n functions from place `from` on, "ordered by start line (none first), then name". In any order their lines are as long, so they
 // are sorted only to be written.
 fn print_functions(
-    tags: &[u8],
+    tags: Tags,
     text: &[u8],
     words: &mut [u64],
     index: usize,
@@ -111,10 +109,9 @@ fn print_functions(
     at: usize,
     write: bool,
 ) -> usize
-    requires tags_value { are_tags tags.now ≡ true }
     requires function_rows { FunctionRows text.now words.old index used from n spare }
-    requires room_for { RoomFor write out.old at (function_lines (tags_of tags.now) (sort compare_printed (items_at text.now words.old index from n))) }
-    ensures emitted { Emitted write out.old out.new at (function_lines (tags_of tags.now) (sort compare_printed (items_at text.now words.old index from n))) result }
+    requires room_for { RoomFor write out.old at (function_lines (tag_of tags) (sort compare_printed (items_at text.now words.old index from n))) }
+    ensures emitted { Emitted write out.old out.new at (function_lines (tag_of tags.entry) (sort compare_printed (items_at text.now words.old index from n))) result }
     ensures unchanged_before { UnchangedBefore words.old words.new spare }
 {
     if write {
@@ -126,7 +123,7 @@ fn print_functions(
 
 // "Then BRDA by key, BRF, BRH; DA by line, LF, LH."
 fn print_groups(
-    tags: &[u8],
+    tags: Tags,
     text: &[u8],
     words: &[u64],
     index: usize,
@@ -135,10 +132,9 @@ fn print_groups(
     at: usize,
     write: bool,
 ) -> usize
-    requires tags_value { are_tags tags.now ≡ true }
     requires group_rows { GroupRows text.now words.now index runs }
-    requires room_for { RoomFor write out.old at (branch_lines (tags_of tags.now) text.now words.now index runs ++ line_lines (tags_of tags.now) text.now words.now index runs) }
-    ensures { Emitted write out.old out.new at (branch_lines (tags_of tags.now) text.now words.now index runs ++ line_lines (tags_of tags.now) text.now words.now index runs) result }
+    requires room_for { RoomFor write out.old at (branch_lines (tag_of tags) text.now words.now index runs ++ line_lines (tag_of tags) text.now words.now index runs) }
+    ensures { Emitted write out.old out.new at (branch_lines (tag_of tags.entry) text.now words.now index runs ++ line_lines (tag_of tags.entry) text.now words.now index runs) result }
 {
     let first = runs.functions;
     let then = runs.branches;
@@ -177,7 +173,7 @@ pub struct Printed {
 
 // Prints the section whose header row is at position lo.
 fn print_section(
-    tags: &[u8],
+    tags: Tags,
     text: &[u8],
     words: &mut [u64],
     index: usize,
@@ -189,10 +185,9 @@ fn print_section(
     at: usize,
     write: bool,
 ) -> Printed
-    requires tags_value { are_tags tags.now ≡ true }
     requires printable_table { PrintableTable text.now words.old index used n spare × (lo < n) × (kind_of (row words.old index lo) ≡ 0) }
-    requires room_for { RoomFor write out.old at (printed_from (tags_of tags.now) text.now index n words.old lo) }
-    ensures { SectionPrinted (printed_from (tags_of tags.now) text.now index n) write words.old words.new out.old out.new index n lo spare at result }
+    requires room_for { RoomFor write out.old at (printed_from (tag_of tags) text.now index n words.old lo) }
+    ensures { SectionPrinted (printed_from (tag_of tags.entry) text.now index n) write words.old words.new out.old out.new index n lo spare at result }
 {
     let header = table::get(words, index, used, lo);
     let runs = find_kind_ranges(words, index, used, n, lo + 1);
@@ -219,7 +214,7 @@ fn print_section(
 
 // All sections, from the output's start on.
 fn print_sections(
-    tags: &[u8],
+    tags: Tags,
     text: &[u8],
     words: &mut [u64],
     index: usize,
@@ -229,14 +224,14 @@ fn print_sections(
     out: &mut [u8],
     write: bool,
 ) -> usize
-    requires tags_value { are_tags tags.now ≡ true }
     requires printable_table { PrintableTable text.now words.old index used n spare }
-    requires room_for { RoomFor write out.old 0 (printed_from (tags_of tags.now) text.now index n words.old 0) }
-    ensures emitted { Emitted write out.old out.new 0 (printed_from (tags_of tags.now) text.now index n words.old 0) result }
+    requires room_for { RoomFor write out.old 0 (printed_from (tag_of tags) text.now index n words.old 0) }
+    ensures emitted { Emitted write out.old out.new 0 (printed_from (tag_of tags.entry) text.now index n words.old 0) result }
     ensures unchanged_before { UnchangedBefore words.old words.new spare }
 {
     let mut lo = 0;
     let mut at = 0;
+    // moves to the next section
     while lo < n {
         let printed = print_section(tags, text, words, index, used, n, lo, spare, out, at, write);
         lo = printed.next;
@@ -260,7 +255,7 @@ pub fn too_short(needed: usize) -> Result<usize, Refusal>
 
 // A length that is enough for the report: what it needs where the output is shorter, and 0 where the output is surely long enough.
 fn required_len(
-    tags: &[u8],
+    tags: Tags,
     text: &[u8],
     words: &mut [u64],
     index: usize,
@@ -269,9 +264,8 @@ fn required_len(
     spare: usize,
     out: &mut [u8],
 ) -> usize
-    requires tags_value { are_tags tags.now ≡ true }
     requires printable_table { PrintableTable text.now words.old index used n spare }
-    ensures required_length { RequiredLength out.old out.new (printed_from (tags_of tags.now) text.now index n words.old 0) result }
+    ensures required_length { RequiredLength out.old out.new (printed_from (tag_of tags.entry) text.now index n words.old 0) result }
     ensures unchanged_before { UnchangedBefore words.old words.new spare }
 {
     if print_bound::surely_fits(tags, words, index, used, n, out.len()) {
@@ -283,7 +277,7 @@ fn required_len(
 // Prints the report of the first n rows. An output "shorter than the bytes to be written, whose number is the needed length" stays. `spare`
 // is where the 2n free words start that functions are sorted in.
 pub fn print_report(
-    tags: &[u8],
+    tags: Tags,
     text: &[u8],
     words: &mut [u64],
     index: usize,
@@ -292,11 +286,10 @@ pub fn print_report(
     spare: usize,
     out: &mut [u8],
 ) -> Result<usize, Refusal>
-    requires tags_value { are_tags tags.now ≡ true }
     requires table { Table text.now words.old index used n × (n ≤ max_entries) }
     requires used_bound { (index + used ≤ spare) × (spare + n + n ≤ length words.old) }
-    ensures value { result ≡ write_answer (written (length out.old) (print_report (tags_of tags.now) (entries_at text.now words.old index n))) }
-    ensures out_after { out.new ≡ output_after (written (length out.old) (print_report (tags_of tags.now) (entries_at text.now words.old index n))) out.old }
+    ensures value { result ≡ write_answer (written (length out.old) (print_report (tag_of tags.entry) (entries_at text.now words.old index n))) }
+    ensures out_after { out.new ≡ output_after (written (length out.old) (print_report (tag_of tags.entry) (entries_at text.now words.old index n))) out.old }
 {
     let needed = required_len(tags, text, words, index, used, n, spare, out);
     if out.len() < needed {

@@ -1,12 +1,12 @@
 -- How long the lines of items are, and what a row says of that. Assumes nothing.
-use Rattle.std.specs.Prelude.{Option}
+use Rattle.std.specs.Prelude.{Option as LentOption}
 use Prim.Native.Nat.{ℕ, suc, ◌+◌, ◌/◌, ◌%◌, ◌≤◌, min}
 use native.Mathlib.Omega.{arith}
 use mathlib.Core.Path.{◌≡◌, refl, ap, ◌∙◌}
 use mathlib.Core.Logic.{◌≢◌}
-use mathlib.Core.List.{List, [], ◌∷◌}
+use mathlib.Core.List.{[], ◌∷◌}
 use mathlib.Core.Option.{Option, none, some}
-use lib.ListN.{length, take, drop, length-append, length-take, length-drop}
+use lib.ListN.{length, length-append, length-take, length-drop}
 use Rattle.table.specs.declared.Row.{Row}
 use Rattle.model.specs.Bytes.{Bytes, joined}
 use Rattle.model.specs.Limits.{u64_max}
@@ -111,7 +111,7 @@ module _ (tag : Kind → Bytes) (text : Bytes) (row : Row) where
         let z : row.tag / 2 ≡ 0 = omega arith in
         omega (arith, data_at 0 (row.tag % 2) z refl)
 
-    pub past-start : (start : ℕ) → start_key (extent_of (item_of text row)) ≡ suc start → (end : Option ℕ) → given_in end ≡ end_of (item_of text row)
+    pub past-start : (start : ℕ) → start_key (extent_of (item_of text row)) ≡ suc start → (end : LentOption ℕ) → given_in end ≡ end_of (item_of text row)
         → (t : ℕ) → t ≡ length (tag Kd.FunctionName) → (a b n : ℕ) → a ≡ length (decimal start) → b ≡ end_len (given_in end) → n ≡ min (at + (3 + t + a + b)) u64_max → r ≡ min (n + row.k2) u64_max
         → r ≡ min (at + length (lines tag (start_record (item_of text row)))) u64_max
     past-start start is end g t tag_is a b n p s h l =

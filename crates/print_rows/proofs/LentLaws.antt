@@ -1,5 +1,5 @@
 -- The lent records of rows, and the lines that they print. Assumes nothing.
-use Rattle.std.specs.Prelude.{Option, Some, None}
+use Rattle.std.specs.Prelude.{Option as LentOption, Some, None}
 use Prim.Native.Nat.{ℕ, zero, suc, ◌+◌, ◌-◌, ◌/◌, ◌%◌, ◌≤◌, ◌<◌}
 use mathlib.Core.Path.{◌≡◌, refl, sym, ap, ◌∙◌}
 use mathlib.Core.Logic.{◌≢◌}
@@ -29,7 +29,7 @@ use Rattle.table_item.specs.Items.{part, by_kind, if_given, extent_in, start_key
 use Rattle.table_item.proofs.RowLaws.{started_kind, started_item}
 use Rattle.record_display.specs.Lines.{line_in, counted}
 use Rattle.record_display.proofs.LineLaws.{part-there, line_made}
-use Rattle.print_rows.specs.Emit.{end_len, found_of, hit_of, hit_one, lent_part, lent_given, lent_checksum}
+use Rattle.print_rows.specs.Emit.{end_len, found_of, hit_of, hit_one, lent_part, lent_taken, lent_checksum}
 
 -- ---- one record
 
@@ -56,14 +56,14 @@ module _ (tag : Kind → Bytes) (text : Bytes) where
 
 -- ---- what is given of a row
 
-pub taken_none : (m n : ℕ) → m ≡ 0 → None ≡ lent_given m n
+pub taken_none : (m n : ℕ) → m ≡ 0 → None ≡ lent_taken m n
 taken_none m n e = rw e
 
-pub taken-given : (m n : ℕ) → m ≢ 0 → Some n ≡ lent_given m n
+pub taken-given : (m n : ℕ) → m ≢ 0 → Some n ≡ lent_taken m n
 taken-given zero n h = absurd (h refl)
 taken-given (suc m) n h = refl
 
-taken_in_lem : (m n : ℕ) → given_in (lent_given m n) ≡ if_given m n
+taken_in_lem : (m n : ℕ) → given_in (lent_taken m n) ≡ if_given m n
 unfolding given_in
 taken_in_lem zero n = refl
 taken_in_lem (suc m) n = refl
@@ -86,11 +86,11 @@ pub key-start : {n k : ℕ} → k ≡ n → k ≢ 0 → n ≡ suc (k - 1)
 key-start e h = omega arith
 
 -- the length of an end line
-pub end-given : (end : Option ℕ) (line n : ℕ) → end ≡ Some line → n ≡ length (decimal line) → 1 + n ≡ end_len (given_in end)
+pub end-given : (end : LentOption ℕ) (line n : ℕ) → end ≡ Some line → n ≡ length (decimal line) → 1 + n ≡ end_len (given_in end)
 unfolding given_in
 end-given end line n e h = rw (e, h)
 
-pub end_absent : (end : Option ℕ) → end ≡ None → 0 ≡ end_len (given_in end)
+pub end_absent : (end : LentOption ℕ) → end ≡ None → 0 ≡ end_len (given_in end)
 unfolding given_in
 end_absent end e = rw e
 
@@ -170,7 +170,7 @@ module _ (text : Bytes) (row : Row) where
 module _ (tag : Kind → Bytes) (text : Bytes) (row : Row) where
   -- FN of a row that has a start line
   module _ (start : ℕ) (is : start_key (extent_of (item_of text row)) ≡ suc start) where
-    pub start-line : (end : Option ℕ) (p : Part) → given_in end ≡ end_of (item_of text row) → ItemInBounds text row → p ≡ lent_part row.k1 row.k2
+    pub start-line : (end : LentOption ℕ) (p : Part) → given_in end ≡ end_of (item_of text row) → ItemInBounds text row → p ≡ lent_part row.k1 row.k2
         → line_in tag text (Lent.FunctionName start end p) ≡ print_records tag (start_record (item_of text row))
     unfolding start_record record_in
     start-line end p e g q =
@@ -197,12 +197,12 @@ module _ (tag : Kind → Bytes) (text : Bytes) (row : Row) where
   function-line p e g q =
       rw (item-is text row 1 e) (one_line tag text (Lent.FunctionData row.count p) (function_data row.count (part text row.k1 row.k2)) (rw (part_in_lem text p row.k1 row.k2 q (g.name e))))
 
-  pub branch-line : (t : Option ℕ) → row.tag / 2 ≡ 2 → t ≡ lent_given (row.tag % 2) row.count → line_in tag text (Lent.BranchData row.k1 row.k2 row.k3 t) ≡ print_records tag (data_record (item_of text row))
+  pub branch-line : (t : LentOption ℕ) → row.tag / 2 ≡ 2 → t ≡ lent_taken (row.tag % 2) row.count → line_in tag text (Lent.BranchData row.k1 row.k2 row.k3 t) ≡ print_records tag (data_record (item_of text row))
   unfolding data_record record_in
   branch-line t e q =
       rw (item-is text row 2 e) (one_line tag text (Lent.BranchData row.k1 row.k2 row.k3 t) (branch_data row.k1 row.k2 row.k3 (if_given (row.tag % 2) row.count)) (rw (q, taken_in_lem)))
 
-  pub checked_line : (c : Option Part) → row.tag / 2 ≡ 3 → ItemInBounds text row → c ≡ lent_checksum (row.tag % 2) row.k2 row.k3 → line_in tag text (Lent.LineData row.k1 row.count c) ≡ print_records tag (data_record (item_of text row))
+  pub checked_line : (c : LentOption Part) → row.tag / 2 ≡ 3 → ItemInBounds text row → c ≡ lent_checksum (row.tag % 2) row.k2 row.k3 → line_in tag text (Lent.LineData row.k1 row.count c) ≡ print_records tag (data_record (item_of text row))
   unfolding data_record record_in
   checked_line c e g q =
       rw (item-is text row 3 e)

@@ -77,9 +77,9 @@ abbrev pub lent_part : ℕ → ℕ → Part
 lent_part start len = record { start = start; len = len }
 
 -- a branch's taken count, and a line's checksum, where the tag says that they are given
-abbrev pub lent_given : ℕ → ℕ → LentOption ℕ
-lent_given zero count = None
-lent_given (suc k) count = Some count
+abbrev pub lent_taken : ℕ → ℕ → LentOption ℕ
+lent_taken zero count = None
+lent_taken (suc k) count = Some count
 
 abbrev pub lent_checksum : ℕ → ℕ → ℕ → LentOption Part
 lent_checksum zero start len = None

@@ -8,27 +8,18 @@ ghost use Rattle.model.specs.Lists.{concat_map};
 ghost use Rattle.model.specs.Answer.{accepted};
 ghost use Rattle.model.specs.Limits.{u32_max, u64_max};
 ghost use Rattle.model.specs.Record.{test_name, source_file, end_of_record};
-ghost use Rattle.model.specs.TagTable.{tags_of, are_tags};
 ghost use Rattle.model.specs.Report.{extent_of};
 ghost use Rattle.model.specs.Parts.{given_in, record_in};
 ghost use Rattle.model.specs.Printing.{start_record, data_record, group, hits, print_records};
 ghost use Rattle.model.specs.Valid.{ItemFits};
 ghost use Rattle.table_item.specs.Items.{part, start_key, item_of, ItemInBounds};
 ghost use Rattle.record_display.specs.Lines.{line_in, counted};
-ghost use Rattle.print_rows.specs.Emit.{end_len, RoomFor, Emitted, Numbered, Printable, numbered_item, pass_records, found_of, hit_of, lent_part, lent_given, lent_checksum, hit_one};
+ghost use Rattle.print_rows.specs.Emit.{end_len, RoomFor, Emitted, Numbered, Printable, numbered_item, pass_records, found_of, hit_of, lent_part, lent_taken, lent_checksum, hit_one};
+ghost use Rattle.tag_table.specs.Tags.{tag_of};
 
 use model::{Kind, Part, Record, Refusal};
 use table::Row;
-
-// The place behind n bytes, held at 2^64 − 1.
-fn saturating_add(at: usize, n: usize) -> usize
-    ensures { result ≡ min (at + n) u64_max }
-{
-    if usize::MAX - at < n {
-        return usize::MAX;
-    }
-    at + n
-}
+use tag_table::Tags;
 
 // Bytes.
 pub fn emit_bytes(s: &[u8], out: &mut [u8], at: usize, write: bool) -> usize
@@ -39,21 +30,20 @@ pub fn emit_bytes(s: &[u8], out: &mut [u8], at: usize, write: bool) -> usize
         let n = format::put_bytes(s, &mut out[at..]);
         return at + n;
     }
-    saturating_add(at, s.len())
+    at.saturating_add(s.len())
 }
 
 // One record's line. A record with a part outside text has none.
 fn emit_record(
-    tags: &[u8],
+    tags: Tags,
     text: &[u8],
     record: Record,
     out: &mut [u8],
     at: usize,
     write: bool,
 ) -> usize
-    requires tags_value { are_tags tags.now ≡ true }
-    requires room_for { RoomFor write out.old at (line_in (tags_of tags.now) text.now «record») }
-    ensures { Emitted write out.old out.new at (line_in (tags_of tags.now) text.now «record») result }
+    requires { RoomFor write out.old at (line_in (tag_of tags) text.now «record») }
+    ensures { Emitted write out.old out.new at (line_in (tag_of tags.entry) text.now «record») result }
 {
     if write {
         let wrote = record_display::print_line(tags, text, record, &mut out[at..]);
@@ -62,7 +52,7 @@ fn emit_record(
         };
         return at + n;
     }
-    saturating_add(at, record_display::line_len(tags, text, record))
+    at.saturating_add(record_display::line_len(tags, text, record))
 }
 
 // The length of an end line and the comma before it.
@@ -76,22 +66,20 @@ fn end_len(end: Option<u32>) -> usize
 }
 
 // The offset behind the FN of a function that has a start line, computed from its row.
-fn measure_start(tags: &[u8], row: Row, start: u64, at: usize) -> usize
-    requires tags_value { are_tags tags.now ≡ true }
-    requires by_index { (text : List ℕ) → start_key (extent_of (item_of text row)) ≡ suc start }
-    ensures { (text : List ℕ) → ItemInBounds text row → result ≡ min (at + length (print_records (tags_of tags.now) (start_record (item_of text row)))) u64_max }
+fn measure_start(tags: Tags, row: Row, start: u64, at: usize) -> usize
+    requires { (text : List ℕ) → start_key (extent_of (item_of text row)) ≡ suc start }
+    ensures { (text : List ℕ) → ItemInBounds text row → result ≡ min (at + length (print_records (tag_of tags.entry) (start_record (item_of text row)))) u64_max }
 {
     let tag = tag_table::tag_len(tags, Kind::FunctionName);
     let numbers = 3 + tag + format::decimal_len(start) + end_len(table_item::end_line(row));
-    saturating_add(saturating_add(at, numbers), row.k2 as usize)
+    at.saturating_add(numbers).saturating_add(row.k2 as usize)
 }
 
 // FN, where a function has a start.
-fn emit_start(tags: &[u8], text: &[u8], row: Row, out: &mut [u8], at: usize, write: bool) -> usize
-    requires tags_value { are_tags tags.now ≡ true }
+fn emit_start(tags: Tags, text: &[u8], row: Row, out: &mut [u8], at: usize, write: bool) -> usize
     requires item_in_bounds { ItemInBounds text.now row × ItemFits (item_of text.now row) }
-    requires room_for { RoomFor write out.old at (print_records (tags_of tags.now) (start_record (item_of text.now row))) }
-    ensures { Emitted write out.old out.new at (print_records (tags_of tags.now) (start_record (item_of text.now row))) result }
+    requires room_for { RoomFor write out.old at (print_records (tag_of tags) (start_record (item_of text.now row))) }
+    ensures { Emitted write out.old out.new at (print_records (tag_of tags.entry) (start_record (item_of text.now row))) result }
 {
     let key = table_item::start_key(row);
     if key == 0 {
@@ -119,7 +107,7 @@ fn part_of(start: u64, len: u64) -> Part
 }
 
 fn taken_of(row: Row) -> Option<u64>
-    ensures { result ≡ lent_given (row.tag % 2) row.count }
+    ensures { result ≡ lent_taken (row.tag % 2) row.count }
 {
     if row.tag % 2 == 0 {
         return None;
@@ -137,11 +125,10 @@ fn checksum_of(row: Row) -> Option<Part>
 }
 
 // FNDA, BRDA or DA, as a record.
-fn emit_item(tags: &[u8], text: &[u8], row: Row, out: &mut [u8], at: usize, write: bool) -> usize
-    requires tags_value { are_tags tags.now ≡ true }
+fn emit_item(tags: Tags, text: &[u8], row: Row, out: &mut [u8], at: usize, write: bool) -> usize
     requires item_in_bounds { ItemInBounds text.now row × ItemFits (item_of text.now row) }
-    requires room_for { RoomFor write out.old at (print_records (tags_of tags.now) (data_record (item_of text.now row))) }
-    ensures { Emitted write out.old out.new at (print_records (tags_of tags.now) (data_record (item_of text.now row))) result }
+    requires room_for { RoomFor write out.old at (print_records (tag_of tags) (data_record (item_of text.now row))) }
+    ensures { Emitted write out.old out.new at (print_records (tag_of tags.entry) (data_record (item_of text.now row))) result }
 {
     let kind = row.tag / 2;
     if kind == table_item::FUNCTION {
@@ -172,18 +159,19 @@ fn emit_item(tags: &[u8], text: &[u8], row: Row, out: &mut [u8], at: usize, writ
 }
 
 // The offset behind a row's FNDA, BRDA or DA, computed from the row, without a record.
-fn measure_data(tags: &[u8], row: Row, at: usize) -> usize
-    requires { are_tags tags.now ≡ true }
-    ensures { (text : List ℕ) → ItemInBounds text row → result ≡ min (at + length (print_records (tags_of tags.now) (data_record (item_of text row)))) u64_max }
+fn measure_data(tags: Tags, row: Row, at: usize) -> usize
+    ensures { (text : List ℕ) → ItemInBounds text row → result ≡ min (at + length (print_records (tag_of tags.entry) (data_record (item_of text row)))) u64_max }
 {
     let kind = row.tag / 2;
     if kind == table_item::LINE {
         let tag = tag_table::tag_len(tags, Kind::LineData);
         let numbers = 3 + tag + format::decimal_len(row.k1) + format::decimal_len(row.count);
         if row.tag % 2 == 0 {
-            return saturating_add(at, numbers);
+            return at.saturating_add(numbers);
         }
-        return saturating_add(saturating_add(at, numbers + 1), row.k3 as usize);
+        return at
+            .saturating_add(numbers + 1)
+            .saturating_add(row.k3 as usize);
     }
     if kind == table_item::BRANCH {
         let key = tag_table::tag_len(tags, Kind::BranchData)
@@ -191,23 +179,22 @@ fn measure_data(tags: &[u8], row: Row, at: usize) -> usize
             + format::decimal_len(row.k2)
             + format::decimal_len(row.k3);
         if row.tag % 2 == 0 {
-            return saturating_add(at, key + 6);
+            return at.saturating_add(key + 6);
         }
-        return saturating_add(at, key + 5 + format::decimal_len(row.count));
+        return at.saturating_add(key + 5 + format::decimal_len(row.count));
     }
     if kind == table_item::FUNCTION {
         let tag = tag_table::tag_len(tags, Kind::FunctionData);
         let number = 3 + tag + format::decimal_len(row.count);
-        return saturating_add(saturating_add(at, number), row.k2 as usize);
+        return at.saturating_add(number).saturating_add(row.k2 as usize);
     }
     at
 }
 
 // DA of a line with no checksum, written with no record made.
-fn emit_line_data(tags: &[u8], line: u32, count: u64, out: &mut [u8], at: usize) -> usize
-    requires tags_value { are_tags tags.now ≡ true }
-    requires room_for { RoomFor true out.old at (line_in (tags_of tags.now) [] (counted line count)) }
-    ensures { Emitted true out.old out.new at (line_in (tags_of tags.now) [] (counted line count)) result }
+fn emit_line_data(tags: Tags, line: u32, count: u64, out: &mut [u8], at: usize) -> usize
+    requires { RoomFor true out.old at (line_in (tag_of tags) [] (counted line count)) }
+    ensures { Emitted true out.old out.new at (line_in (tag_of tags.entry) [] (counted line count)) result }
 {
     let wrote = record_display::print_line_data(tags, line, count, &mut out[at..]);
     let Ok(n) = wrote else {
@@ -217,17 +204,14 @@ fn emit_line_data(tags: &[u8], line: u32, count: u64, out: &mut [u8], at: usize)
 }
 
 // FNDA, BRDA or DA. Under the default tags DA makes no record.
-fn emit_data(tags: &[u8], text: &[u8], row: Row, out: &mut [u8], at: usize, write: bool) -> usize
-    requires tags_value { are_tags tags.now ≡ true }
+fn emit_data(tags: Tags, text: &[u8], row: Row, out: &mut [u8], at: usize, write: bool) -> usize
     requires item_in_bounds { ItemInBounds text.now row × ItemFits (item_of text.now row) }
-    requires room_for { RoomFor write out.old at (print_records (tags_of tags.now) (data_record (item_of text.now row))) }
-    ensures { Emitted write out.old out.new at (print_records (tags_of tags.now) (data_record (item_of text.now row))) result }
+    requires room_for { RoomFor write out.old at (print_records (tag_of tags) (data_record (item_of text.now row))) }
+    ensures { Emitted write out.old out.new at (print_records (tag_of tags.entry) (data_record (item_of text.now row))) result }
 {
     if write {
-        if row.tag == table_item::LINE * 2 {
-            if tags.len() == 0 {
-                return emit_line_data(tags, row.k1 as u32, row.count, out, at);
-            }
+        if row.tag == table_item::LINE * 2 && tags.are_default() {
+            return emit_line_data(tags, row.k1 as u32, row.count, out, at);
         }
         return emit_item(tags, text, row, out, at, write);
     }
@@ -236,7 +220,7 @@ fn emit_data(tags: &[u8], text: &[u8], row: Row, out: &mut [u8], at: usize, writ
 
 // What one pass prints of a row: FN where `starts`, and FNDA, BRDA or DA in the other.
 fn emit_row(
-    tags: &[u8],
+    tags: Tags,
     text: &[u8],
     row: Row,
     starts: bool,
@@ -244,10 +228,9 @@ fn emit_row(
     at: usize,
     write: bool,
 ) -> usize
-    requires tags_value { are_tags tags.now ≡ true }
     requires item_in_bounds { ItemInBounds text.now row × ItemFits (item_of text.now row) }
-    requires room_for { RoomFor write out.old at (print_records (tags_of tags.now) (pass_records starts (item_of text.now row))) }
-    ensures { Emitted write out.old out.new at (print_records (tags_of tags.now) (pass_records starts (item_of text.now row))) result }
+    requires room_for { RoomFor write out.old at (print_records (tag_of tags) (pass_records starts (item_of text.now row))) }
+    ensures { Emitted write out.old out.new at (print_records (tag_of tags.entry) (pass_records starts (item_of text.now row))) result }
 {
     if starts {
         return emit_start(tags, text, row, out, at, write);
@@ -257,7 +240,7 @@ fn emit_row(
 
 // One pass over the n rows whose numbers are at word `numbers` on.
 pub fn emit_rows(
-    tags: &[u8],
+    tags: Tags,
     text: &[u8],
     words: &[u64],
     numbers: usize,
@@ -267,18 +250,15 @@ pub fn emit_rows(
     at: usize,
     write: bool,
 ) -> usize
-    requires tags_value { are_tags tags.now ≡ true }
     requires printable { Printable text.now words.now numbers n }
-    requires room_for { RoomFor write out.old at (print_records (tags_of tags.now) (concat_map (pass_records starts) (tabulate (numbered_item text.now words.now numbers) n))) }
-    ensures { Emitted write out.old out.new at (print_records (tags_of tags.now) (concat_map (pass_records starts) (tabulate (numbered_item text.now words.now numbers) n))) result }
+    requires room_for { RoomFor write out.old at (print_records (tag_of tags) (concat_map (pass_records starts) (tabulate (numbered_item text.now words.now numbers) n))) }
+    ensures { Emitted write out.old out.new at (print_records (tag_of tags.entry) (concat_map (pass_records starts) (tabulate (numbered_item text.now words.now numbers) n))) result }
 {
     let mut end = at;
-    let mut i = 0;
-    while i < n {
+    for i in 0..n {
         let j = words[numbers + i] as usize;
         let row = table::read_row(words, j);
         end = emit_row(tags, text, row, starts, out, end, write);
-        i += 1;
     }
     end
 }
@@ -305,11 +285,9 @@ pub fn count_hits(words: &[u64], numbers: usize, n: usize) -> u32
     ensures { (text : List ℕ) → result ≡ hits (tabulate (numbered_item text words.now numbers) n) }
 {
     let mut hit = 0;
-    let mut i = 0;
-    while i < n {
+    for i in 0..n {
         let j = words[numbers + i] as usize;
-        hit = hit + hit_of(table::read_row(words, j));
-        i += 1;
+        hit += hit_of(table::read_row(words, j));
     }
     hit
 }
@@ -345,21 +323,11 @@ fn hit_record(kind: u64, n: u32) -> Record
 // How many rows are counted before they are printed.
 const BATCH: usize = 32;
 
-// The next batch of so many rows.
-fn batch_of(left: usize) -> usize
-    ensures { (result ≤ left) × (1 ≤ left → 1 ≤ result) }
-{
-    if left < BATCH {
-        return left;
-    }
-    BATCH
-}
-
 // Prints the data of the n rows whose numbers are at word `numbers` on, then how many were found and hit: "a loop that
 // carries the hit number". An empty group prints nothing. The rows are scattered in memory, so the hits of a batch are
 // counted first, in a short loop that lets many cache misses overlap.
 pub fn emit_group(
-    tags: &[u8],
+    tags: Tags,
     text: &[u8],
     words: &[u64],
     kind: u64,
@@ -369,11 +337,10 @@ pub fn emit_group(
     at: usize,
     write: bool,
 ) -> usize
-    requires tags_value { are_tags tags.now ≡ true }
     requires printable { Printable text.now words.now numbers n }
     requires le_kind { (1 ≤ kind) × (kind ≤ 3) × (n ≤ u32_max) }
-    requires room_for { RoomFor write out.old at (print_records (tags_of tags.now) (group (found_of kind) (hit_of kind) (tabulate (numbered_item text.now words.now numbers) n))) }
-    ensures { Emitted write out.old out.new at (print_records (tags_of tags.now) (group (found_of kind) (hit_of kind) (tabulate (numbered_item text.now words.now numbers) n))) result }
+    requires room_for { RoomFor write out.old at (print_records (tag_of tags) (group (found_of kind) (hit_of kind) (tabulate (numbered_item text.now words.now numbers) n))) }
+    ensures { Emitted write out.old out.new at (print_records (tag_of tags.entry) (group (found_of kind) (hit_of kind) (tabulate (numbered_item text.now words.now numbers) n))) result }
 {
     if n == 0 {
         return at;
@@ -381,9 +348,10 @@ pub fn emit_group(
     let mut end = at;
     let mut hit = 0;
     let mut i = 0;
+    // moves by a batch, and the last one is shorter
     while i < n {
-        let m = batch_of(n - i);
-        hit = hit + count_hits(words, numbers + i, m);
+        let m = (n - i).min(BATCH);
+        hit += count_hits(words, numbers + i, m);
         end = emit_rows(tags, text, words, numbers + i, m, false, out, end, write);
         i += m;
     }
@@ -393,17 +361,16 @@ pub fn emit_group(
 
 // TN and SF of a section's header row.
 pub fn emit_head(
-    tags: &[u8],
+    tags: Tags,
     text: &[u8],
     row: Row,
     out: &mut [u8],
     at: usize,
     write: bool,
 ) -> usize
-    requires tags_value { are_tags tags.now ≡ true }
     requires test_len_in_bounds { (row.test + row.test_len ≤ length text.now) × (row.path + row.path_len ≤ length text.now) }
-    requires room_for { RoomFor write out.old at (print_records (tags_of tags.now) (test_name (part text.now row.test row.test_len) ∷ source_file (part text.now row.path row.path_len) ∷ [])) }
-    ensures { Emitted write out.old out.new at (print_records (tags_of tags.now) (test_name (part text.now row.test row.test_len) ∷ source_file (part text.now row.path row.path_len) ∷ [])) result }
+    requires room_for { RoomFor write out.old at (print_records (tag_of tags) (test_name (part text.now row.test row.test_len) ∷ source_file (part text.now row.path row.path_len) ∷ [])) }
+    ensures { Emitted write out.old out.new at (print_records (tag_of tags.entry) (test_name (part text.now row.test row.test_len) ∷ source_file (part text.now row.path row.path_len) ∷ [])) result }
 {
     let test = part_of(row.test, row.test_len);
     let end = emit_record(tags, text, Record::TestName(test), out, at, write);
@@ -412,10 +379,9 @@ pub fn emit_head(
 }
 
 // end_of_record.
-pub fn emit_end(tags: &[u8], text: &[u8], out: &mut [u8], at: usize, write: bool) -> usize
-    requires tags_value { are_tags tags.now ≡ true }
-    requires room_for { RoomFor write out.old at (print_records (tags_of tags.now) (end_of_record ∷ [])) }
-    ensures { Emitted write out.old out.new at (print_records (tags_of tags.now) (end_of_record ∷ [])) result }
+pub fn emit_end(tags: Tags, text: &[u8], out: &mut [u8], at: usize, write: bool) -> usize
+    requires { RoomFor write out.old at (print_records (tag_of tags) (end_of_record ∷ [])) }
+    ensures { Emitted write out.old out.new at (print_records (tag_of tags.entry) (end_of_record ∷ [])) result }
 {
     emit_record(tags, text, Record::EndOfRecord, out, at, write)
 }

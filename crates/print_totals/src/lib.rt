@@ -83,6 +83,7 @@ pub fn count_totals(words: &[u64], index: usize, n: usize) -> Totals
         lines: Ratio { hit: 0, found: 0 },
     };
     let mut lo = 0;
+    // moves to the next section
     while lo < n {
         let runs = print_report::find_kind_ranges(words, index, n, n, lo + 1);
         let totals = count_section(words, index, n, lo + 1, runs);
@@ -221,6 +222,7 @@ fn print_lines(
     };
     let mut lo = 0;
     let mut at = 0;
+    // moves to the next section
     while lo < n {
         let line = print_line(text, words, index, n, lo, out, at, write);
         sums = add_totals(sums, line.totals);

@@ -54,8 +54,7 @@ pub fn put_refusal(refusal: Refusal, out: &mut [u8]) -> usize
     requires { max_refused ≤ length out.old }
     ensures { (result ≡ length (refused_line «refusal»)) × (out.new ≡ over (refused_line «refusal») out.old) }
 {
-    let fault = refusal.fault;
-    let number = u32::from(fault) as u64;
+    let number = u32::from(refusal.fault) as u64;
     let head = format::put_bytes(b"refused", out);
     let n = put_places(
         number,
@@ -80,11 +79,7 @@ pub fn show_refusal(refusal: Refusal) {
 
 // Writes the first n bytes, or all where there are fewer.
 pub fn write_first(bytes: &[u8], n: usize) {
-    if n <= bytes.len() {
-        io::write_all(1, &bytes[..n]);
-    } else {
-        io::write_all(1, bytes);
-    }
+    io::write_all(1, &bytes[..n.min(bytes.len())]);
 }
 
 // The most bytes that a number has with a byte before it.

@@ -149,10 +149,7 @@ pub fn is_inside(last: Last, n: usize) -> bool
         Last::Text(part) => {
             let start = part.start;
             let len = part.len;
-            if n < start {
-                return false;
-            }
-            len <= n - start
+            start <= n && len <= n - start
         }
     }
 }

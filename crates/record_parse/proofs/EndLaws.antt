@@ -1,5 +1,5 @@
 -- Digits alone up to a comma, found byte by byte. Assumes nothing.
-use Prim.Native.Nat.{ℕ, zero, suc, ◌+◌, ◌≤◌, ◌<◌}
+use Prim.Native.Nat.{ℕ, suc, ◌+◌, ◌≤◌, ◌<◌}
 use native.Mathlib.Omega.{arith}
 use native.Mathlib.Numerals.{add-one}
 use mathlib.Core.Path.{◌≡◌, refl, sym, ap, ◌∙◌}
@@ -79,7 +79,7 @@ module _ (s : Bytes) (i : ℕ) (left : end_behind i (drop i s) ≡ begins_with_e
     unfolding end_behind
     digit_passed e = rw add-one (sym (rw (drop-next 0 s i h, end_behind, ← is, e, add-one) refl) ∙ left)
 
-    pub comma_met : (t : Bool) → r ≡ false → get_or s i 0 ≡ comma → t ≡ ltb 0 i → t ≡ begins_with_end s
+    pub comma_met : (t : Bool) → r ≡ false → get_or s i 0 ≡ 44 → t ≡ ltb 0 i → t ≡ begins_with_end s
     unfolding end_behind
     comma_met t e c q = q ∙ rw (drop-next 0 s i h, end_behind, ← is, e, eq-eqb _ _ c) at left
 

@@ -1,5 +1,5 @@
 -- The fields of a body, left to right: each starts at a position of the line. Assumes nothing.
-use Rattle.std.specs.Prelude.{Result, Some, None}
+use Rattle.std.specs.Prelude.{Option as LentOption, Result, Some, None, Ok, Err}
 use Rattle.model.specs.declared.Record.{Record as LentRecord}
 use Rattle.model.specs.declared.Refusal.{Refusal}
 use Prim.Native.Nat.{ℕ, zero, suc, ◌+◌, ◌-◌, ◌*◌, ◌^◌, ◌≤◌, ◌<◌}
@@ -7,16 +7,11 @@ use mathlib.Core.Path.{◌≡◌, refl, sym, ap, ◌∙◌}
 use mathlib.Core.List.{[], ◌∷◌}
 use mathlib.Core.Bool.{Bool, true, false, cond}
 use mathlib.Core.Option.{Option, none, some}
-use mathlib.Core.Logic.{⊎_elim}
 use native.Mathlib.Omega.{arith}
 use native.Mathlib.Numerals.{add-one}
 use lib.Dec.{ltb, eqb, leb-suc-suc}
 use lib.ListN.{length, take, drop, length-take, length-drop}
 use lib.Seq.{take_all, drop-drop}
-use mir.Val.{Fits}
-use mir.Syntax.{w64}
-use types.Run.{OneOf}
-use denote.Enum.Declared.{tag_of}
 use borrow.Author.Tests.{lt-ltb}
 use Rattle.ordmap.proofs.Results.{impossible}
 use Rattle.model.specs.declared.Fault.{Fault}
@@ -28,14 +23,11 @@ use Rattle.model.specs.Line.{from_field, in_field, number_field}
 use Rattle.model.specs.Parts.{end_part}
 use Rattle.scan.specs.declared.Number.{Number}
 use Rattle.scan.specs.declared.Number.TheVariants as N
-use Rattle.scan.specs.Scan.{followed, number_in, NumberRead}
-use Rattle.scan_digits.specs.declared.Short.{Short}
-use Rattle.scan_digits.specs.declared.Short.TheVariants as S
+use Rattle.scan.specs.Scan.{followed, number_in, next_of, NumberRead}
 use Rattle.scan_digits.specs.Word.{ShortRead, EndOf}
 use Rattle.record_parse.specs.declared.fields.Field.{Field}
 use Rattle.record_parse.specs.declared.fields.Field.TheVariants.{Last, More, Fault as Bad}
-use Rattle.record_parse.specs.Answers.{refusal}
-use Rattle.record_parse.specs.Fields.{number_refusal, in_line, NumberField, part_from, checksum_from}
+use Rattle.record_parse.specs.Fields.{number_refusal, field_of, in_line, NumberField, part_from, checksum_from}
 
 -- the rest of a line from a position, as the code lends it
 abbrev pub part : Bytes → ℕ → Bytes
@@ -45,9 +37,9 @@ pub to_end : (s : Bytes) (at : ℕ) → part s at ≡ drop at s
 to_end s at = take_all (length s - at) (drop at s) (simp length-drop (omega arith))
 
 -- a part up to the end of the line
-pub part-rest : (line : Bytes) (at : ℕ) → at ≤ length line → part_from at (part line at) ≡ end_part line (drop at line)
+pub part_rest : (line : Bytes) (at : ℕ) → at ≤ length line → part_from at (part line at) ≡ end_part line (drop at line)
 unfolding end_part
-part-rest line at h =
+part_rest line at h =
     let start : length line - length (drop at line) ≡ at = rw (length-drop at line) (omega arith) in
     rw (to_end line at, start)
 
@@ -139,9 +131,9 @@ module _ {body line : Bytes} {k at max : ℕ} (here : FieldAt body line k at) {g
     last_told : (value ≡ accepted v) × (after comma (drop at line) ≡ none)
     last_told = told_last at value (length (before comma (drop at line))) (after comma (drop at line)) v (sym is ∙ seen-is)
 
-    pub last-value : number_field max k body ≡ accepted v
+    pub last_value : number_field max k body ≡ accepted v
     unfolding in_field
-    last-value = rw (field_is, last_told.0)
+    last_value = rw (field_is, last_told.0)
 
     pub no_field : from_field (suc k) body ≡ none
     no_field = field_next ∙ last_told.1
@@ -150,9 +142,9 @@ module _ {body line : Bytes} {k at max : ℕ} (here : FieldAt body line k at) {g
     more_told : (value ≡ accepted v) × (n ≡ at + (length (before comma (drop at line)) + 1)) × ((rest : Bytes) × (after comma (drop at line) ≡ some rest))
     more_told = told_more at value (length (before comma (drop at line))) (after comma (drop at line)) v n (sym is ∙ seen-is)
 
-    pub more-value : number_field max k body ≡ accepted v
+    pub more_value : number_field max k body ≡ accepted v
     unfolding in_field
-    more-value = rw (field_is, more_told.0)
+    more_value = rw (field_is, more_told.0)
 
     pub next_field : FieldAt body line (suc k) n
     next_field = go more_told
@@ -173,8 +165,8 @@ module _ (start : ℕ) (rest : Bytes) (d : Bool) (is : d ≡ same_bytes rest (as
   pub checksum_dash : d ≡ true → None ≡ checksum_from start rest
   checksum_dash e = rw (← is, e)
 
-  pub checksum-text : (p : Part) → d ≡ false → p ≡ part_from start rest → Some p ≡ checksum_from start rest
-  checksum-text p e q = rw (← is, e, q)
+  pub checksum_text : (p : Part) → d ≡ false → p ≡ part_from start rest → Some p ≡ checksum_from start rest
+  checksum_text p e q = rw (← is, e, q)
 
 -- ---- a number's refusal, known by its variant
 
@@ -183,26 +175,20 @@ refusal_of_lem got number field r e q = rw e q
 
 -- ---- a number, its next field as a position of the line
 
-module _ {max : ℕ} (start : ℕ) {rest : Bytes} {got : Number} (seen : NumberRead max rest got) where
-  pub number-last : (v d : ℕ) → got ≡ N.Last v d → NumberField max start rest (Last v)
-  number-last v d e = record { is = ap (in_line start) (sym e ∙ seen.is); long = omega arith; most = rw e at seen.most }
+told_field : {max : ℕ} (start : ℕ) {rest : Bytes} (n : Number) → NumberRead max rest (Ok n) → NumberField max start rest (field_of start n)
+told_field start (N.Last v d) seen = record { is = ap (in_line start) seen.is; long = omega arith; most = seen.most }
+told_field start (N.More v d) seen = record { is = ap (in_line start) seen.is; long = omega (arith, seen.long); most = seen.most }
 
-  pub number_bad : (f : Fault) → got ≡ N.Fault f → NumberField max start rest (Bad f)
+module _ {max : ℕ} (start : ℕ) {rest : Bytes} {got : Result Number Fault} (seen : NumberRead max rest got) where
+  pub number_told : (n : Number) (r : Field) → got ≡ Ok n → r ≡ field_of start n → NumberField max start rest r
+  number_told n r e q = rw q (told_field start n (rw e at seen))
+
+  pub number_bad : (f : Fault) → got ≡ Err f → NumberField max start rest (Bad f)
   number_bad f e = record { is = ap (in_line start) (sym e ∙ seen.is); long = omega arith; most = omega arith }
 
-  module _ (v d : ℕ) (e : got ≡ N.More v d) where
-    -- the digits and the comma are in the part
-    room : d + 1 ≤ length rest
-    room = rw e at seen.long
-
-    pub number-there : NumberField max start rest (More v (start + d + 1))
-    number-there = record { is = ap (in_line start) (sym e ∙ seen.is); long = omega (arith, room); most = rw e at seen.most }
-
-    pub comma-fits : start + length rest < 2 ^ 64 → Fits w64 (start + d)
-    comma-fits h = record { fits = omega (arith, room) }
-
-    pub number_fits : start + length rest < 2 ^ 64 → Fits w64 (start + d + 1)
-    number_fits h = record { fits = omega (arith, room) }
+  -- the digits and the comma are in the part
+  pub number_room : (n : Number) → got ≡ Ok n → start + length rest < 2 ^ 64 → start + next_of (Ok n) < 2 ^ 64
+  number_room n e h = let room : next_of (Ok n) ≤ length rest = rw e at seen.long in omega (arith, room)
 
 -- ---- a short number
 
@@ -213,23 +199,16 @@ part_end line at h =
     let start : length line - length (part line at) ≡ at = omega (arith, long, h) in
     record { within = omega (arith, long); is = to_end line at ∙ ap (λ (k : ℕ). drop k line) (sym start) }
 
-module _ {rest : Bytes} (start : ℕ) (short : Short) (told : ShortRead rest short) where
-  pub short-last : (max v d : ℕ) → 99999999 ≤ max → short ≡ S.Last v d → NumberField max start rest (Last v)
-  short-last max v d k e = number-last start (rw e at (told.is max k)) v d refl
+module _ {rest : Bytes} (start : ℕ) (short : LentOption Number) (told : ShortRead rest short) (n : Number) (e : short ≡ Some n) where
+  pub short_seen : (max : ℕ) → 99999999 ≤ max → NumberRead max rest (Ok n)
+  short_seen max k = rw e at (told.is max k)
 
-  module _ (v d : ℕ) (e : short ≡ S.More v d) where
-    pub short-more : (max : ℕ) → 99999999 ≤ max → NumberField max start rest (More v (start + d + 1))
-    short-more max k = number-there start (rw e at (told.is max k)) v d refl
+  pub short_told : (max : ℕ) (r : Field) → 99999999 ≤ max → r ≡ field_of start n → NumberField max start rest r
+  short_told max r k q = rw q (told_field start n (short_seen max k))
 
-    seen : NumberRead 99999999 rest (N.More v d)
-    seen = rw e at (told.is 99999999 (omega arith))
-
-    pub short-comma : start + length rest < 2 ^ 64 → Fits w64 (start + d)
-    short-comma h = comma-fits start seen v d refl h
-
-    pub short-fits : start + length rest < 2 ^ 64 → Fits w64 (start + d + 1)
-    short-fits h = number_fits start seen v d refl h
+  pub short_room : start + length rest < 2 ^ 64 → start + next_of (Ok n) < 2 ^ 64
+  short_room h = number_room start (short_seen 99999999 (omega arith)) n refl h
 
 -- the part from a position on starts and ends in the line
-pub part-fits : (line : Bytes) (at : ℕ) → at ≤ length line → length line * 1 < 2 ^ 63 → at + length (part line at) < 2 ^ 64
-part-fits line at h k = simp (length-take, length-drop) (omega arith)
+pub part_fits : (line : Bytes) (at : ℕ) → at ≤ length line → length line * 1 < 2 ^ 63 → at + length (part line at) < 2 ^ 64
+part_fits line at h k = simp (length-take, length-drop) (omega arith)

@@ -1,6 +1,6 @@
 -- One whole number field, by the number in front of its first comma: a comma is no digit. Assumes nothing.
-use Rattle.std.specs.Prelude.{Ok, Err}
-use Prim.Native.Nat.{ℕ, suc, ◌+◌, ◌-◌, ◌*◌}
+use Rattle.std.specs.Prelude.{Result, Ok, Err}
+use Prim.Native.Nat.{ℕ, ◌+◌, ◌-◌, ◌*◌}
 use mathlib.Core.Path.{◌≡◌, refl, sym, ap, ◌∙◌}
 use mathlib.Core.List.{[], ◌∷◌}
 use mathlib.Core.Bool.{Bool, true, false, cond}
@@ -8,13 +8,12 @@ use mathlib.Core.Option.{Option, none, some}
 use lib.Dec.{leb, eqb}
 use lib.ListN.{length, take}
 use borrow.Author.Tests.{eqb-true}
-use Rattle.ordmap.proofs.Results.{impossible, not_accepted}
+use Rattle.ordmap.proofs.Results.{impossible}
 use Rattle.model.specs.declared.Fault.{Fault}
 use Rattle.model.specs.declared.Fault.TheVariants.{EmptyNumber, InvalidDigit, NumberOverflow, SignedNumber}
 use Rattle.model.specs.declared.Refusal.{Refusal}
 use Rattle.model.specs.Bytes.{Bytes, ascii, comma, compare_bytes, same_bytes, before, after}
 use Rattle.model.specs.Answer.{Answer, accepted, refused, refuse, unplaced}
-use Rattle.model.specs.declared.Counted.{Counted}
 use Rattle.model.specs.Number.{is_digit, read_digits, read_number, read_field}
 use Rattle.model.specs.Calls.{ValueCall, call_answer}
 use Rattle.model.proofs.CallLaws.{value_called}
@@ -98,10 +97,10 @@ number-unplaced max (b ∷ bs) {r} e = go (eqb b 43) e
 -- ---- the call
 
 -- a comma comes first
-pub comma-first : (max : ℕ) (s : Bytes) (d : Bool) (q : Refusal) → d ≡ same_bytes (take 1 s) (ascii ",") → d ≡ true → q ≡ unplaced InvalidDigit
+pub comma_first : (max : ℕ) (s : Bytes) (d : Bool) (q : Refusal) → d ≡ same_bytes (take 1 s) (ascii ",") → d ≡ true → q ≡ unplaced InvalidDigit
     → ValueCall (read_field max s) (Err q)
 unfolding read_field read_number read_digits call_answer compare_bytes
-comma-first max s d q e t z = value_called (read_field max s) (Err q) (go s (sym e ∙ t))
+comma_first max s d q e t z = value_called (read_field max s) (Err q) (go s (sym e ∙ t))
   where
     go : (s : Bytes) → same_bytes (take 1 s) (ascii ",") ≡ true → Err q ≡ call_answer (read_field max s)
     go [] h = impossible cc
@@ -111,7 +110,7 @@ comma-first max s d q e t z = value_called (read_field max s) (Err q) (go s (sym
         pick true f = rw (eqb-true b 44 f, z)
         pick false f = impossible (cc (same-cons b 44 [] [] false f, h))
 
-module _ {max : ℕ} (s : Bytes) (d : Bool) (d-is : d ≡ same_bytes (take 1 s) (ascii ",")) (no-d : d ≡ false) {got : Scanned} (seen : NumberRead max s got) where
+module _ {max : ℕ} (s : Bytes) (d : Bool) (d-is : d ≡ same_bytes (take 1 s) (ascii ",")) (no-d : d ≡ false) {got : Result Scanned Fault} (seen : NumberRead max s got) where
   value : Answer ℕ
   value = read_number max (before comma s)
 
@@ -123,12 +122,12 @@ module _ {max : ℕ} (s : Bytes) (d : Bool) (d-is : d ≡ same_bytes (take 1 s) 
   unfolding value number_in
   got_is = seen.is
 
-  pub field_read : (v n : ℕ) → got ≡ N.Last v n → ValueCall (read_field max s) (Ok_NumberAnswer v n)
+  pub field_read : (v n : ℕ) → got ≡ Ok (N.Last v n) → ValueCall (read_field max s) (Ok (record { value = v; digits = n }))
   unfolding read_field call_answer
-  field_read v n e = value_called (read_field max s) (Ok_NumberAnswer v n) (go value (after comma s) refl refl all (sym e ∙ got_is))
+  field_read v n e = value_called (read_field max s) (Ok (record { value = v; digits = n })) (go value (after comma s) refl refl all (sym e ∙ got_is))
     where
       go : (a : Answer ℕ) (o : Option Bytes) → value ≡ a → after comma s ≡ o → read_number max s ≡ through a o
-          → N.Last v n ≡ followed a (length (before comma s)) o → Ok_NumberAnswer v n ≡ call_answer (read_field max s)
+          → Ok (N.Last v n) ≡ followed a (length (before comma s)) o → Ok (record { value = v; digits = n }) ≡ call_answer (read_field max s)
       go (accepted w) none f g h k =
           let a : v ≡ w = cc in
           let b : n ≡ length (before comma s) = cc in
@@ -136,21 +135,21 @@ module _ {max : ℕ} (s : Bytes) (d : Bool) (d-is : d ≡ same_bytes (take 1 s) 
       go (accepted w) (some rest) f g h k = impossible cc
       go (refused r) o f g h k = impossible cc
 
-  pub field_comma : (v n : ℕ) (q : Refusal) → got ≡ N.More v n → q ≡ unplaced InvalidDigit → ValueCall (read_field max s) (Err q)
+  pub field_comma : (v n : ℕ) (q : Refusal) → got ≡ Ok (N.More v n) → q ≡ unplaced InvalidDigit → ValueCall (read_field max s) (Err q)
   unfolding read_field call_answer
   field_comma v n q e z = value_called (read_field max s) (Err q) (go value (after comma s) all (sym e ∙ got_is))
     where
-      go : (a : Answer ℕ) (o : Option Bytes) → read_number max s ≡ through a o → N.More v n ≡ followed a (length (before comma s)) o
+      go : (a : Answer ℕ) (o : Option Bytes) → read_number max s ≡ through a o → Ok (N.More v n) ≡ followed a (length (before comma s)) o
           → Err q ≡ call_answer (read_field max s)
       go (accepted w) none h k = impossible cc
       go (accepted w) (some rest) h k = rw (h, z)
       go (refused r) o h k = impossible cc
 
-  pub field_refused : (f : Fault) (q : Refusal) → got ≡ N.Fault f → q ≡ unplaced f → ValueCall (read_field max s) (Err q)
+  pub field_refused : (f : Fault) (q : Refusal) → got ≡ Err f → q ≡ unplaced f → ValueCall (read_field max s) (Err q)
   unfolding read_field call_answer
   field_refused f q e z = value_called (read_field max s) (Err q) (go value (after comma s) all (sym e ∙ got_is))
     where
-      go : (a : Answer ℕ) (o : Option Bytes) → read_number max s ≡ through a o → N.Fault f ≡ followed a (length (before comma s)) o
+      go : (a : Answer ℕ) (o : Option Bytes) → read_number max s ≡ through a o → Err f ≡ followed a (length (before comma s)) o
           → Err q ≡ call_answer (read_field max s)
       go (accepted w) none h k = impossible cc
       go (accepted w) (some rest) h k = impossible cc

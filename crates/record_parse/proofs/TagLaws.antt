@@ -1,5 +1,5 @@
 -- A whole line: its end trimmed, its tag recognised, its body read. Assumes nothing.
-use Rattle.std.specs.Prelude.{Result, Ok, Err}
+use Rattle.std.specs.Prelude.{Option as LentOption, Result, Some, None, Ok, Err}
 use Prim.Native.Nat.{ℕ, ◌+◌, ◌≤◌}
 use mathlib.Core.Path.{◌≡◌, refl, sym, ap, ◌∙◌}
 use mathlib.Core.List.{List, [], ◌∷◌}
@@ -29,35 +29,34 @@ use Rattle.model.specs.contracts.Kind.{the_type}
 use Rattle.model.proofs.TagLaws.{kind_among-tag, kind_among-none}
 use Rattle.model.proofs.TagTableLaws.{tags_lawful}
 use Rattle.model.proofs.CallLaws.{call_exact}
-use Rattle.tag_table.specs.Kinds.{body_at, Tagged, Untagged, FoundIn}
-use Rattle.tag_table.specs.declared.Found.{Found}
-use Rattle.tag_table.specs.declared.Found.TheVariants.{Known, Unknown}
+use Rattle.tag_table.specs.Kinds.{body_at, TaggedAs, Untagged, FoundIn}
+use Rattle.tag_table.specs.declared.Tagged.{Tagged}
 use Rattle.record_parse.specs.Answers.{Answers, read, refusal}
 use Rattle.record_parse.specs.Fields.{refused_at, part_from}
 use Rattle.record_parse.specs.Lines.{count_made, count_kind, is_total, TotalOf}
 use Rattle.record_parse.specs.declared.lines.Total.{Total}
 use Rattle.record_parse.specs.declared.lines.Total.TheVariants as Ct
-use Rattle.record_parse.proofs.FieldLaws.{part, part-rest, after_at}
+use Rattle.record_parse.proofs.FieldLaws.{part, part_rest, after_at}
 
 -- ---- the kinds whose body is a text, a number, or is ignored
 
 module _ (line : Bytes) (at : ℕ) (kind : Kind) where
   module _ (p : Part) (is : p ≡ part_from at (part line at)) (there : at ≤ length line) where
-    pub test-body : kind ≡ Kd.TestName → Answers line (Ok (Lent.TestName p)) (read_body kind (drop at line))
+    pub test_body : kind ≡ Kd.TestName → Answers line (Ok (Lent.TestName p)) (read_body kind (drop at line))
     unfolding read_body lent_from
-    test-body e = rw e (read (test_name (drop at line)) (Lent.TestName p) (ap (λ (q : Part). Lent.TestName q) (is ∙ part-rest line at there)))
+    test_body e = rw e (read (test_name (drop at line)) (Lent.TestName p) (ap (λ (q : Part). Lent.TestName q) (is ∙ part_rest line at there)))
 
     pub source_body : kind ≡ Kd.SourceFile → Answers line (Ok (Lent.SourceFile p)) (read_body kind (drop at line))
     unfolding read_body lent_from
-    source_body e = rw e (read (source_file (drop at line)) (Lent.SourceFile p) (ap (λ (q : Part). Lent.SourceFile q) (is ∙ part-rest line at there)))
+    source_body e = rw e (read (source_file (drop at line)) (Lent.SourceFile p) (ap (λ (q : Part). Lent.SourceFile q) (is ∙ part_rest line at there)))
 
   pub end_body : kind ≡ Kd.EndOfRecord → Answers line (Ok Lent.EndOfRecord) (read_body kind (drop at line))
   unfolding read_body lent_from
   end_body e = rw e (read end_of_record Lent.EndOfRecord refl)
 
   -- a kind that has a reader of its own
-  pub known-body : (known : Kind) (r : Result LentRecord Refusal) → kind ≡ known → Answers line r (read_body known (drop at line)) → Answers line r (read_body kind (drop at line))
-  known-body known r e a = rw e a
+  pub known_body : (known : Kind) (r : Result LentRecord Refusal) → kind ≡ known → Answers line r (read_body known (drop at line)) → Answers line r (read_body kind (drop at line))
+  known_body known r e a = rw e a
 
 -- ---- the six kinds that hold one number
 
@@ -114,9 +113,9 @@ total_body Ct.BranchesHit body a = a
 total_body Ct.LinesFound body a = a
 total_body Ct.LinesHit body a = a
 
-pub other-body : (line : Bytes) (r : Result LentRecord Refusal) (kind : Kind) (total : Total) (body : Bytes) → OneOf read_as_total (tag_of the_type kind) → TotalOf kind total
+pub other_body : (line : Bytes) (r : Result LentRecord Refusal) (kind : Kind) (total : Total) (body : Bytes) → OneOf read_as_total (tag_of the_type kind) → TotalOf kind total
     → Answers line r (read_one (count_made total) body) → Answers line r (read_body kind body)
-other-body line r kind total body h t a = rw (← (t.is (holds-total kind h))) (total_body total body a)
+other_body line r kind total body h t a = rw (← (t.is (holds-total kind h))) (total_body total body a)
 
 -- ---- where the body starts
 
@@ -140,23 +139,23 @@ module _ (tags line s : Bytes) (are : are_tags tags ≡ true) (is : s ≡ trimme
   unfolding lent_record read_record
   trimmed-read r a = let b : Answers (trimmed line) r (read_trimmed (tags_of tags) (trimmed line)) = rw is at a in answer_is b
 
-  module _ (found : Found) (f : FoundIn (tags_of tags) s found) where
-    pub record_read : (kind : Kind) (at : ℕ) (r : Result LentRecord Refusal) → found ≡ Known kind at → Answers s r (read_body kind (drop at s)) → ValueCall (lent_record (tags_of tags) line) r
+  module _ (found : LentOption Tagged) (f : FoundIn (tags_of tags) s found) where
+    pub record_read : (kind : Kind) (at : ℕ) (r : Result LentRecord Refusal) → found ≡ Some (record { kind = kind; at = at }) → Answers s r (read_body kind (drop at s)) → ValueCall (lent_record (tags_of tags) line) r
     unfolding read_trimmed
     record_read kind at r e body =
-        let t : Tagged (tags_of tags) s kind at = rw e at f in
+        let t : TaggedAs (tags_of tags) s (record { kind = kind; at = at }) = rw e at f in
         trimmed-read r
         (rw (t.is, kind_among-tag (tags_of tags) (tags_lawful tags are) kind, read_trimmed)
         (rw (t.body, body_is s) at body))
 
-    pub record_unknown : (r : Result LentRecord Refusal) → found ≡ Unknown → r ≡ refused_at UnknownRecord 0 → ValueCall (lent_record (tags_of tags) line) r
+    pub record_unknown : (r : Result LentRecord Refusal) → found ≡ None → r ≡ refused_at UnknownRecord 0 → ValueCall (lent_record (tags_of tags) line) r
     unfolding read_trimmed
     record_unknown r e q =
         let t : Untagged (tags_of tags) s = rw e at f in
         trimmed-read r (rw (kind_among-none (tags_of tags) (before colon s) t.none, read_trimmed, q) (refusal _))
 
-    pub found_within : (kind : Kind) (at : ℕ) → found ≡ Known kind at → at ≤ length s
-    found_within kind at e = let t : Tagged (tags_of tags) s kind at = rw e at f in t.within
+    pub found_within : (kind : Kind) (at : ℕ) → found ≡ Some (record { kind = kind; at = at }) → at ≤ length s
+    found_within kind at e = let t : TaggedAs (tags_of tags) s (record { kind = kind; at = at }) = rw e at f in t.within
 
 -- ---- a lone line is line 1
 

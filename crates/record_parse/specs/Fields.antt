@@ -1,7 +1,7 @@
 -- What the field readers promise, in the model's definitions. Assumes nothing.
 use Rattle.model.specs.declared.Record.{Record as LentRecord}
 use Rattle.model.specs.declared.Refusal.{Refusal}
-use Rattle.std.specs.Prelude.{ℕ, suc, ◌+◌, ◌≤◌, ◌≡◌, length, Bool, false, cond, [], ◌∷◌, ltb, eqb, if◌then◌else◌, Option, Result, Some, None, Err}
+use Rattle.std.specs.Prelude.{ℕ, suc, ◌+◌, ◌≤◌, ◌≡◌, length, Bool, false, [], ◌∷◌, ltb, eqb, if◌then◌else◌, Option, Result, Some, None, Ok, Err}
 use Rattle.model.specs.declared.Fault.{Fault}
 use Rattle.model.specs.declared.Fault.TheVariants.{FieldNotFound, TooManyFields}
 use Rattle.model.specs.declared.Part.{Part}
@@ -22,10 +22,13 @@ number_refusal field (F.Last value) = refused_at FieldNotFound (field + 1)
 number_refusal field (F.More value next) = refused_at TooManyFields 0
 
 -- a number read in the part of a line from start on: what follows its comma is a position of the line
-abbrev pub in_line : ℕ → Number → Field
-in_line start (N.Last value digits) = F.Last value
-in_line start (N.More value digits) = F.More value (start + digits + 1)
-in_line start (N.Fault fault) = F.Fault fault
+abbrev pub field_of : ℕ → Number → Field
+field_of start (N.Last value digits) = F.Last value
+field_of start (N.More value digits) = F.More value (start + digits + 1)
+
+abbrev pub in_line : ℕ → Result Number Fault → Field
+in_line start (Ok number) = field_of start number
+in_line start (Err fault) = F.Fault fault
 
 -- where the next field starts
 abbrev pub next_of : Field → ℕ

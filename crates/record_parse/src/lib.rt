@@ -2,13 +2,13 @@
 #![tactic(auto)]
 
 ghost use Rattle.std.specs.Prelude.{◌≡◌, ◌≤◌, length, drop, true};
-ghost use Rattle.model.specs.TagTable.{tags_of, are_tags};
 ghost use Rattle.model.specs.Line.{read_body};
 ghost use Rattle.model.specs.Parts.{lent_record, lent_line};
 ghost use Rattle.model.specs.Number.{read_field};
 ghost use Rattle.model.specs.Calls.{ValueCall};
 ghost use Rattle.record_parse.specs.Answers.{Answers};
 ghost use Rattle.record_parse.specs.Lines.{TotalOf};
+ghost use Rattle.tag_table.specs.Tags.{tag_of};
 
 mod fields;
 mod lines;
@@ -17,7 +17,7 @@ use fields::{refused, text_field};
 use lines::Total;
 use model::{Counted, Fault, Kind, Record, Refusal};
 use scan::Number;
-use tag_table::Found;
+use tag_table::{Tagged, Tags};
 
 // The kind, if it holds one number; any other is taken for LH.
 fn total_of(kind: Kind) -> Total
@@ -51,21 +51,21 @@ fn read_body(kind: Kind, line: &[u8], at: usize) -> Result<Record, Refusal>
 }
 
 // Reads a line; its refusal has no line number yet.
-pub fn read_record(tags: &[u8], line: &[u8]) -> Result<Record, Refusal>
-    requires { are_tags tags.now ≡ true }
-    ensures { ValueCall (lent_record (tags_of tags.now) line.now) result }
+#[tactic(auto, using(crate::proofs::TagLaws::record_read, crate::proofs::TagLaws::record_unknown, crate::proofs::TagLaws::found_within))]
+pub fn read_record(tags: Tags, line: &[u8]) -> Result<Record, Refusal>
+    ensures { ValueCall (lent_record (tag_of tags.entry) line.now) result }
 {
     let s = scan::trim(line);
     match tag_table::kind_of(tags, s) {
-        Found::Known { kind, at } => read_body(kind, s, at),
-        Found::Unknown => refused(Fault::UnknownRecord, 0),
+        Some(Tagged { kind, at }) => read_body(kind, s, at),
+        None => refused(Fault::UnknownRecord, 0),
     }
 }
 
 // Reads a lone line, which is line 1.
-pub fn read_line(tags: &[u8], line: &[u8]) -> Result<Record, Refusal>
-    requires { are_tags tags.now ≡ true }
-    ensures { ValueCall (lent_line (tags_of tags.now) line.now) result }
+#[tactic(auto, using(crate::proofs::TagLaws::lone_read, crate::proofs::TagLaws::lone_refused))]
+pub fn read_line(tags: Tags, line: &[u8]) -> Result<Record, Refusal>
+    ensures { ValueCall (lent_line (tag_of tags.entry) line.now) result }
 {
     let got = read_record(tags, line);
     match got {
@@ -90,13 +90,14 @@ pub fn read_number(field: &[u8], max: u64) -> Result<Counted, Refusal>
     if scan::starts_with(field, b",") {
         return Err(Refusal::from(Fault::InvalidDigit));
     }
-    let got = scan::read_number(field, max);
-    match got {
-        Number::Last { value, digits } => NumberAnswer::Read { value, digits },
-        Number::More {
-            value: _value,
-            digits: _,
-        } => Err(Refusal::from(Fault::InvalidDigit)),
-        Number::Fault(fault) => Err(Refusal::from(fault)),
+    match scan::read_number(field, max) {
+        Ok(Number::Last { value, digits }) => Ok(Counted { value, digits }),
+        Ok(
+            Number::More {
+                value: _value,
+                digits: _,
+            },
+        ) => Err(Refusal::from(Fault::InvalidDigit)),
+        Err(fault) => Err(Refusal::from(fault)),
     }
 }

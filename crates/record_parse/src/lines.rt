@@ -1,5 +1,7 @@
 // A reader for each kind of line whose body has numbers. Each gets the line, its end trimmed, and where the body starts, and hands
 // the part from there, then the part after each comma, on to the field readers.
+// A field that is refused ends the reading there: `let .. else` takes each answer apart, as the requirements name it (docs/ARCHITECTURE.md,
+// "Forms of code that the requirements name"), and so no `?` stands in its place.
 ghost use Rattle.std.specs.Prelude.{◌≡◌, ◌≤◌, length, drop};
 ghost use Rattle.model.specs.Line.{read_body, read_one};
 ghost use Rattle.model.specs.declared.Kind.TheVariants as Kd;
@@ -12,13 +14,14 @@ use super::fields::{
     text_field,
 };
 use model::{Fault, Part, Record, Refusal};
-use scan_digits::Short;
+use scan::Number;
 
 const MAX_U32: u64 = 4294967295;
 
 const MAX_U64: u64 = 18446744073709551615;
 
 // The end of an FN body that has an end line: that line, which must not be below the start line, and a name.
+#[tactic(auto, using(crate::proofs::FieldLaws::part_end, crate::proofs::LineLaws::end_up, crate::proofs::LineLaws::more_fits, crate::proofs::LineLaws::end_below, crate::proofs::LineLaws::end_given))]
 fn read_end(line: &[u8], at: usize, start: u32) -> Result<Record, Refusal>
     requires { at ≤ length line.now }
     ensures { EndRead start line.now at result }
@@ -38,6 +41,7 @@ fn read_end(line: &[u8], at: usize, start: u32) -> Result<Record, Refusal>
 }
 
 // What follows FN's start line: an end line and a name, or a name.
+#[tactic(auto, using(crate::proofs::LineLaws::function_end, crate::proofs::LineLaws::function_plain))]
 fn read_function(line: &[u8], at: usize, start: u32) -> Result<Record, Refusal>
     requires { at ≤ length line.now }
     ensures { FunctionRead start line.now at result }
@@ -82,14 +86,23 @@ pub(crate) fn read_function_data(line: &[u8], at: usize) -> Result<Record, Refus
 }
 
 // The end of a BRDA body: a taken count, which `short` has already if it is short, or "-" for none.
-fn read_taken(line: u32, block: u32, branch: u32, short: Short, rest: &[u8]) -> Result<Record, Refusal>
+#[tactic(auto, using(crate::proofs::LineLaws::taken_short, crate::proofs::LineLaws::taken_dash, crate::proofs::LineLaws::taken_more, crate::proofs::LineLaws::taken_up, crate::proofs::LineLaws::taken_last))]
+fn read_taken(
+    line: u32,
+    block: u32,
+    branch: u32,
+    short: Option<Number>,
+    rest: &[u8],
+) -> Result<Record, Refusal>
     requires { ShortRead rest.now short }
     ensures { TakenRead line block branch rest.now result }
 {
-    if let Short::Last {
-        value: count,
-        digits: _,
-    } = short
+    if let Some(
+        Number::Last {
+            value: count,
+            digits: _,
+        },
+    ) = short
     {
         let taken = Some(count);
         return Ok(Record::BranchData {
@@ -205,6 +218,7 @@ pub(crate) enum Total {
 }
 
 // The record of a kind that holds one number.
+#[tactic(auto, using(crate::proofs::LineLaws::count_is))]
 fn total_record(kind: Total, n: u32) -> Record
     ensures { result ≡ count_lent kind n }
 {
@@ -219,6 +233,7 @@ fn total_record(kind: Total, n: u32) -> Record
 }
 
 // FNF, FNH, BRF, BRH, LF, LH: one number.
+#[tactic(auto, using(crate::proofs::FieldLaws::first_field, crate::proofs::FieldLaws::part_end, crate::proofs::LineLaws::count_up, crate::proofs::LineLaws::last_fits, crate::proofs::LineLaws::count_last))]
 pub(crate) fn read_total(kind: Total, line: &[u8], at: usize) -> Result<Record, Refusal>
     requires { at ≤ length line.now }
     ensures { Answers line.now result (read_one (count_made kind) (drop at line.now)) }

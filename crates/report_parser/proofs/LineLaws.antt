@@ -19,7 +19,6 @@ use Rattle.model.specs.Calls.{ValueCall, call_answer}
 use Rattle.model.proofs.CallLaws.{call_exact}
 use Rattle.model.proofs.LentLaws.{record_read, record_refused}
 use Rattle.section.specs.declared.State.{State}
-use Rattle.report_parser.specs.declared.LineRead.{LineRead}
 use Rattle.report_parser.specs.Effect.{RecordAt, Steps}
 use Rattle.report_parser.specs.Reader.{at_line, fault_at, LineDone}
 use Rattle.report_parser.proofs.LoopLaws.{line_refused, step-refused, step-next}

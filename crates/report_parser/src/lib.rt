@@ -5,12 +5,13 @@
 mod effect;
 
 ghost use Rattle.std.specs.Prelude.{◌≡◌, true, ◌≤◌, ◌<◌, length};
-ghost use Rattle.model.specs.TagTable.{tags_of, are_tags};
 ghost use Rattle.section.specs.Reading.{SectionRoom, HoldsState};
 ghost use Rattle.report_parser.specs.Reader.{at_line, fault_at, LineDone, TextFinished, TextRead as TextIsRead};
+ghost use Rattle.tag_table.specs.Tags.{tag_of};
 
 use model::{Fault, Refusal};
 use section::State;
+use tag_table::Tags;
 
 // The state after a line and where the next line starts.
 #[derive(Clone, Copy)]
@@ -44,7 +45,7 @@ fn at_line(line: u64, refusal: Refusal) -> Refusal
 
 // Reads the line that starts at `at`; it has this number.
 fn read_line_at(
-    tags: &[u8],
+    tags: Tags,
     text: &[u8],
     words: &mut [u64],
     index: usize,
@@ -53,9 +54,8 @@ fn read_line_at(
     at: usize,
     number: u64,
 ) -> Result<LineRead, Refusal>
-    requires tags_value { are_tags tags.now ≡ true }
     requires holds_state { HoldsState text.now words.old index limit state × (at < length text.now) }
-    ensures { LineDone (tags_of tags.now) text.now words.old words.new index limit at number state result }
+    ensures { LineDone (tag_of tags.entry) text.now words.old words.new index limit at number state result }
 {
     let len = scan_line::first_line_len(&text[at..]);
     match record_parse::read_record(tags, &text[at..at + len]) {
@@ -95,16 +95,15 @@ fn finish_text(
 // Reads the text that starts at `from` into rows at the front of the words, whose index starts at word `index`; there is room for `limit`
 // entries. The rows' names are parts of all that is lent: a bundle's texts are read so that their rows can be compared.
 pub fn read_lines(
-    tags: &[u8],
+    tags: Tags,
     text: &[u8],
     from: usize,
     words: &mut [u64],
     index: usize,
     limit: usize,
 ) -> Result<TextRead, Refusal>
-    requires tags_value { are_tags tags.now ≡ true }
     requires section_room { SectionRoom words.old index limit × (from ≤ length text.now) }
-    ensures { TextIsRead (tags_of tags.now) text.now words.new index limit from result }
+    ensures { TextIsRead (tag_of tags.entry) text.now words.new index limit from result }
 {
     let mut state = section::start();
     let mut at = from;

@@ -1,5 +1,5 @@
 -- Bytes searched, trimmed and compared, one by one. Assumes nothing.
-use Rattle.std.proofs.Common.{◌≡◌, ℕ, suc, ◌+◌, ◌-◌, ◌<◌, ◌≤◌, Bool, true, false, cond, eqb, List, [], ◌∷◌, ◌++◌, length, get_or, take, drop, sym, refl, ap, ◌∙◌, add-one, arith, drop_of_length-le, length-take, drop-cons, take-suc, eq-eqb, ne_eqb}
+use Rattle.std.proofs.Common.{◌≡◌, ℕ, suc, ◌+◌, ◌-◌, ◌<◌, ◌≤◌, Bool, true, false, cond, eqb, List, [], ◌∷◌, ◌++◌, length, get_or, take, drop, sym, refl, ap, ◌∙◌, add-one, arith, drop_of_length-le, drop-cons, take-suc, length-take, eq-eqb, ne_eqb}
 use Prim.Native.Nat.{Ordering, compare}
 use lib.Dec.{compare_is_eq}
 use Rattle.model.specs.Order.{lex}
@@ -80,8 +80,8 @@ same_length (x ∷ a) [] h = refl
 same_length (x ∷ a) (y ∷ b) h = sym (lex_not (compare x y) (compare_bytes a b) (sym (same_length a b (λ e. h (ap suc e)))))
 
 module _ (a b : Bytes) (i : ℕ) (long : length a ≡ length b) (left : same_bytes (drop i a) (drop i b) ≡ same_bytes a b) where
-  pub same-differ : i < length a → (get_or a i 0 ≡ get_or b i 0 → ⊥) → false ≡ same_bytes a b
-  same-differ h e = sym (same-cons _ _ _ _ false (ne_eqb _ _ e)) ∙ (rw (drop-next 0 a i h, drop-next 0 b i (omega arith)) at left)
+  pub same_differ : i < length a → (get_or a i 0 ≡ get_or b i 0 → ⊥) → false ≡ same_bytes a b
+  same_differ h e = sym (same-cons _ _ _ _ false (ne_eqb _ _ e)) ∙ (rw (drop-next 0 a i h, drop-next 0 b i (omega arith)) at left)
 
   pub same_next : i < length a → get_or a i 0 ≡ get_or b i 0 → same_bytes (drop (i + 1) a) (drop (i + 1) b) ≡ same_bytes a b
   same_next h e = sym (same-cons _ _ _ _ true (eq-eqb _ _ e)) ∙ (rw (drop-next 0 a i h, drop-next 0 b i (omega arith)) at left)
@@ -91,5 +91,5 @@ module _ (a b : Bytes) (i : ℕ) (long : length a ≡ length b) (left : same_byt
   same_end h = rw (drop-end a i h, drop-end b i (omega arith)) at left
 
 -- too short to start with t
-pub starts-short : (t s : Bytes) → length s < length t → false ≡ same_bytes (take (length t) s) t
-starts-short t s h = same_length (take (length t) s) t (λ e. let n = simp length-take at e in omega (arith, n))
+pub starts_short : (t s : Bytes) → length s < length t → false ≡ same_bytes (take (length t) s) t
+starts_short t s h = same_length (take (length t) s) t (λ e. let n = simp length-take at e in omega (arith, n))

@@ -1,14 +1,15 @@
 -- A number read digit by digit: "first is it a digit, then does the value still fit". Assumes nothing.
 use Rattle.std.proofs.Common.{◌≡◌, ℕ, suc, ◌+◌, ◌-◌, ◌*◌, ◌/◌, ◌%◌, ◌<◌, ◌≤◌, Bool, true, false, cond, ◌&&◌, eqb, ltb, leb, [], ◌∷◌, length, get_or, drop, sym, refl, ap, ◌∙◌, true≢false, arith, ltb-false, ltb-true, le-ltb, lt-ltb, eq-eqb, ne_eqb, eqb-true, le-leb, leb-true}
 use borrow.Author.Tests.{lt-leb}
-use Rattle.std.specs.Prelude.{if◌then◌else◌}
+use Rattle.std.specs.Prelude.{if◌then◌else◌, Result, Ok, Err}
+use Rattle.model.specs.declared.Fault.{Fault}
 use Rattle.model.specs.declared.Fault.TheVariants.{EmptyNumber, InvalidDigit, NumberOverflow, SignedNumber}
-use Rattle.model.specs.Bytes.{Bytes, plus, comma, before, after}
-use Rattle.model.specs.Answer.{Answer, accepted, refuse}
+use Rattle.model.specs.Bytes.{Bytes, comma, before, after}
+use Rattle.model.specs.Answer.{refuse}
 use Rattle.model.specs.Number.{is_digit, read_digits, read_number}
 use Rattle.scan.specs.Scan.{followed, number_in, next_of, value_of, is_signed, with_digits, Above, NumberRead}
 use Rattle.scan.specs.declared.Number.{Number}
-use Rattle.scan.specs.declared.Number.TheVariants.{Last, More, Fault}
+use Rattle.scan.specs.declared.Number.TheVariants.{Last, More}
 use Rattle.scan.proofs.ByteLaws.{drop-next, drop-end}
 
 -- one more digit, and max
@@ -33,12 +34,12 @@ module _ {value digit max : ℕ} where
   passes a e = ltb-true max (value * 10 + digit) (sym a.is ∙ e)
 
 -- the answer from index i on, where the digits before it have a value
-unfoldable pub scanned : ℕ → ℕ → ℕ → Bytes → Number
+unfoldable pub scanned : ℕ → ℕ → ℕ → Bytes → Result Number Fault
 scanned max i value [] = with_digits i (Last value i)
 scanned max i value (b ∷ bs) =
-    if is_digit b then if leb (value * 10 + (b - 48)) max then scanned max (i + 1) (value * 10 + (b - 48)) bs else Fault NumberOverflow
+    if is_digit b then if leb (value * 10 + (b - 48)) max then scanned max (i + 1) (value * 10 + (b - 48)) bs else Err NumberOverflow
     else if eqb b comma then with_digits i (More value i)
-    else Fault InvalidDigit
+    else Err InvalidDigit
 
 module _ (max : ℕ) where
   -- the rest as the model reads it
@@ -49,7 +50,7 @@ module _ (max : ℕ) where
   unfolding scanned before after read_digits
   rest-step i value b bs n rest = rw (n, before, after) (go (is_digit b) (leb (value * 10 + (b - 48)) max))
     where
-      go : (d t : Bool) → (cond d (cond t (scanned max (i + 1) (value * 10 + (b - 48)) bs) (Fault NumberOverflow)) (Fault InvalidDigit)) ≡ followed (cond d (cond t (read_digits max (value * 10 + (b - 48)) (before comma bs)) (refuse NumberOverflow)) (refuse InvalidDigit)) (i + suc (length (before comma bs))) (after comma bs)
+      go : (d t : Bool) → (cond d (cond t (scanned max (i + 1) (value * 10 + (b - 48)) bs) (Err NumberOverflow)) (Err InvalidDigit)) ≡ followed (cond d (cond t (read_digits max (value * 10 + (b - 48)) (before comma bs)) (refuse NumberOverflow)) (refuse InvalidDigit)) (i + suc (length (before comma bs))) (after comma bs)
       go true true = rest (value * 10 + (b - 48)) ∙ ap (λ (n : ℕ). followed (read_digits max (value * 10 + (b - 48)) (before comma bs)) n (after comma bs)) (omega arith)
       go true false = refl
       go false t = refl
@@ -57,13 +58,13 @@ module _ (max : ℕ) where
   -- after the first digit
   rest_more : (i value : ℕ) (bs : Bytes) → 0 < i → Rest i value bs
   unfolding scanned before after read_digits with_digits
-  rest_more i value [] h = rw (ne_eqb i 0 (λ e. omega (arith, h, e))) (ap (λ (n : ℕ). Last value n) (omega arith))
+  rest_more i value [] h = rw (ne_eqb i 0 (λ e. omega (arith, h, e))) (ap (λ (n : ℕ). Ok (Last value n)) (omega arith))
   rest_more i value (b ∷ bs) h = go (eqb b comma) refl (λ v. rest_more (i + 1) v bs (omega arith))
     where
       go : (d : Bool) → eqb b comma ≡ d → ((v : ℕ) → Rest (i + 1) v bs) → Rest i value (b ∷ bs)
       go true e rest =
           let is : b ≡ 44 = eqb-true b 44 e in
-          rw (is, before, after, ne_eqb i 0 (λ z. omega (arith, h, z))) (ap (λ (n : ℕ). More value n) (omega arith))
+          rw (is, before, after, ne_eqb i 0 (λ z. omega (arith, h, z))) (ap (λ (n : ℕ). Ok (More value n)) (omega arith))
       go false e rest = rest-step i value b bs e rest
 
 -- from the first byte on: the whole number, unless it has a sign
@@ -93,31 +94,31 @@ sign_first (b ∷ bs) n = refl
 pub sign_none : (s : Bytes) → (length s ≡ 0 → ⊥) → (get_or s 0 0 ≡ 43 → ⊥) → is_signed s ≡ false
 sign_none s n e = sym (sign_first s n) ∙ ne_eqb (get_or s 0 0) 43 e
 
-pub sign_read : {max : ℕ} {s : Bytes} {r : Bool} → r ≡ is_signed s → r ≡ true → NumberRead max s (Fault SignedNumber)
+pub sign_read : {max : ℕ} {s : Bytes} {r : Bool} → r ≡ is_signed s → r ≡ true → NumberRead max s (Err SignedNumber)
 unfolding is_signed number_in before after read_number
 sign_read {max} {s} e t = record { is = go s (sym e ∙ t); long = omega arith; most = omega arith }
   where
-    go : (s : Bytes) → is_signed s ≡ true → Fault SignedNumber ≡ number_in max s
+    go : (s : Bytes) → is_signed s ≡ true → Err SignedNumber ≡ number_in max s
     go [] n = absurd (true≢false (sym n))
     go (b ∷ bs) n = rw (eqb-true b 43 n, before, after)
 
 -- ---- the end of a number
 
 module _ (digits : ℕ) (number : Number) where
-  pub digits_some : (digits ≡ 0 → ⊥) → number ≡ with_digits digits number
+  pub digits_some : (digits ≡ 0 → ⊥) → Ok number ≡ with_digits digits number
   unfolding with_digits
   digits_some h = rw (ne_eqb digits 0 h)
 
-  pub digits_empty : digits ≡ 0 → Fault EmptyNumber ≡ with_digits digits number
+  pub digits_empty : digits ≡ 0 → Err EmptyNumber ≡ with_digits digits number
   unfolding with_digits
   digits_empty e = rw (eq-eqb digits 0 e)
 
   -- what bounds the number bounds the answer
-  digits-most : (f : Number → ℕ) (m : ℕ) → f number ≤ m → f (Fault EmptyNumber) ≤ m → f (with_digits digits number) ≤ m
+  digits-most : (f : Result Number Fault → ℕ) (m : ℕ) → f (Ok number) ≤ m → f (Err EmptyNumber) ≤ m → f (with_digits digits number) ≤ m
   unfolding with_digits
   digits-most f m h k = go (eqb digits 0)
     where
-      go : (d : Bool) → f (cond d (Fault EmptyNumber) number) ≤ m
+      go : (d : Bool) → f (cond d (Err EmptyNumber) (Ok number)) ≤ m
       go true = k
       go false = h
 
@@ -132,7 +133,7 @@ pub scan_start_lem : {max : ℕ} {s : Bytes} {r : Bool} → r ≡ is_signed s �
 scan_start_lem {max} {s} e f = record { within = omega arith; most = omega arith; left = from_start max s (sym e ∙ f) }
 
 module _ {max : ℕ} {s : Bytes} {i value : ℕ} (scan : Scan max s i value) where
-  digits_read : (r number : Number) → next_of number ≤ length s → value_of number ≤ max → r ≡ with_digits i number → r ≡ number_in max s → NumberRead max s r
+  digits_read : (r : Result Number Fault) (number : Number) → next_of (Ok number) ≤ length s → value_of (Ok number) ≤ max → r ≡ with_digits i number → r ≡ number_in max s → NumberRead max s r
   digits_read r number h k e q =
       record {
         is = q;
@@ -140,7 +141,7 @@ module _ {max : ℕ} {s : Bytes} {i value : ℕ} (scan : Scan max s i value) whe
         most = rw e (digits-most i number value_of max k (omega arith));
       }
 
-  pub scan_end : (r : Number) → length s ≤ i → r ≡ with_digits i (Last value i) → NumberRead max s r
+  pub scan_end : (r : Result Number Fault) → length s ≤ i → r ≡ with_digits i (Last value i) → NumberRead max s r
   unfolding scanned
   scan_end r h e = digits_read r (Last value i) (omega arith) scan.most e (e ∙ (rw (drop-end s i h) at scan.left))
 
@@ -162,36 +163,42 @@ module _ {max : ℕ} {s : Bytes} {i value : ℕ} (scan : Scan max s i value) whe
   is_digit_lem : (digit : ℕ) → digit ≤ 9 → is_digit (digit + 48) ≡ true
   is_digit_lem digit h = rw (le-leb 48 (digit + 48) (omega arith)) (le-leb (digit + 48) 57 (omega arith))
 
-  pub scan_comma : (r : Number) → i < length s → get_or s i 0 ≡ 44 → r ≡ with_digits i (More value i) → NumberRead max s r
+  pub scan_comma : (r : Result Number Fault) → i < length s → get_or s i 0 ≡ 44 → r ≡ with_digits i (More value i) → NumberRead max s r
   unfolding scanned
   scan_comma r h is q = digits_read r (More value i) (omega arith) scan.most q (q ∙ next 44 h is)
 
-  pub scan_bad : (digit : ℕ) → i < length s → (digit + 48) % 256 ≡ get_or s i 0 → digit < 256 → 9 < digit → (get_or s i 0 ≡ 44 → ⊥) → NumberRead max s (Fault InvalidDigit)
+  -- the distance of the byte at i from '0', as the code computes it
+  abbrev digit_at : ℕ
+  digit_at = (get_or s i 0 + 208) % 256
+
+  pub scan_bad : i < length s → get_or s i 0 < 256 → 9 < digit_at → (get_or s i 0 ≡ 44 → ⊥) → NumberRead max s (Err InvalidDigit)
   unfolding scanned
-  scan_bad digit h e l d is =
+  scan_bad h l d is =
       record {
-        is = rw (no_digit (get_or s i 0) digit e l d, ne_eqb (get_or s i 0) 44 is) at (next (get_or s i 0) h refl);
+        is = rw (no_digit (get_or s i 0) digit_at (omega arith) (omega arith) d, ne_eqb (get_or s i 0) 44 is) at (next (get_or s i 0) h refl);
         long = omega arith;
         most = omega arith;
       }
 
-  pub scan_large : {r : Bool} (digit : ℕ) → i < length s → (digit + 48) % 256 ≡ get_or s i 0 → digit ≤ 9 → Above value digit max r → r ≡ true → NumberRead max s (Fault NumberOverflow)
+  pub scan_large : {r : Bool} → i < length s → get_or s i 0 < 256 → digit_at ≤ 9 → Above value digit_at max r → r ≡ true → NumberRead max s (Err NumberOverflow)
   unfolding scanned
-  scan_large digit h e d a f =
+  scan_large h l d a f =
       let far = passes a f in
       record {
-        is = rw (is_digit_lem digit d, lt-leb (value * 10 + (digit + 48 - 48)) max (omega arith)) at (next (digit + 48) h (sym e ∙ digit_is _ digit refl d));
+        is = rw (is_digit_lem digit_at d, lt-leb (value * 10 + (digit_at + 48 - 48)) max (omega arith)) at (next (digit_at + 48) h (digit_is _ digit_at (omega arith) d));
         long = omega arith;
         most = omega arith;
       }
 
-  pub scan_step : {r : Bool} (digit : ℕ) → i < length s → (digit + 48) % 256 ≡ get_or s i 0 → digit ≤ 9 → Above value digit max r → r ≡ false → Scan max s (i + 1) (value * 10 + digit)
+  pub scan_digit : (digit : ℕ) → i < length s → get_or s i 0 ≡ digit + 48 → digit ≤ 9 → value * 10 + digit ≤ max → Scan max s (i + 1) (value * 10 + digit)
   unfolding scanned
-  scan_step digit h e d a f =
-      let near = fits a f in
+  scan_digit digit h e d near =
       let same : digit + 48 - 48 ≡ digit = omega arith in
       record {
         within = omega arith;
         most = near;
-        left = rw (is_digit_lem digit d, same, le-leb (value * 10 + digit) max near) at (next (digit + 48) h (sym e ∙ digit_is _ digit refl d));
+        left = rw (is_digit_lem digit d, same, le-leb (value * 10 + digit) max near) at (next (digit + 48) h e);
       }
+
+  pub scan_step : {r : Bool} → i < length s → get_or s i 0 < 256 → digit_at ≤ 9 → Above value digit_at max r → r ≡ false → Scan max s (i + 1) (value * 10 + digit_at)
+  scan_step h l d a f = scan_digit digit_at h (digit_is _ digit_at (omega arith) d) d (fits a f)

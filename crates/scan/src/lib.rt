@@ -9,45 +9,45 @@ ghost use Rattle.scan.specs.Scan.{is_end, is_signed, with_digits, Above, NumberR
 
 use model::Fault;
 
-// A number at the front of a text, with how many digits were read: the text ends after them, or a comma follows; or its fault.
+// A number at the front of a text, with how many digits were read: the text ends after them, or a comma follows.
 #[derive(Clone, Copy)]
 pub enum Number {
     Last { value: u64, digits: usize },
     More { value: u64, digits: usize },
-    Fault(Fault),
 }
 
 // The index of the first byte b, or the length where there is none.
+#[tactic(auto, using(crate::proofs::ByteLaws::found_here, crate::proofs::ByteLaws::found_later, crate::proofs::ByteLaws::found_none))]
 pub fn find(s: &[u8], b: u8) -> usize
     ensures { (result ≡ length (before b s.now)) × (result ≤ length s.now) }
 {
-    let mut i = 0;
-    while i < s.len() {
+    for i in 0..s.len() {
         if s[i] == b {
             return i;
         }
-        i += 1;
     }
-    i
+    s.len()
 }
 
+// No `a == b`: it calls the library's comparison where the first four bytes agree, and a line of FNDA then takes 33 instructions more
+// (callgrind, 170 to read one).
+#[tactic(auto, using(crate::proofs::ByteLaws::same_length, crate::proofs::ByteLaws::same_differ, crate::proofs::ByteLaws::same_next, crate::proofs::ByteLaws::same_end))]
 pub fn equal(a: &[u8], b: &[u8]) -> bool
     ensures { result ≡ same_bytes a.now b.now }
 {
     if a.len() != b.len() {
         return false;
     }
-    let mut i = 0;
-    while i < a.len() {
+    for i in 0..a.len() {
         if a[i] != b[i] {
             return false;
         }
-        i += 1;
     }
     true
 }
 
-// Whether s starts with t.
+// Whether s starts with t. No `s.starts_with(t)`, for the same reason.
+#[tactic(auto, using(crate::proofs::ByteLaws::starts_short))]
 pub fn starts_with(s: &[u8], t: &[u8]) -> bool
     ensures { result ≡ same_bytes (take (length t.now) s.now) t.now }
 {
@@ -58,48 +58,43 @@ pub fn starts_with(s: &[u8], t: &[u8]) -> bool
     equal(&s[..n], t)
 }
 
+#[tactic(auto, unfolding(crate::specs::Scan::is_end))]
 fn is_end(b: u8) -> bool
     ensures { result ≡ is_end b }
 {
-    if b == b'\n' {
-        return true;
-    }
-    b == b'\r'
+    b == b'\n' || b == b'\r'
 }
 
 // The line without bytes 10 and 13 at its end.
+#[tactic(auto, using(crate::proofs::ByteLaws::trim_none, crate::proofs::ByteLaws::trim_stop, crate::proofs::ByteLaws::trim_more))]
 pub fn trim(s: &[u8]) -> &[u8]
     ensures { result.now ≡ trimmed s.now }
 {
-    let mut n = s.len();
-    while 0 < n {
-        if is_end(s[n - 1]) {
-            n -= 1;
-        } else {
-            return &s[..n];
+    for i in (0..s.len()).rev() {
+        if !is_end(s[i]) {
+            return &s[..i + 1];
         }
     }
-    &s[..n]
+    &s[..0]
 }
 
 // Whether a plus sign comes first.
+#[tactic(auto, unfolding(crate::specs::Scan::is_signed))]
 fn is_signed(s: &[u8]) -> bool
     ensures { result ≡ is_signed s.now }
 {
-    if s.len() == 0 {
-        return false;
-    }
-    s[0] == b'+'
+    matches!(s, [b'+', ..])
 }
 
 // The number that has so many digits; without one it is empty.
-fn with_digits(digits: usize, number: Number) -> Number
+#[tactic(auto, using(crate::proofs::NumberLaws::digits_some, crate::proofs::NumberLaws::digits_empty))]
+fn with_digits(digits: usize, number: Number) -> Result<Number, Fault>
     ensures { result ≡ with_digits digits number }
 {
     if digits == 0 {
-        return Number::Fault(Fault::EmptyNumber);
+        return Err(Fault::EmptyNumber);
     }
-    number
+    Ok(number)
 }
 
 // Whether the value with one more digit is above max. Most digits need the first test only.
@@ -107,38 +102,37 @@ fn is_above(value: u64, digit: u64, max: u64) -> bool
     requires { digit ≤ 9 }
     ensures { Above value digit max result }
 {
-    if value < max / 10 {
-        return false;
-    }
-    if max / 10 < value {
-        return true;
-    }
-    max - value * 10 < digit
+    max / 10 < value || value == max / 10 && max - value * 10 < digit
 }
 
 // The number at the front of s, up to the first comma or the end; it is at most max.
-pub fn read_number(s: &[u8], max: u64) -> Number
+#[tactic(auto, using(crate::proofs::NumberLaws::sign_read, crate::proofs::NumberLaws::scan_start_lem, crate::proofs::NumberLaws::scan_end, crate::proofs::NumberLaws::scan_comma, crate::proofs::NumberLaws::scan_bad, crate::proofs::NumberLaws::scan_large, crate::proofs::NumberLaws::scan_step))]
+pub fn read_number(s: &[u8], max: u64) -> Result<Number, Fault>
     ensures { NumberRead max s.now result }
 {
     if is_signed(s) {
-        return Number::Fault(Fault::SignedNumber);
+        return Err(Fault::SignedNumber);
     }
     let mut value = 0;
-    let mut i = 0;
-    while i < s.len() {
+    for i in 0..s.len() {
         let b = s[i];
-        let digit = std::num::wrapping_sub_u8(b, b'0') as u64;
+        let digit = b.wrapping_sub(b'0') as u64;
         if 9 < digit {
             if b == b',' {
                 return with_digits(i, Number::More { value, digits: i });
             }
-            return Number::Fault(Fault::InvalidDigit);
+            return Err(Fault::InvalidDigit);
         }
         if is_above(value, digit, max) {
-            return Number::Fault(Fault::NumberOverflow);
+            return Err(Fault::NumberOverflow);
         }
         value = value * 10 + digit;
-        i += 1;
     }
-    with_digits(i, Number::Last { value, digits: i })
+    with_digits(
+        s.len(),
+        Number::Last {
+            value,
+            digits: s.len(),
+        },
+    )
 }

@@ -1,15 +1,16 @@
 -- A short number: its bytes as a word, and the word's digits as the model reads them. Assumes nothing.
-use Rattle.std.proofs.Common.{◌≡◌, ℕ, zero, suc, ◌+◌, ◌-◌, ◌*◌, ◌/◌, ◌%◌, ◌^◌, ◌<◌, ◌≤◌, min, false, [], ◌∷◌, length, get_or, take, drop, sym, refl, ap, ◌∙◌, subst, le_trans, add-zero, suc-add, zero-add, div-one, arith, length-drop, get_or-drop, take_all, drop-drop, shr-shr, w8, Fits, le-ltb}
+use Rattle.std.proofs.Common.{◌≡◌, ℕ, zero, suc, ◌+◌, ◌-◌, ◌*◌, ◌/◌, ◌%◌, ◌^◌, ◌<◌, ◌≤◌, min, [], ◌∷◌, length, get_or, take, drop, sym, refl, ap, ◌∙◌, subst, le_trans, add-zero, suc-add, zero-add, div-one, arith, length-drop, get_or-drop, take_all, drop-drop, shr-shr, w8, w64, Fits}
 use native.Mathlib.Nat.{zero-div}
 use lib.Seq.{take-nil}
 use lib.Bits.{bit_xor, xor_block, xor_lt}
 use Rattle.model.specs.Bytes.{Bytes}
-use Rattle.scan.specs.declared.Number.TheVariants as N
-use Rattle.scan.specs.Scan.{Above, NumberRead}
+use Rattle.std.specs.Prelude.{Some, Ok}
+use Rattle.std.specs.Int.{from_le_bytes}
+use Rattle.scan.specs.declared.Number.TheVariants.{Last, More}
+use Rattle.scan.specs.Scan.{NumberRead}
 use Rattle.scan.proofs.ByteLaws.{drop-next}
-use Rattle.scan.proofs.NumberLaws.{Scan, scan_start_lem, scan_end, scan_comma, scan_step, sign_none, digits_some}
+use Rattle.scan.proofs.NumberLaws.{Scan, scan_start_lem, scan_end, scan_comma, scan_digit, sign_none, digits_some}
 use Rattle.scan_digits.specs.Word.{word_of, Small, value_from, EndOf, ShortRead}
-use Rattle.scan_digits.specs.declared.Short.TheVariants.{Last, More, Unknown}
 use Rattle.scan_digits.proofs.WordLaws.{filled, digit_of_lem}
 
 abbrev pub Bounded : Bytes → Type 0
@@ -18,37 +19,16 @@ Bounded s = (i : ℕ) → Fits w8 (get_or s i 0)
 -- ---- a word of bytes
 
 module _ (s : Bytes) (p : ℕ) where
-  pub four_bytes : p + 4 ≤ length s → word_of (take 4 (drop p s)) ≡ get_or s p 0 + get_or s (p + 1) 0 * 256 + get_or s (p + 2) 0 * 65536 + get_or s (p + 3) 0 * 16777216
+  pub eight_bytes : p + 8 ≤ length s → from_le_bytes w64 (get_or s p 0 ∷ get_or s (p + 1) 0 ∷ get_or s (p + 2) 0 ∷ get_or s (p + 3) 0 ∷ get_or s (p + 4) 0 ∷ get_or s (p + 5) 0 ∷ get_or s (p + 6) 0 ∷ get_or s (p + 7) 0 ∷ []) ≡ word_of (take 8 (drop p s))
   unfolding word_of
-  four_bytes h =
+  eight_bytes h =
       let a : drop p s ≡ get_or s p 0 ∷ drop (p + 1) s = drop-next 0 s p (omega arith) in
-      let b : drop (p + 1) s ≡ get_or s (p + 1) 0 ∷ drop (p + 2) s = go 1 (omega arith) in
-      let c : drop (p + 2) s ≡ get_or s (p + 2) 0 ∷ drop (p + 3) s = go 2 (omega arith) in
-      let d : drop (p + 3) s ≡ get_or s (p + 3) 0 ∷ drop (p + 4) s = go 3 (omega arith) in
-      rw (a, b, c, d) (omega arith)
+      rw (a, go 1 (omega arith), go 2 (omega arith), go 3 (omega arith), go 4 (omega arith), go 5 (omega arith), go 6 (omega arith), go 7 (omega arith)) (omega arith)
     where
       go : (k : ℕ) → p + k < length s → drop (p + k) s ≡ get_or s (p + k) 0 ∷ drop (p + (k + 1)) s
       go k h =
           let next : p + k + 1 ≡ p + (k + 1) = omega arith in
           drop-next 0 s (p + k) h ∙ ap (λ (n : ℕ). get_or s (p + k) 0 ∷ drop n s) next
-
-  pub eight-bytes : p + 8 ≤ length s → word_of (take 8 (drop p s)) ≡ word_of (take 4 (drop p s)) + word_of (take 4 (drop (p + 4) s)) * 4294967296
-  unfolding word_of
-  eight-bytes h = rw (← (drop-drop 4 p s)) (go (drop p s) (simp length-drop (omega arith)))
-    where
-      go : (t : Bytes) → 4 ≤ length t → word_of (take 8 t) ≡ word_of (take 4 t) + word_of (take 4 (drop 4 t)) * 4294967296
-      go [] h = absurd (omega arith)
-      go (a ∷ []) h = absurd (omega arith)
-      go (a ∷ b ∷ []) h = absurd (omega arith)
-      go (a ∷ b ∷ c ∷ []) h = absurd (omega arith)
-      go (a ∷ b ∷ c ∷ d ∷ u) h = omega arith
-
-module _ (s : Bytes) (p a b : ℕ) where
-  pub half_is : (c d : ℕ) → p + 4 ≤ length s → a ≡ get_or s p 0 → b ≡ get_or s (p + 1) 0 → c ≡ get_or s (p + 2) 0 → d ≡ get_or s (p + 3) 0 → a + b * 256 + c * 65536 + d * 16777216 ≡ word_of (take 4 (drop p s))
-  half_is c d h e f g k = rw (e, f, g, k) (sym (four_bytes s p h))
-
-  pub whole_is : p + 8 ≤ length s → a ≡ word_of (take 4 (drop p s)) → b ≡ word_of (take 4 (drop (p + 4) s)) → a + b * 4294967296 ≡ word_of (take 8 (drop p s))
-  whole_is h e f = rw (e, f) (sym (eight-bytes s p h))
 
 -- the lowest bytes dropped
 word_shift : (j : ℕ) (s : Bytes) → Bounded s → word_of s / 2 ^ (j * 8) ≡ word_of (drop j s)
@@ -80,8 +60,8 @@ drop_of_take (suc j) n [] = rw (suc-add j n) (sym (take-nil n))
 drop_of_take (suc j) n (b ∷ bs) = rw (suc-add j n) (drop_of_take j n bs)
 
 module _ (s : Bytes) (at p w : ℕ) (bytes : Bounded s) (long : 8 ≤ length s) (within : at < length s) (p-is : p ≡ min at (length s - 8)) (w-is : w ≡ word_of (take 8 (drop p s))) where
-  pub word-there : w / 2 ^ ((at - p) * 8) ≡ word_of (take 8 (drop at s))
-  word-there =
+  pub word_there : w / 2 ^ ((at - p) * 8) ≡ word_of (take 8 (drop at s))
+  word_there =
       let eight : 8 ≡ at - p + (8 - (at - p)) = omega arith in
       let back : p + (at - p) ≡ at = omega arith in
       ap (λ (k : ℕ). k / 2 ^ ((at - p) * 8)) w-is
@@ -168,8 +148,7 @@ module _ (max : ℕ) (s : Bytes) (bytes : Bounded s) where
           let low : digit ≤ 9 = omega (arith, e, d) in
           let near : most m (v * 10 + digit) ≤ max = le_trans (most_mono m (v * 10 + digit) (v * 10 + 9) (omega (arith, low))) k in
           let fits : v * 10 + digit ≤ max = le_trans (most-above m (v * 10 + digit)) near in
-          let above : Above v digit max false = record { is = sym (le-ltb max (v * 10 + digit) fits) } in
-          let next : Scan max s (i + 1) (v * 10 + digit) = scan_step scan digit there (omega (arith, byte, low)) low above refl in
+          let next : Scan max s (i + 1) (v * 10 + digit) = scan_digit scan digit there byte low fits in
           let rest : less_zero (suc n) (drop i s) / 256 ≡ less_zero n (drop (i + 1) s) = later ∙ ap (less_zero n) (drop-drop 1 i s) in
           let end : i + suc m ≡ i + 1 + m = omega arith in
           rw (end, e, rest) (on (v * 10 + digit) next near (rw rest at small))
@@ -200,28 +179,25 @@ module _ (line s : Bytes) (w n v : ℕ) (bytes : Bounded s) (ends : EndOf line s
   before-end : (n ≡ length s → ⊥) → n < length s
   before-end l = let within = (read 99999999 (omega arith)).within in omega (arith, within, l)
 
-  pub number-there : (n ≡ length s → ⊥) → length line - length s + n < length line
-  number-there l = omega (arith, before-end l, ends.within)
+  pub number_there : (n ≡ length s → ⊥) → length line - length s + n < length line
+  number_there l = omega (arith, before-end l, ends.within)
 
-  pub number-last : n ≡ length s → ShortRead s (Last v n)
-  number-last e = record { is = λ max k. scan_end (read max k) (N.Last v n) (omega (arith, e)) (digits_some n (N.Last v n) some) }
+  pub number_last : n ≡ length s → ShortRead s (Some (Last v n))
+  number_last e = record { is = λ max k. scan_end (read max k) (Ok (Last v n)) (omega (arith, e)) (digits_some n (Last v n) some) }
 
-  pub number_more : (n ≡ length s → ⊥) → get_or line (length line - length s + n) 0 ≡ 44 → ShortRead s (More v n)
+  pub number_more : (n ≡ length s → ⊥) → get_or line (length line - length s + n) 0 ≡ 44 → ShortRead s (Some (More v n))
   number_more l e =
       let byte : get_or s n 0 ≡ 44 = ap (λ (t : Bytes). get_or t n 0) ends.is ∙ get_or-drop (length line - length s) line n 0 ∙ e in
-      record { is = λ max k. scan_comma (read max k) (N.More v n) (before-end l) byte (digits_some n (N.More v n) some) }
-
-pub number_unknown : (s : Bytes) → ShortRead s Unknown
-number_unknown s = record { is = λ max k. tt }
+      record { is = λ max k. scan_comma (read max k) (Ok (More v n)) (before-end l) byte (digits_some n (More v n) some) }
 
 -- one digit and a comma
-pub number_digit : (s : Bytes) (digit : ℕ) → 1 < length s → (digit + 48) % 256 ≡ get_or s 0 0 → digit ≤ 9 → get_or s 1 0 ≡ 44 → ShortRead s (More digit 1)
-number_digit s digit l b d c = record { is = λ max k. go max k }
+pub number_digit : (s : Bytes) → 2 ≤ length s → 48 ≤ get_or s 0 0 → get_or s 0 0 ≤ 57 → get_or s 1 0 ≡ 44 → ShortRead s (Some (More (get_or s 0 0 - 48) 1))
+number_digit s l b d c = record { is = λ max k. go max k }
   where
-    go : (max : ℕ) → 99999999 ≤ max → NumberRead max s (N.More digit 1)
+    go : (max : ℕ) → 99999999 ≤ max → NumberRead max s (Ok (More (get_or s 0 0 - 48) 1))
     go max k =
-        let start : Scan max s 0 0 = scan_start_lem refl (sign_none s (λ z. omega (arith, z, l)) (λ z. omega (arith, z, b, d))) in
-        let above : Above 0 digit max false = record { is = sym (le-ltb max (0 * 10 + digit) (omega arith)) } in
-        let one : Scan max s 1 (0 * 10 + digit) = scan_step start digit (omega arith) b d above refl in
+        let digit = get_or s 0 0 - 48 in
+        let start : Scan max s 0 0 = scan_start_lem refl (sign_none s (λ z. omega (arith, z, l)) (λ z. omega (arith, z, b))) in
+        let one : Scan max s 1 (0 * 10 + digit) = scan_digit start digit (omega arith) (omega (arith, b)) (omega arith) (omega arith) in
         let same : 0 * 10 + digit ≡ digit = omega arith in
-        scan_comma (rw same at one) (N.More digit 1) l c (digits_some 1 (N.More digit 1) (λ z. omega (arith, z)))
+        scan_comma (rw same at one) (Ok (More digit 1)) (omega (arith, l)) c (digits_some 1 (More digit 1) (λ z. omega (arith, z)))

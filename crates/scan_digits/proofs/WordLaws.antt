@@ -258,8 +258,8 @@ module _ (n x : ℕ) (few : n ≤ 8) where
   eight : 8 - n + n ≡ 8
   eight = omega arith
 
-  pub moved-small : Small n x → Small 8 (x * 2 ^ (64 - n * 8) % 2 ^ 64)
-  moved-small h = rw up (subst (λ (k : ℕ). Small k (x % 2 ^ (n * 8) * 2 ^ ((8 - n) * 8))) eight (small-up n (x % 2 ^ (n * 8)) (8 - n) (small_low n x h)))
+  pub moved_small : Small n x → Small 8 (x * 2 ^ (64 - n * 8) % 2 ^ 64)
+  moved_small h = rw up (subst (λ (k : ℕ). Small k (x % 2 ^ (n * 8) * 2 ^ ((8 - n) * 8))) eight (small-up n (x % 2 ^ (n * 8)) (8 - n) (small_low n x h)))
 
   pub moved_value : (r : ℕ) → r ≡ value_from 0 8 (x * 2 ^ (64 - n * 8) % 2 ^ 64) → r ≡ value_from 0 n x
   moved_value r e =

@@ -1,10 +1,8 @@
 -- A number of at most eight digits, its bytes as one word. Assumes nothing.
-use Rattle.std.specs.Prelude.{◌≡◌, ℕ, zero, suc, ◌+◌, ◌-◌, ◌*◌, ◌/◌, ◌%◌, ◌≤◌, [], ◌∷◌, length, drop}
+use Rattle.std.specs.Prelude.{◌≡◌, ℕ, zero, suc, ◌+◌, ◌-◌, ◌*◌, ◌/◌, ◌%◌, ◌≤◌, [], ◌∷◌, length, drop, Option, Some, None, Ok}
 use Rattle.model.specs.Bytes.{Bytes}
-use Rattle.scan.specs.declared.Number.TheVariants as N
+use Rattle.scan.specs.declared.Number.{Number}
 use Rattle.scan.specs.Scan.{NumberRead}
-use Rattle.scan_digits.specs.declared.Short.{Short}
-use Rattle.scan_digits.specs.declared.Short.TheVariants.{Last, More, Unknown}
 
 -- bytes as one number, the first lowest
 unfoldable pub word_of : Bytes → ℕ
@@ -26,11 +24,11 @@ pub record EndOf (line part : Bytes) : Type 0 where
   pub within : length part ≤ length line
   pub is : part ≡ drop (length line - length part) line
 
--- the meaning of an answer about a number up to max
-abbrev pub short_is : ℕ → Bytes → Short → Type 0
-short_is max s (Last value digits) = NumberRead max s (N.Last value digits)
-short_is max s (More value digits) = NumberRead max s (N.More value digits)
-short_is max s Unknown = Unit {0}
+-- the meaning of an answer about a number up to max: it is known to be short, at most eight digits and after them the end or a comma; or
+-- nothing is known
+abbrev pub short_is : ℕ → Bytes → Option Number → Type 0
+short_is max s (Some number) = NumberRead max s (Ok number)
+short_is max s None = Unit {0}
 
-pub record ShortRead (s : Bytes) (r : Short) : Type 0 where
+pub record ShortRead (s : Bytes) (r : Option Number) : Type 0 where
   pub is : (max : ℕ) → 99999999 ≤ max → short_is max s r

@@ -13,15 +13,16 @@ fn plain_count(w: u64) -> usize
 {
     let x = w ^ 0x0a0a0a0a0a0a0a0a;
     // subtracts 1 from each byte up to the first that is 0
-    let lowered = std::num::wrapping_add_u64(x, 0xfefefefefefefeff);
+    let lowered = x.wrapping_add(0xfefefefefefefeff);
     let flags = lowered & 0x8080808080808080;
-    u64::trailing_zeros(flags) as usize / 8
+    flags.trailing_zeros() as usize / 8
 }
 
 // The length of the first line, without its byte 10.
 pub fn first_line_len(s: &[u8]) -> usize
     ensures { (result ≡ length (before newline s.now)) × (result ≤ length s.now) }
 {
+    // no `for`: moves by eight, and stops in the middle of a word
     let mut i = 0;
     while i + 8 <= s.len() {
         let n = plain_count(whole_word(s, i));

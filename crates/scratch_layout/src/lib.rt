@@ -16,11 +16,7 @@ const MAX_ENTRIES: usize = 65_535;
 pub fn entry_limit(words: usize) -> usize
     ensures { result ≡ entry_limit words }
 {
-    let limit = words / WORDS_PER_ENTRY;
-    if limit < MAX_ENTRIES {
-        return limit;
-    }
-    MAX_ENTRIES
+    (words / WORDS_PER_ENTRY).min(MAX_ENTRIES)
 }
 
 // The offset of the index: `index_at` in specs/Layout.antt.

@@ -1,32 +1,33 @@
 -- The default tags, read and written. Assumes nothing.
-use Prim.Native.Nat.{ℕ, ◌+◌, ◌≤◌}
+use Prim.Native.Nat.{ℕ, ◌≤◌}
 use mathlib.Core.Path.{◌≡◌, refl, sym, ap, ◌∙◌}
 use mathlib.Core.Bool.{Bool, true, false, not}
 use mathlib.Core.List.Memᴰ.{head as here}
 use mathlib.Core.List.Memᴰ.{tail as there}
-use mathlib.Core.List.{[], ◌∷◌, ◌++◌, append_assoc, Memᴰ as Member}
+use mathlib.Core.List.{[], ◌∷◌, Memᴰ as Member}
 use native.Mathlib.Omega.{arith}
-use lib.ListN.{length, take, drop, take-append-drop}
+use lib.ListN.{length, get_or, take}
 use lib.Seq.{length-take-le}
 use borrow.Author.Tests.{not-true}
 use Rattle.model.specs.declared.Kind.{Kind}
 use Rattle.model.specs.declared.Kind.TheVariants as Kd
 use Rattle.model.specs.Lists.{all}
-use Rattle.model.specs.Bytes.{Bytes, ascii, colon, same_bytes, before, Free}
+use Rattle.model.specs.Bytes.{Bytes, ascii, same_bytes, before}
 use Rattle.model.specs.Tags.{all_kinds, default_tag}
 use Rattle.model.specs.TagTable.{tags_of}
 use Rattle.model.specs.Output.{written, output_after}
-use Rattle.model.proofs.ByteLaws.{before_seam, before_prefix, before-within}
+use Rattle.model.proofs.ByteLaws.{before_prefix}
 use Rattle.model.proofs.ListLaws.{all-each}
 use Rattle.model.proofs.KeyOrder.{bytes_same}
 use Rattle.model.proofs.TagLaws.{kind_member}
 use Rattle.model.proofs.TagTableLaws.{tags-default}
 use Rattle.format.specs.Put.{put_len, over}
 use Rattle.format.proofs.OverLaws.{put_len_lem, put_over}
-use Rattle.tag_table.specs.Kinds.{body_at, FoundIn, totals, NoneOf, NamedAs}
+use Rattle.tag_table.specs.Kinds.{body_at, TaggedAs, FoundIn, totals, NoneOf, NamedAs}
 use Rattle.tag_table.specs.Written.{TagOf}
-use Rattle.tag_table.specs.declared.Found.{Found}
-use Rattle.tag_table.specs.declared.Found.TheVariants.{Known, Unknown}
+use Rattle.tag_table.proofs.KindLaws.{body_after}
+use Rattle.std.specs.Prelude.{Option, Some, None}
+use Rattle.tag_table.specs.declared.Tagged.{Tagged}
 use Rattle.tag_table.specs.declared.default.Tag.{Tag}
 
 -- ---- a tag's kind
@@ -69,55 +70,61 @@ module _ (tag : Bytes) where
         other Kd.LinesHit (there (there (there (there (there (here refl)))))),
       )
 
-  pub total-named : (at : ℕ) (r : Found) → NamedAs totals tag at r → Not tag Kd.TestName → Not tag Kd.SourceFile → Not tag Kd.FunctionName → Not tag Kd.FunctionData → Not tag Kd.BranchData
-      → Not tag Kd.LineData → Not tag Kd.EndOfRecord → NamedAs all_kinds tag at r
-  total-named at (Known kind start) n a b c d e f g = n
-  total-named at Unknown n a b c d e f g = record { none = no_tag n.none a b c d e f g }
+  pub total_named : (r : Option Kind) → NamedAs totals tag r → Not tag Kd.TestName → Not tag Kd.SourceFile → Not tag Kd.FunctionName → Not tag Kd.FunctionData → Not tag Kd.BranchData
+      → Not tag Kd.LineData → Not tag Kd.EndOfRecord → NamedAs all_kinds tag r
+  total_named (Some kind) n a b c d e f g = n
+  total_named None n a b c d e f g = record { none = no_tag n.none a b c d e f g }
 
--- ---- where the tag ends
+-- ---- DA and BRDA, known by their first bytes
 
--- a line that starts with a tag and ':'
-starts-end : (xs s : Bytes) → Free colon xs → same_bytes (take (length (xs ++ (colon ∷ []))) s) (xs ++ (colon ∷ [])) ≡ true → s ≡ xs ++ colon ∷ drop (length (xs ++ (colon ∷ []))) s
-starts-end xs s free e =
-    let n = length (xs ++ (colon ∷ [])) in
-    sym (take-append-drop n s) ∙ ap (λ (l : Bytes). l ++ drop n s) (bytes_same.same_eq (take n s) (xs ++ (colon ∷ [])) e) ∙ append_assoc xs (colon ∷ []) (drop n s)
+pub data_found : (s : Bytes) → 3 ≤ length s → get_or s 0 0 ≡ 68 → get_or s 1 0 ≡ 65 → get_or s 2 0 ≡ 58 → TaggedAs default_tag s (record { kind = Kd.LineData; at = 3 })
+unfolding before default_tag
+data_found [] h a b c = absurd (omega (arith, h))
+data_found (x ∷ []) h a b c = absurd (omega (arith, h))
+data_found (x ∷ y ∷ []) h a b c = absurd (omega (arith, h))
+data_found (x ∷ y ∷ z ∷ s) h a b c =
+    let is : before 58 (x ∷ y ∷ z ∷ s) ≡ default_tag Kd.LineData = rw (a, b, c) in
+    record { is = is; body = body_after (length (x ∷ y ∷ z ∷ s)) 2 (omega (arith, h)) ∙ ap (λ (t : Bytes). body_at (length (x ∷ y ∷ z ∷ s)) (length t)) (sym is); within = h }
 
-module _ (s : Bytes) (d : Bool) (yes-is : d ≡ true) where
-  before-end : (xs : Bytes) → Free colon xs → d ≡ same_bytes (take (length (xs ++ (colon ∷ []))) s) (xs ++ (colon ∷ [])) → before colon s ≡ xs
-  before-end xs free e = ap (before colon) (starts-end xs s free (sym e ∙ yes-is)) ∙ before_seam colon xs _ free
-
-  pub data_end : d ≡ same_bytes (take 3 s) (68 ∷ 65 ∷ 58 ∷ []) → 2 ≡ length (before 58 s)
-  data_end e = sym (ap length (before-end (68 ∷ 65 ∷ []) (refl, (refl, tt)) e))
-
-  pub branch-end : d ≡ same_bytes (take 5 s) (66 ∷ 82 ∷ 68 ∷ 65 ∷ 58 ∷ []) → 4 ≡ length (before 58 s)
-  branch-end e = sym (ap length (before-end (66 ∷ 82 ∷ 68 ∷ 65 ∷ []) (refl, (refl, (refl, (refl, tt)))) e))
-
-pub data_room : (s : Bytes) (d : Bool) → d ≡ true → d ≡ same_bytes (take 3 s) (68 ∷ 65 ∷ 58 ∷ []) → 2 ≤ length s
-data_room s d t e = before-within 58 s 2 (data_end s d t e)
-
-pub branch-room : (s : Bytes) (d : Bool) → d ≡ true → d ≡ same_bytes (take 5 s) (66 ∷ 82 ∷ 68 ∷ 65 ∷ 58 ∷ []) → 4 ≤ length s
-branch-room s d t e = before-within 58 s 4 (branch-end s d t e)
+pub branch_found : (s : Bytes) → 5 ≤ length s → get_or s 0 0 ≡ 66 → get_or s 1 0 ≡ 82 → get_or s 2 0 ≡ 68 → get_or s 3 0 ≡ 65 → get_or s 4 0 ≡ 58
+    → TaggedAs default_tag s (record { kind = Kd.BranchData; at = 5 })
+unfolding before default_tag
+branch_found [] h a b c d e = absurd (omega (arith, h))
+branch_found (x ∷ []) h a b c d e = absurd (omega (arith, h))
+branch_found (x ∷ y ∷ []) h a b c d e = absurd (omega (arith, h))
+branch_found (x ∷ y ∷ z ∷ []) h a b c d e = absurd (omega (arith, h))
+branch_found (x ∷ y ∷ z ∷ u ∷ []) h a b c d e = absurd (omega (arith, h))
+branch_found (x ∷ y ∷ z ∷ u ∷ v ∷ s) h a b c d e =
+    let is : before 58 (x ∷ y ∷ z ∷ u ∷ v ∷ s) ≡ default_tag Kd.BranchData = rw (a, b, c, d, e) in
+    record {
+      is = is;
+      body = body_after (length (x ∷ y ∷ z ∷ u ∷ v ∷ s)) 4 (omega (arith, h)) ∙ ap (λ (t : Bytes). body_at (length (x ∷ y ∷ z ∷ u ∷ v ∷ s)) (length t)) (sym is);
+      within = h;
+    }
 
 -- ---- a whole line
 
-pub named-found : (s : Bytes) (mark at : ℕ) (r : Found) → mark ≡ length (before 58 s) → at ≡ body_at (length s) mark → at ≤ length s → NamedAs all_kinds (take mark s) at r → FoundIn default_tag s r
-named-found s mark at (Known kind start) found body within n =
-    record {
-      is = sym (before_prefix 58 s) ∙ ap (λ (m : ℕ). take m s) (sym found) ∙ n.0;
-      body = n.1 ∙ body ∙ ap (body_at (length s)) found;
-      within = rw n.1 within;
-    }
-named-found s mark at Unknown found body within n =
-    record {
-      none = λ kind.
-          ap (λ (t : Bytes). same_bytes t (default_tag kind)) (sym (before_prefix 58 s) ∙ ap (λ (m : ℕ). take m s) (sym found))
-          ∙ not-true (same_bytes (take mark s) (default_tag kind))
-          (all-each (λ kind. not (same_bytes (take mark s) (default_tag kind))) all_kinds n.none kind (kind_member kind));
-    }
+module _ (s : Bytes) (mark : ℕ) (found : mark ≡ length (before 58 s)) where
+  pub named_found : (kind : Kind) (at : ℕ) → at ≡ body_at (length s) mark → at ≤ length s → NamedAs all_kinds (take mark s) (Some kind) → TaggedAs default_tag s (record { kind = kind; at = at })
+  named_found kind at body within n =
+      record {
+        is = sym (before_prefix 58 s) ∙ ap (λ (m : ℕ). take m s) (sym found) ∙ n;
+        body = body ∙ ap (body_at (length s)) found;
+        within = within;
+      }
 
-pub default-found : (tags s : Bytes) (r : Found) → length tags ≡ 0 → FoundIn default_tag s r → FoundIn (tags_of tags) s r
-default-found tags s (Known kind at) none f = record { is = f.is ∙ sym (tags-default tags none kind); body = f.body; within = f.within }
-default-found tags s Unknown none f = record { none = λ kind. ap (same_bytes (before 58 s)) (tags-default tags none kind) ∙ f.none kind }
+  pub named_none : NamedAs all_kinds (take mark s) None → FoundIn default_tag s None
+  named_none n =
+      record {
+        none = λ kind.
+            ap (λ (t : Bytes). same_bytes t (default_tag kind)) (sym (before_prefix 58 s) ∙ ap (λ (m : ℕ). take m s) (sym found))
+            ∙ not-true (same_bytes (take mark s) (default_tag kind))
+            (all-each (λ kind. not (same_bytes (take mark s) (default_tag kind))) all_kinds n.none kind (kind_member kind));
+      }
+
+pub default_found : (tags s : Bytes) (r : Option Tagged) → length tags ≡ 0 → FoundIn default_tag s r → FoundIn (tags_of tags) s r
+default_found tags s (Some t) none f = record { is = f.is ∙ sym (tags-default tags none t.kind); body = f.body; within = f.within }
+default_found tags s None none f = record { none = λ kind. ap (same_bytes (before 58 s)) (tags-default tags none kind) ∙ f.none kind }
 
 -- ---- a tag written
 

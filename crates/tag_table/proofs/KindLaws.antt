@@ -2,7 +2,7 @@
 use Prim.Native.Nat.{ℕ, ◌+◌, ◌≤◌, ◌<◌, zero-le}
 use mathlib.Core.Path.{◌≡◌, refl, sym, ap, ◌∙◌}
 use mathlib.Core.Bool.{Bool, true, false, cond}
-use mathlib.Core.List.{[], ◌∷◌, ◌++◌, append-nil}
+use mathlib.Core.List.{◌∷◌, ◌++◌, append-nil}
 use native.Mathlib.Omega.{arith}
 use lib.Dec.{ltb, eqb, lit<}
 use lib.ListN.{length, get_or, take, drop, take-append-drop}
@@ -11,14 +11,14 @@ use Rattle.ordmap.proofs.Results.{impossible}
 use Rattle.model.specs.declared.Kind.{Kind}
 use Rattle.model.specs.declared.Kind.TheVariants as Kd
 use Rattle.model.specs.Bytes.{Bytes, colon, same_bytes, before, Free}
-use Rattle.model.specs.TagTable.{place_of, tag_at, lent_tag, well_formed_tags, tags_of, are_tags}
+use Rattle.model.specs.TagTable.{place_of, tag_at, lent_tag, well_formed_tags, tags_of}
 use Rattle.model.proofs.ByteLaws.{before-all, before_seam, before_prefix, before-within, before_mark}
 use Rattle.model.proofs.KeyOrder.{bytes_same}
 use Rattle.model.proofs.TagTableLaws.{tags-lent}
 use Rattle.scan.proofs.ByteLaws.{drop-next, drop-end}
-use Rattle.tag_table.specs.Kinds.{body_at, ends_at, FoundIn}
-use Rattle.tag_table.specs.declared.Found.{Found}
-use Rattle.tag_table.specs.declared.Found.TheVariants.{Known, Unknown}
+use Rattle.std.specs.Prelude.{Option, Some, None}
+use Rattle.tag_table.specs.Kinds.{body_at, ends_at, TaggedAs, FoundIn}
+use Rattle.tag_table.specs.declared.Tagged.{Tagged}
 use Rattle.tag_table.proofs.SlotLaws.{tag_free}
 
 -- two tests that hold together
@@ -29,13 +29,13 @@ same_tests false false f g = refl
 
 -- ---- where a tag may end
 
-pub ends-colon : (s : Bytes) (n : ℕ) (r : Bool) → n < length s → r ≡ eqb (get_or s n 0) 58 → r ≡ ends_at s n
+pub ends_colon : (s : Bytes) (n : ℕ) (r : Bool) → n < length s → r ≡ eqb (get_or s n 0) 58 → r ≡ ends_at s n
 unfolding ends_at
-ends-colon s n r h e = rw (lt-ltb n (length s) h) e
+ends_colon s n r h e = rw (lt-ltb n (length s) h) e
 
-pub ends-line : (s : Bytes) (n : ℕ) (r : Bool) → length s ≤ n → r ≡ eqb n (length s) → r ≡ ends_at s n
+pub ends_line : (s : Bytes) (n : ℕ) (r : Bool) → length s ≤ n → r ≡ eqb n (length s) → r ≡ ends_at s n
 unfolding ends_at
-ends-line s n r h e = rw (le-ltb n (length s) h) e
+ends_line s n r h e = rw (le-ltb n (length s) h) e
 
 module _ (s : Bytes) (n : ℕ) (ends : ends_at s n ≡ true) where
   pub ends-within : n ≤ length s
@@ -123,10 +123,10 @@ module _ (table s : Bytes) (k : ℕ) (tag : Bytes) (is : tag ≡ tag_at table k)
   tag-end : length tag ≡ length (before 58 s)
   tag-end = ap length (is ∙ sym has)
 
-  pub known-within : length tag ≤ length s
-  known-within = before-within 58 s (length tag) tag-end
+  pub known_within : length tag ≤ length s
+  known_within = before-within 58 s (length tag) tag-end
 
-  pub known_is : (kind : Kind) (at : ℕ) → place_of kind ≡ k → at ≡ body_at (length s) (length tag) → at ≤ length s → FoundIn (lent_tag table) s (Known kind at)
+  pub known_is : (kind : Kind) (at : ℕ) → place_of kind ≡ k → at ≡ body_at (length s) (length tag) → at ≤ length s → TaggedAs (lent_tag table) s (record { kind = kind; at = at })
   known_is kind at place body within =
       record { is = has ∙ ap (tag_at table) (sym place); body = body ∙ ap (body_at (length s)) tag-end; within = within }
 
@@ -140,8 +140,8 @@ pub record NoneBefore (table s : Bytes) (k : ℕ) : Type 0 where
 pub none_first : (table s : Bytes) → NoneBefore table s 0
 none_first table s = record { other = λ i h. absurd (omega (arith, h)) }
 
-pub none-next : (table s : Bytes) (k : ℕ) (r : Bool) → NoneBefore table s k → r ≡ same_bytes (before 58 s) (tag_at table k) → r ≡ false → NoneBefore table s (k + 1)
-none-next table s k r none e f = record { other = next }
+pub none_next : (table s : Bytes) (k : ℕ) (r : Bool) → NoneBefore table s k → r ≡ same_bytes (before 58 s) (tag_at table k) → r ≡ false → NoneBefore table s (k + 1)
+none_next table s k r none e f = record { other = next }
   where
     next : (i : ℕ) → i < k + 1 → same_bytes (before 58 s) (tag_at table i) ≡ false
     next i h = go (ltb i k) refl
@@ -165,14 +165,14 @@ place-few Kd.LinesFound = lit< tt
 place-few Kd.LinesHit = lit< tt
 place-few Kd.EndOfRecord = lit< tt
 
-pub none_found : (table s : Bytes) (k : ℕ) → 13 ≤ k → NoneBefore table s k → FoundIn (lent_tag table) s Unknown
+pub none_found : (table s : Bytes) (k : ℕ) → 13 ≤ k → NoneBefore table s k → FoundIn (lent_tag table) s None
 none_found table s k all none = record { none = λ kind. none.other (place_of kind) (let f = place-few kind in omega (arith, f, all)) }
 
 -- ---- lent or default
 
-pub lent_found : (tags s : Bytes) (r : Found) → (length tags ≡ 0 → ⊥) → FoundIn (lent_tag tags) s r → FoundIn (tags_of tags) s r
-lent_found tags s (Known kind at) lent f = record { is = f.is ∙ sym (tags-lent tags lent kind); body = f.body; within = f.within }
-lent_found tags s Unknown lent f = record { none = λ kind. ap (same_bytes (before 58 s)) (tags-lent tags lent kind) ∙ f.none kind }
+pub lent_found : (tags s : Bytes) (r : Option Tagged) → (length tags ≡ 0 → ⊥) → FoundIn (lent_tag tags) s r → FoundIn (tags_of tags) s r
+lent_found tags s (Some t) lent f = record { is = f.is ∙ sym (tags-lent tags lent t.kind); body = f.body; within = f.within }
+lent_found tags s None lent f = record { none = λ kind. ap (same_bytes (before 58 s)) (tags-lent tags lent kind) ∙ f.none kind }
 
 -- ---- the kind of a place, and the place of a kind
 
@@ -192,10 +192,10 @@ last-place k few r =
 
 -- ---- where the body starts
 
-pub body-after : (n mark : ℕ) → mark < n → mark + 1 ≡ body_at n mark
+pub body_after : (n mark : ℕ) → mark < n → mark + 1 ≡ body_at n mark
 unfolding body_at
-body-after n mark h = rw (lt-ltb mark n h)
+body_after n mark h = rw (lt-ltb mark n h)
 
-pub body-none : (n mark : ℕ) → n ≤ mark → mark ≡ body_at n mark
+pub body_none : (n mark : ℕ) → n ≤ mark → mark ≡ body_at n mark
 unfolding body_at
-body-none n mark h = rw (le-ltb mark n h)
+body_none n mark h = rw (le-ltb mark n h)

@@ -2,55 +2,28 @@
 use Prim.Native.Nat.{ℕ, suc, ◌+◌, ◌*◌, ◌-◌, ◌≤◌, ◌<◌}
 use mathlib.Core.Path.{◌≡◌, refl, sym, ap, ◌∙◌}
 use mathlib.Core.Logic.{◌≢◌}
-use mathlib.Core.Bool.{Bool, true, false, cond, not, ◌&&◌}
-use mathlib.Core.List.{List, [], ◌∷◌}
+use mathlib.Core.Bool.{Bool, true, false, not, ◌&&◌}
+use mathlib.Core.List.{[], ◌∷◌}
 use native.Mathlib.Omega.{arith}
 use native.Mathlib.Numerals.{add-one}
 use lib.Dec.{leb, eqb}
-use lib.ListN.{length, get_or, take, drop, length-drop}
+use lib.ListN.{length, take, drop, length-drop}
 use lib.Seq.{take-take, length-take-le, take-add, drop-drop, drop_at}
 use borrow.Author.Tests.{le-leb, lt-leb, eq-eqb, ne_eqb}
 use Rattle.model.specs.Lists.{all, from}
-use Rattle.model.specs.Bytes.{Bytes, newline, return, colon, same_bytes}
+use Rattle.model.specs.Bytes.{Bytes, same_bytes}
 use Rattle.model.specs.Tags.{all_kinds, tag_byte, differ}
 use Rattle.model.specs.TagTable.{tag_length, slot_at, tag_at, lent_tag, tag_fits, well_formed_tags}
-use Rattle.scan.proofs.ByteLaws.{drop-next, drop-end}
+use Rattle.std.specs.List.{list_all}
 use Rattle.tag_table.specs.Rules.{fits_from, other_than, differ_among, differ_from}
 
--- ---- a byte
+-- ---- bytes that pass a test
 
-pub byte_newline : (b : ℕ) → b ≡ 10 → false ≡ tag_byte b
-byte_newline b e = rw (eq-eqb b newline e)
-
-pub byte_return : (b : ℕ) → (b ≡ 10 → ⊥) → b ≡ 13 → false ≡ tag_byte b
-byte_return b n e = rw (ne_eqb b newline n, eq-eqb b return e)
-
-pub byte_colon : (b : ℕ) (r : Bool) → (b ≡ 10 → ⊥) → (b ≡ 13 → ⊥) → r ≡ not (eqb b 58) → r ≡ tag_byte b
-byte_colon b r n m e = e ∙ sym (rw (ne_eqb b newline n, ne_eqb b return m))
-
--- ---- bytes that pass a test, from the front
-
-module _ (test : ℕ → Bool) (s : Bytes) (i : ℕ) (left : all test (drop i s) ≡ all test s) where
-  passed : i < length s → all test s ≡ (test (get_or s i 0) && all test (drop (i + 1) s))
-  unfolding all
-  passed h = sym left ∙ rw (drop-next 0 s i h)
-
-  pub test_fails : i < length s → (r : Bool) → r ≡ test (get_or s i 0) → r ≡ false → false ≡ all test s
-  test_fails h r e f = sym (passed h ∙ rw (sym e ∙ f))
-
-  pub test-next : i < length s → (r : Bool) → r ≡ test (get_or s i 0) → r ≡ true → all test (drop (i + 1) s) ≡ all test s
-  test-next h r e t = sym (passed h ∙ rw (sym e ∙ t))
-
-  pub test-end : length s ≤ i → true ≡ all test s
-  unfolding all
-  test-end h = rw (drop-end s i h) at left
-
-module _ (s : Bytes) (i : ℕ) (left : all (λ b. eqb b 0) (drop i s) ≡ all (λ b. eqb b 0) s) where
-  pub zero_fails : i < length s → get_or s i 0 ≢ 0 → false ≡ all (λ b. eqb b 0) s
-  zero_fails h n = test_fails (λ b. eqb b 0) s i left h (eqb (get_or s i 0) 0) refl (ne_eqb (get_or s i 0) 0 n)
-
-  pub zero-next : i < length s → get_or s i 0 ≡ 0 → all (λ b. eqb b 0) (drop (i + 1) s) ≡ all (λ b. eqb b 0) s
-  zero-next h e = test-next (λ b. eqb b 0) s i left h (eqb (get_or s i 0) 0) refl (eq-eqb (get_or s i 0) 0 e)
+-- as the library asks it of each
+pub all_is : (test : ℕ → Bool) (s : Bytes) → list_all test s ≡ all test s
+unfolding all
+all_is test [] = refl
+all_is test (b ∷ s) = rw (all_is test s)
 
 -- ---- one tag by itself
 
@@ -59,9 +32,9 @@ and_false true = refl
 and_false false = refl
 
 module _ (table : Bytes) (size : length table ≡ 221) (k n : ℕ) (few : k < 13) (is : n ≡ tag_length table k) where
-  pub length-zero : n ≡ 0 → false ≡ tag_fits table k
+  pub length_zero : n ≡ 0 → false ≡ tag_fits table k
   unfolding tag_fits
-  length-zero z = rw (← is, z)
+  length_zero z = rw (← is, z)
 
   pub length_large : 16 < n → false ≡ tag_fits table k
   unfolding tag_fits
@@ -126,12 +99,12 @@ module _ (table : Bytes) where
       pub fits_next : k < 13 → (r : Bool) → r ≡ tag_fits table k → r ≡ true → fits_from table (k + 1) ≡ well_formed_tags table
       fits_next h r e t = sym (one_more h ∙ rw (sym e ∙ t))
 
-      pub fits-end : 13 ≤ k → true ≡ well_formed_tags table
+      pub fits_end : 13 ≤ k → true ≡ well_formed_tags table
       unfolding fits_from all from
-      fits-end h = let e : 13 - k ≡ 0 = omega (arith, h) in rw e at so_far
+      fits_end h = let e : 13 - k ≡ 0 = omega (arith, h) in rw e at so_far
 
-    pub fits-first : fits_from table 0 ≡ well_formed_tags table
-    fits-first = from_first
+    pub fits_first : fits_from table 0 ≡ well_formed_tags table
+    fits_first = from_first
 
 -- ---- tags compared
 
@@ -143,15 +116,15 @@ module _ (table : Bytes) (k j : ℕ) (so_far : other_than table k j ≡ other_th
   pub other_fails : j < 13 → (r : Bool) → r ≡ same_bytes (tag_at table j) (tag_at table k) → r ≡ true → false ≡ other_than table k (k + 1)
   other_fails h r e t = sym (other-more h ∙ rw (sym e ∙ t))
 
-  pub other-next : j < 13 → (r : Bool) → r ≡ same_bytes (tag_at table j) (tag_at table k) → r ≡ false → other_than table k (j + 1) ≡ other_than table k (k + 1)
-  other-next h r e f = sym (other-more h ∙ rw (sym e ∙ f))
+  pub other_next : j < 13 → (r : Bool) → r ≡ same_bytes (tag_at table j) (tag_at table k) → r ≡ false → other_than table k (j + 1) ≡ other_than table k (k + 1)
+  other_next h r e f = sym (other-more h ∙ rw (sym e ∙ f))
 
-  pub other-end : 13 ≤ j → true ≡ other_than table k (k + 1)
+  pub other_end : 13 ≤ j → true ≡ other_than table k (k + 1)
   unfolding other_than all from
-  other-end h = let e : 13 - j ≡ 0 = omega (arith, h) in rw e at so_far
+  other_end h = let e : 13 - j ≡ 0 = omega (arith, h) in rw e at so_far
 
-pub tags-same : (table : Bytes) (i j : ℕ) (a b : Bytes) (r : Bool) → a ≡ tag_at table i → b ≡ tag_at table j → r ≡ same_bytes a b → r ≡ same_bytes (tag_at table i) (tag_at table j)
-tags-same table i j a b r p q e = rw (p, q) at e
+pub tags_same : (table : Bytes) (i j : ℕ) (a b : Bytes) (r : Bool) → a ≡ tag_at table i → b ≡ tag_at table j → r ≡ same_bytes a b → r ≡ same_bytes (tag_at table i) (tag_at table j)
+tags_same table i j a b r p q e = rw (p, q) at e
 
 module _ (table : Bytes) (k : ℕ) (so_far : differ_from table k ≡ differ (lent_tag table) all_kinds) where
   differ-more : k < 13 → differ (lent_tag table) all_kinds ≡ (other_than table k (k + 1) && differ_from table (k + 1))
@@ -161,13 +134,13 @@ module _ (table : Bytes) (k : ℕ) (so_far : differ_from table k ≡ differ (len
   pub differ_fails : k < 13 → (r : Bool) → r ≡ other_than table k (k + 1) → r ≡ false → false ≡ differ (lent_tag table) all_kinds
   differ_fails h r e f = sym (differ-more h ∙ rw (sym e ∙ f))
 
-  pub differ-next : k < 13 → (r : Bool) → r ≡ other_than table k (k + 1) → r ≡ true → differ_from table (k + 1) ≡ differ (lent_tag table) all_kinds
-  differ-next h r e t = sym (differ-more h ∙ rw (sym e ∙ t))
+  pub differ_next : k < 13 → (r : Bool) → r ≡ other_than table k (k + 1) → r ≡ true → differ_from table (k + 1) ≡ differ (lent_tag table) all_kinds
+  differ_next h r e t = sym (differ-more h ∙ rw (sym e ∙ t))
 
-  pub differ-end : 13 ≤ k → true ≡ differ (lent_tag table) all_kinds
+  pub differ_end : 13 ≤ k → true ≡ differ (lent_tag table) all_kinds
   unfolding differ_from differ_among from
-  differ-end h = let e : 13 - k ≡ 0 = omega (arith, h) in rw e at so_far
+  differ_end h = let e : 13 - k ≡ 0 = omega (arith, h) in rw e at so_far
 
-pub differ-first : (table : Bytes) → differ_from table 0 ≡ differ (lent_tag table) all_kinds
+pub differ_first : (table : Bytes) → differ_from table 0 ≡ differ (lent_tag table) all_kinds
 unfolding differ_from differ_among differ all all_kinds from
-differ-first table = refl
+differ_first table = refl

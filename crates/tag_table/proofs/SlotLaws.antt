@@ -1,18 +1,18 @@
 -- The slots of a well-formed table, as the code cuts them out. Assumes nothing.
-use Prim.Native.Nat.{ℕ, ◌+◌, ◌*◌, ◌-◌, ◌^◌, ◌≤◌, ◌<◌}
+use Prim.Native.Nat.{ℕ, ◌+◌, ◌*◌, ◌-◌, ◌≤◌, ◌<◌}
 use mathlib.Core.Path.{◌≡◌, refl, sym, ap, ◌∙◌}
-use mathlib.Core.Bool.{Bool, true}
+use mathlib.Core.Bool.{true}
 use native.Mathlib.Omega.{arith}
 use mir.Val.{Fits}
 use mir.Syntax.{w8}
 use lib.ListN.{length, get_or, take, drop, length-take}
 use lib.Seq.{take-take}
 use Rattle.model.specs.declared.Kind.{Kind}
-use Rattle.model.specs.Bytes.{Bytes, colon, same_bytes, Free}
+use Rattle.model.specs.Bytes.{Bytes, colon, Free}
 use Rattle.model.specs.Output.{written, output_after}
-use Rattle.model.specs.TagTable.{place_of, tag_length, slot_at, tag_at, lent_tag, tag_fits, well_formed_tags, tags_of, are_tags}
+use Rattle.model.specs.TagTable.{place_of, tag_length, slot_at, tag_at, well_formed_tags, tags_of, are_tags}
 use Rattle.model.proofs.TagLaws.{plain-colon}
-use Rattle.model.proofs.TagTableLaws.{tag_some, tag-few, tag-plain, table-length, table_fits, tags_well, tags-lent}
+use Rattle.model.proofs.TagTableLaws.{tag-few, tag-plain, table-length, table_fits, tags_well, tags-lent}
 use Rattle.format.specs.Put.{put_len, over}
 use Rattle.format.proofs.OverLaws.{put_len_lem, put_over}
 

@@ -2,3 +2,4 @@ pub mod Kinds
 pub mod Written
 pub mod Rules
 pub mod Loading
+pub mod Tags

@@ -1,5 +1,5 @@
 -- The rules of a table, from a tag on. Assumes nothing.
-use Rattle.std.specs.Prelude.{ℕ, suc, ◌-◌, Bool, true, not, ◌&&◌, List, [], ◌∷◌}
+use Rattle.std.specs.Prelude.{ℕ, ◌-◌, Bool, true, not, ◌&&◌, List, [], ◌∷◌}
 use Rattle.model.specs.Lists.{all, from}
 use Rattle.model.specs.Bytes.{Bytes, same_bytes}
 use Rattle.model.specs.TagTable.{tag_at, tag_fits}

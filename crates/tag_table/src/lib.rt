@@ -1,32 +1,27 @@
-// The thirteen tags (SPEC 2.2): a lent table is checked, a tag's kind is told, and a kind's tag is written. Inside the library an empty
-// slice stands for the default tags, and any other is a table that was checked.
+// The thirteen tags (SPEC 2.2): a lent table is checked, a tag's kind is told, and a kind's tag is written.
 #![tactic(auto)]
 
 ghost use Rattle.std.specs.Prelude.{◌≡◌, true, [], ◌≤◌, ◌<◌, length};
 ghost use Rattle.model.specs.Bytes.{before, same_bytes};
 ghost use Rattle.model.specs.Tags.{default_tag};
-ghost use Rattle.model.specs.TagTable.{place_of, tag_length, tag_at, lent_tag, well_formed_tags, tags_of, are_tags};
+ghost use Rattle.model.specs.TagTable.{place_of, tag_length, tag_at, lent_tag, well_formed_tags};
 ghost use Rattle.format.specs.Put.{over};
-ghost use Rattle.tag_table.specs.Kinds.{body_at, ends_at, FoundIn};
+ghost use Rattle.tag_table.specs.Kinds.{body_at, ends_at, TaggedAs, FoundIn};
 ghost use Rattle.tag_table.specs.Loading.{LoadedAs};
+ghost use Rattle.tag_table.specs.Tags.{tag_of};
 
 mod default;
 mod rules;
+mod tags;
 
 use model::{Fault, Kind};
+pub use tags::Tags;
 
 // The kind that a line's tag has, and where the line's body starts.
 #[derive(Clone, Copy)]
-pub enum Found {
-    Known { kind: Kind, at: usize },
-    Unknown,
-}
-
-// A table is handed on, or refused.
-#[derive(Clone, Copy)]
-pub enum Loading {
-    Loaded,
-    Refused(Fault),
+pub struct Tagged {
+    pub kind: Kind,
+    pub at: usize,
 }
 
 // "thirteen length bytes first, then thirteen slots of 16 bytes".
@@ -78,6 +73,7 @@ fn kind_at(k: usize) -> Kind
 }
 
 // Where the body starts: after the colon, or at the end.
+#[tactic(auto, using(crate::proofs::KindLaws::body_after, crate::proofs::KindLaws::body_none))]
 fn body_at(n: usize, colon: usize) -> usize
     requires { colon ≤ n }
     ensures { (result ≡ body_at n colon) × (result ≤ n) }
@@ -89,6 +85,7 @@ fn body_at(n: usize, colon: usize) -> usize
 }
 
 // The length of tag k.
+#[tactic(auto, using(crate::proofs::SlotLaws::length_at))]
 fn length_at(table: &[u8], k: usize) -> usize
     requires { k < length table.now }
     ensures { (result ≡ tag_length table.now k) × (result ≤ 255) }
@@ -107,6 +104,7 @@ fn tag_at(table: &[u8], k: usize) -> &[u8]
 }
 
 // Whether a line ends after n bytes or goes on with a colon.
+#[tactic(auto, using(crate::proofs::KindLaws::ends_colon, crate::proofs::KindLaws::ends_line))]
 fn ends_at(s: &[u8], n: usize) -> bool
     ensures { result ≡ ends_at s.now n }
 {
@@ -117,103 +115,118 @@ fn ends_at(s: &[u8], n: usize) -> bool
 }
 
 // Whether a line has tag k: the line starts with it, and then ends or goes on with a colon, which no tag has in it.
+#[tactic(auto, using(crate::proofs::KindLaws::has_room, crate::proofs::KindLaws::has_not, crate::proofs::KindLaws::has_if))]
 fn has_tag(table: &[u8], k: usize, s: &[u8]) -> bool
     requires { (well_formed_tags table.now ≡ true) × (k < 13) }
     ensures { result ≡ same_bytes (before 58 s.now) (tag_at table.now k) }
 {
     let tag = tag_at(table, k);
     let n = tag.len();
-    if ends_at(s, n) {
-        return scan::equal(&s[..n], tag);
-    }
-    false
+    ends_at(s, n) && scan::equal(&s[..n], tag)
 }
 
 // The kind of tag k of a table, which a line has.
-fn known(tags: &[u8], k: usize, s: &[u8]) -> Found
+#[tactic(auto, using(crate::proofs::KindLaws::known_within, crate::proofs::KindLaws::known_is))]
+fn known(tags: &[u8], k: usize, s: &[u8]) -> Tagged
     requires { (well_formed_tags tags.now ≡ true) × (k < 13) × (same_bytes (before 58 s.now) (tag_at tags.now k) ≡ true) }
-    ensures { FoundIn (lent_tag tags.now) s.now result }
+    ensures { TaggedAs (lent_tag tags.now) s.now result }
 {
     let tag = tag_at(tags, k);
-    Found::Known {
+    Tagged {
         kind: kind_at(k),
         at: body_at(s.len(), tag.len()),
     }
 }
 
 // The kind of a line's tag by a table, tag by tag.
-fn search_kind(tags: &[u8], s: &[u8]) -> Found
+#[tactic(auto, using(crate::proofs::KindLaws::has_it, crate::proofs::KindLaws::none_first, crate::proofs::KindLaws::none_next, crate::proofs::KindLaws::none_found))]
+fn search_kind(tags: &[u8], s: &[u8]) -> Option<Tagged>
     requires { well_formed_tags tags.now ≡ true }
     ensures { FoundIn (lent_tag tags.now) s.now result }
 {
-    let mut k = 0;
-    while k < KINDS {
+    for k in 0..KINDS {
         if has_tag(tags, k, s) {
-            return known(tags, k, s);
+            return Some(known(tags, k, s));
         }
-        k += 1;
     }
-    Found::Unknown
+    None
 }
 
 // The kind of a line's tag by a table. Most lines are DA and BRDA: these are tried first.
-fn lent_kind(tags: &[u8], s: &[u8]) -> Found
+#[tactic(auto, using(crate::proofs::KindLaws::has_it))]
+fn lent_kind(tags: &[u8], s: &[u8]) -> Option<Tagged>
     requires { well_formed_tags tags.now ≡ true }
     ensures { FoundIn (lent_tag tags.now) s.now result }
 {
     if has_tag(tags, 9, s) {
-        return known(tags, 9, s);
+        return Some(known(tags, 9, s));
     }
     if has_tag(tags, 6, s) {
-        return known(tags, 6, s);
+        return Some(known(tags, 6, s));
     }
     search_kind(tags, s)
 }
 
+impl Tags<'_> {
+    // The default tags.
+    pub fn defaults() -> Self
+        ensures { tag_of result ≡ default_tag }
+    {
+        Tags { table: b"" }
+    }
+
+    // Whether these are the default tags.
+    pub fn are_default(self) -> bool
+        ensures { result ≡ true → tag_of self.entry ≡ default_tag }
+    {
+        self.table.len() == 0
+    }
+}
+
 // Tells the kind of a line's tag, and where the line's body starts.
-pub fn kind_of(tags: &[u8], s: &[u8]) -> Found
-    requires { are_tags tags.now ≡ true }
-    ensures { FoundIn (tags_of tags.now) s.now result }
+#[tactic(auto, using(crate::proofs::DefaultLaws::default_found, crate::proofs::SlotLaws::lent_well, crate::proofs::KindLaws::lent_found))]
+pub fn kind_of(tags: Tags, s: &[u8]) -> Option<Tagged>
+    ensures { FoundIn (tag_of tags.entry) s.now result }
 {
-    if tags.len() == 0 {
+    if tags.table.len() == 0 {
         return default::kind_of(s);
     }
-    lent_kind(tags, s)
+    lent_kind(tags.table, s)
 }
 
 // The length of a kind's tag.
-pub fn tag_len(tags: &[u8], kind: Kind) -> usize
-    requires { are_tags tags.now ≡ true }
-    ensures { (result ≡ length (tags_of tags.now kind)) × (result ≤ 16) }
+pub fn tag_len(tags: Tags, kind: Kind) -> usize
+    ensures { (result ≡ length (tag_of tags.entry kind)) × (result ≤ 16) }
 {
-    if tags.len() == 0 {
+    if tags.table.len() == 0 {
         return default::tag_len(kind);
     }
-    let tag = tag_at(tags, place_of(kind));
+    let tag = tag_at(tags.table, place_of(kind));
     tag.len()
 }
 
 // Writes a kind's tag at the front of out.
-pub fn put_tag(tags: &[u8], kind: Kind, out: &mut [u8]) -> usize
-    requires { (are_tags tags.now ≡ true) × (length (tags_of tags.now kind) ≤ length out.old) }
-    ensures { (result ≡ length (tags_of tags.now kind)) × (out.new ≡ over (tags_of tags.now kind) out.old) }
+pub fn put_tag(tags: Tags, kind: Kind, out: &mut [u8]) -> usize
+    requires { length (tag_of tags kind) ≤ length out.old }
+    ensures { (result ≡ length (tag_of tags.entry kind)) × (out.new ≡ over (tag_of tags.entry kind) out.old) }
 {
-    if tags.len() != 0 {
-        return format::put_bytes(tag_at(tags, place_of(kind)), out);
+    if tags.table.len() != 0 {
+        return format::put_bytes(tag_at(tags.table, place_of(kind)), out);
     }
     default::put_tag(kind, out)
 }
 
 // Checks a table that a caller lends: "a slice that is not 221 long or breaks a rule on a single tag with 21, and two equal tags with 22,
 // in that order".
-pub fn load(table: &[u8]) -> Loading
-    ensures { LoadedAs table.now result }
+#[tactic(auto, using(crate::proofs::LoadLaws::load_well, crate::proofs::LoadLaws::load_all, crate::proofs::LoadLaws::load_equal, crate::proofs::LoadLaws::load_malformed))]
+pub fn load(table: &[u8]) -> Result<Tags, Fault>
+    ensures { LoadedAs table.entry.now result }
 {
-    if rules::is_well_formed(table) {
-        if rules::all_differ(table) {
-            return Loading::Loaded;
-        }
-        return Loading::Refused(Fault::EqualTags);
+    if !rules::is_well_formed(table) {
+        return Err(Fault::MalformedTags);
     }
-    Loading::Refused(Fault::MalformedTags)
+    if !rules::all_differ(table) {
+        return Err(Fault::EqualTags);
+    }
+    Ok(Tags { table })
 }

@@ -15,72 +15,44 @@ const LENGTH: usize = 221;
 fn is_tag_byte(b: u8) -> bool
     ensures { result ≡ tag_byte b }
 {
-    if b == b'\n' {
-        return false;
-    }
-    if b == b'\r' {
-        return false;
-    }
-    b != b':'
+    b != b'\n' && b != b'\r' && b != b':'
 }
 
 fn are_tag_bytes(s: &[u8]) -> bool
     ensures { result ≡ all tag_byte s.now }
 {
-    let mut i = 0;
-    while i < s.len() {
-        if is_tag_byte(s[i]) {
-            i += 1;
-        } else {
-            return false;
-        }
-    }
-    true
+    s.iter().all(|b| is_tag_byte(*b))
 }
 
 fn are_zeros(s: &[u8]) -> bool
     ensures { result ≡ all (λ b. eqb b 0) s.now }
 {
-    let mut i = 0;
-    while i < s.len() {
-        if s[i] != 0 {
-            return false;
-        }
-        i += 1;
-    }
-    true
+    s.iter().all(|b| *b == 0)
 }
 
 // The rules on tag k by itself.
+#[tactic(auto, using(crate::proofs::RuleLaws::length_zero, crate::proofs::RuleLaws::length_large, crate::proofs::RuleLaws::fits_not, crate::proofs::RuleLaws::fits_if))]
 fn fits(table: &[u8], k: usize) -> bool
     requires { (length table.now ≡ 221) × (k < 13) }
     ensures { result ≡ tag_fits table.now k }
 {
     let n = length_at(table, k);
-    if n == 0 {
-        return false;
-    }
-    if SLOT < n {
+    if n == 0 || SLOT < n {
         return false;
     }
     let from = KINDS + SLOT * k;
-    if are_zeros(&table[from + n..from + SLOT]) {
-        return are_tag_bytes(&table[from..from + n]);
-    }
-    false
+    are_zeros(&table[from + n..from + SLOT]) && are_tag_bytes(&table[from..from + n])
 }
 
+#[tactic(auto, using(crate::proofs::RuleLaws::size_wrong, crate::proofs::RuleLaws::fits_first, crate::proofs::RuleLaws::fits_next, crate::proofs::RuleLaws::fits_fails, crate::proofs::RuleLaws::fits_end))]
 pub fn is_well_formed(table: &[u8]) -> bool
     ensures { result ≡ well_formed_tags table.now }
 {
     if table.len() != LENGTH {
         return false;
     }
-    let mut k = 0;
-    while k < KINDS {
-        if fits(table, k) {
-            k += 1;
-        } else {
+    for k in 0..KINDS {
+        if !fits(table, k) {
             return false;
         }
     }
@@ -88,6 +60,7 @@ pub fn is_well_formed(table: &[u8]) -> bool
 }
 
 // Whether tags i and j have the same length and bytes.
+#[tactic(auto, using(crate::proofs::RuleLaws::tags_same))]
 fn are_equal(table: &[u8], i: usize, j: usize) -> bool
     requires { (well_formed_tags table.now ≡ true) × (i < 13) × (j < 13) }
     ensures { result ≡ same_bytes (tag_at table.now i) (tag_at table.now j) }
@@ -96,30 +69,27 @@ fn are_equal(table: &[u8], i: usize, j: usize) -> bool
 }
 
 // Whether tag k is none of those after it.
+#[tactic(auto, using(crate::proofs::RuleLaws::other_fails, crate::proofs::RuleLaws::other_next, crate::proofs::RuleLaws::other_end))]
 fn differs(table: &[u8], k: usize) -> bool
     requires { (well_formed_tags table.now ≡ true) × (k < 13) }
     ensures { result ≡ other_than table.now k (k + 1) }
 {
-    let mut j = k + 1;
-    while j < KINDS {
+    for j in k + 1..KINDS {
         if are_equal(table, j, k) {
             return false;
         }
-        j += 1;
     }
     true
 }
 
 // Whether no two tags are equal.
+#[tactic(auto, using(crate::proofs::RuleLaws::differ_first, crate::proofs::RuleLaws::differ_fails, crate::proofs::RuleLaws::differ_next, crate::proofs::RuleLaws::differ_end))]
 pub fn all_differ(table: &[u8]) -> bool
     requires { well_formed_tags table.now ≡ true }
     ensures { result ≡ differ (lent_tag table.now) all_kinds }
 {
-    let mut k = 0;
-    while k < KINDS {
-        if differs(table, k) {
-            k += 1;
-        } else {
+    for k in 0..KINDS {
+        if !differs(table, k) {
             return false;
         }
     }

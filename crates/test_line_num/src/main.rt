@@ -30,22 +30,17 @@ fn list_of(case: &[u8]) -> [Range; LIST]
     requires { length case.now ≡ 84 }
 {
     let mut list = [Range { start: 0, end: 0 }; LIST];
-    let mut k = 0;
-    while k < LIST {
+    for k in 0..LIST {
         let start = number(case, HEAD + 2 * k);
         let end = number(case, HEAD + 2 * k + 1);
         list[k] = Range { start, end };
-        k += 1;
     }
     list
 }
 
 fn show_list(list: [Range; LIST]) {
-    let mut k = 0;
-    while k < LIST {
-        let range = list[k];
+    for range in list {
         program_io::show_range(range.start, range.end);
-        k += 1;
     }
     io::write_all(1, b"\n");
 }
@@ -79,13 +74,10 @@ fn show(case: &[u8])
 
 fn main() {
     let mut case = [0u8; CASE];
-    let mut k = 0;
-    while k < MAX_CASES {
-        let n = io::read_full(0, &mut case);
-        if n < CASE {
+    for _ in 0..MAX_CASES {
+        if io::read_full(0, &mut case) < CASE {
             return;
         }
         show(&case);
-        k += 1;
     }
 }

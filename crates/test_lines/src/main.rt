@@ -12,8 +12,7 @@ const MAX_INPUT: usize = 131072;
 // A line has at most 65,535 bytes, so its record always fits; if not, the output says so and the comparison fails.
 fn show_record(line: &[u8], record: Record) {
     let mut out = io::large_buffer();
-    let wrote = lcov::print_line(line, record, &mut out);
-    let Ok(n) = wrote else {
+    let Ok(n) = lcov::print_line(line, record, &mut out) else {
         io::write_all(1, b"no room\n");
         return;
     };
@@ -21,8 +20,7 @@ fn show_record(line: &[u8], record: Record) {
 }
 
 fn show(line: &[u8]) {
-    let got = lcov::read_line(line);
-    match got {
+    match lcov::read_line(line) {
         Ok(record) => show_record(line, record),
         Err(refusal) => program_io::show_refusal(refusal),
     }
@@ -30,6 +28,7 @@ fn show(line: &[u8]) {
 
 fn replay(input: &[u8]) {
     let mut at = 0;
+    // by cases
     while 2 <= input.len() - at {
         let end = program_io::case_end(input, at);
         show(&input[at + 2..end]);

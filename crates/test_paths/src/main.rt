@@ -2,7 +2,7 @@
 // paragraph on paths distinguishes or not.
 #![tactic(auto)]
 
-use compare::Order;
+use std::cmp::Ordering;
 
 fn sign(order: Ordering) -> u8 {
     match order {

@@ -6,11 +6,8 @@ use model::{Part, Record, Refusal};
 
 // All pairs of the slice, those past the used ones too.
 fn show_pairs(pairs: &[[u32; 2]]) {
-    let n = pairs.len();
-    let mut k = 0;
-    while k < n {
-        program_io::show_range(pairs[k][0], pairs[k][1]);
-        k += 1;
+    for pair in pairs {
+        program_io::show_range(pair[0], pair[1]);
     }
     io::write_all(1, b"\n");
 }

@@ -19,10 +19,9 @@ const MAX_OUTPUT: usize = lcov::PROGRAM_OUTPUT;
 fn words_for(entries: usize) -> usize
     ensures { result ≡ min (entries * words_per_entry) program_words }
 {
-    if SCRATCH_WORDS / lcov::WORDS_PER_ENTRY < entries {
-        return SCRATCH_WORDS;
-    }
-    entries * lcov::WORDS_PER_ENTRY
+    entries
+        .saturating_mul(lcov::WORDS_PER_ENTRY)
+        .min(SCRATCH_WORDS)
 }
 
 fn show(text: &[u8], entries: usize) {
@@ -37,6 +36,7 @@ fn show(text: &[u8], entries: usize) {
 
 fn show_all(input: &[u8]) {
     let mut at = 0;
+    // by cases
     while 4 <= input.len() - at {
         let entries = program_io::u16_at(input, at);
         let end = program_io::case_end(input, at + 2);

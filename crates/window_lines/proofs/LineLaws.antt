@@ -1,6 +1,5 @@
 -- The lines of windows, put one after the other. Assumes nothing.
-use Rattle.std.specs.Prelude.{Result, Ok, Err}
-use Prim.Native.Nat.{ℕ, ◌+◌, ◌*◌, ◌-◌, ◌^◌, ◌≤◌, ◌<◌}
+use Prim.Native.Nat.{ℕ, ◌+◌, ◌*◌, ◌-◌, ◌≤◌, ◌<◌}
 use native.Mathlib.Omega.{arith}
 use mathlib.Core.Path.{◌≡◌, refl, sym, ap, ◌∙◌}
 use mathlib.Core.Bool.{Bool, true, false}
@@ -19,7 +18,7 @@ use Rattle.model.specs.declared.Fault.TheVariants.{MalformedBundle, WidthOutside
 use Rattle.model.specs.declared.Kind.{Kind}
 use Rattle.model.specs.declared.Refusal.{Refusal}
 use Rattle.model.specs.Bytes.{Bytes, slash, newline}
-use Rattle.model.specs.Limits.{max_texts, max_width}
+use Rattle.model.specs.Limits.{max_texts}
 use Rattle.model.specs.Answer.{Answer, accepted, refused, refuse_length, unplaced}
 use Rattle.model.specs.Calls.{length_answer, WriteCall}
 use Rattle.model.proofs.CallLaws.{write_called}
@@ -34,8 +33,7 @@ use Rattle.format.specs.Put.{put_len, over, pair}
 use Rattle.format.proofs.DecimalLaws.{decimal-most}
 use Rattle.format.proofs.OverLaws.{to_end, over-more, over_size, lent_size, last_out, put_over, put_len_lem}
 use Rattle.joined_table.proofs.BundleLaws.{few-texts}
-use Rattle.window_lines.specs.declared.Window.{Window}
-use Rattle.window_lines.specs.declared.Window.TheVariants as C
+use Rattle.std.specs.Prelude.{Result, Ok, Err}
 use Rattle.window_lines.specs.Lines.{max_line, ratio_line, line_of, LinesPut}
 use Rattle.window_lines.proofs.WindowLaws.{at_least, at_most}
 
@@ -117,12 +115,12 @@ module _ (tag : Kind → Bytes) (bundle : Bytes) (w words : ℕ) (old : Bytes) w
       line-room = rw (to_end out at, length-drop) (omega (arith, same_size, p.ends, p.small, few))
 
       -- the window of the next text, counted in as many words
-      module _ (words' : ℕ) (same : words' ≡ words) (q : Window) (counted : line_of q ≡ window_line tag (entry_limit words') (window_texts w bundle i)) where
+      module _ (words' : ℕ) (same : words' ≡ words) (q : Result Ratio Refusal) (counted : line_of q ≡ window_line tag (entry_limit words') (window_texts w bundle i)) where
         line_is : line_of q ≡ window_line tag (entry_limit words) (window_texts w bundle i)
         line_is = rw same at counted
 
         -- it has a line
-        module _ (ratio : Ratio) (e : q ≡ C.Lines ratio) (len : ℕ) (long : len ≡ length (ratio_line ratio)) where
+        module _ (ratio : Ratio) (e : q ≡ Ok ratio) (len : ℕ) (long : len ≡ length (ratio_line ratio)) where
           pub line-fits : Fits w64 (at + len)
           line-fits = record { fits = omega (arith, p.ends, p.small, few, line-most ratio) }
 
@@ -151,7 +149,7 @@ module _ (tag : Kind → Bytes) (bundle : Bytes) (w words : ℕ) (old : Bytes) w
                 last = rw (get_or_at p.lines (ratio_line ratio) [] [] i p.many) (sym (rw e at line_is))
 
         -- it is refused
-        pub putting_refused : is_width w ≡ true → (r : Refusal) → q ≡ C.Refused r → LinesPut (gather_windows tag bundle w words) out (Err r)
+        pub putting_refused : is_width w ≡ true → (r : Refusal) → q ≡ Err r → LinesPut (gather_windows tag bundle w words) out (Err r)
         putting_refused width r e =
             record {
               is = λ room. window_refused tag bundle w words room i r well (at_least w width) (at_most w width) (omega arith) accepted-before (sym (rw e at line_is));

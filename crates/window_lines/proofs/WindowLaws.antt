@@ -1,13 +1,12 @@
 -- The window of a text: its width, its marks and its lines counted. Assumes nothing.
 use Prim.Native.Nat.{ℕ, ◌+◌, ◌*◌, ◌≤◌, ◌<◌}
 use native.Mathlib.Omega.{arith}
-use mathlib.Core.Path.{◌≡◌, refl, sym, ap, ◌∙◌}
-use mathlib.Core.Logic.{◌≢◌}
-use mathlib.Core.Bool.{Bool, true, false, ◌&&◌}
-use mathlib.Core.List.{List, [], ◌∷◌, ◌++◌, append_assoc}
+use mathlib.Core.Path.{◌≡◌, sym, ap, ◌∙◌}
+use mathlib.Core.Bool.{true}
+use mathlib.Core.List.{List, []}
 use lib.Dec.{leb, ltb}
 use lib.ListN.{length}
-use borrow.Author.Tests.{le-leb, leb-true}
+use borrow.Author.Tests.{le-leb, leb-true, lt-leb}
 use Rattle.model.specs.declared.Kind.{Kind}
 use Rattle.model.specs.declared.Mode.TheVariants.{Checked}
 use Rattle.model.specs.declared.Refusal.{Refusal}
@@ -28,19 +27,12 @@ use Rattle.bundle.specs.Marks.{MarkedAs}
 use Rattle.table_section.specs.Sections.{entries_at}
 use Rattle.section.specs.Table.{Table}
 use Rattle.scratch_layout.specs.Layout.{index_at}
-use Rattle.joined_table.specs.declared.Gathered.{Gathered}
-use Rattle.joined_table.specs.declared.Gathered.TheVariants as G
+use Rattle.std.specs.Prelude.{Result as Answered, Ok, Err}
 use Rattle.joined_table.specs.Gathering.{marked_texts, BundleGathered}
 use Rattle.joined_table.proofs.BundleLaws.{marked-chosen}
 use Rattle.window_lines.specs.Lines.{ratio_line}
 
 -- ---- the width
-
-pub width_none : (w : ℕ) → w ≡ 0 → false ≡ is_width w
-width_none w e = rw e
-
-pub width_most : (w : ℕ) → w ≢ 0 → leb w max_width ≡ is_width w
-width_most w h = let some : 1 ≤ w = omega arith in rw (le-leb 1 w some)
 
 module _ (w : ℕ) (is : is_width w ≡ true) where
   pub at_least : 1 ≤ w
@@ -52,8 +44,8 @@ module _ (w : ℕ) (is : is_width w ≡ true) where
 -- ---- a text of the window
 
 module _ (w i j : ℕ) where
-  pub later_text : i < j → false ≡ is_in_window w i j
-  later_text h = sym (past_window w i j (omega arith))
+  pub other_text : i < j → leb j i ≡ is_in_window w i j
+  other_text h = lt-leb j i h ∙ sym (past_window w i j (omega arith))
 
   pub earlier-text : j ≤ i → ltb i (j + w) ≡ is_in_window w i j
   unfolding is_in_window
@@ -75,7 +67,7 @@ pub record WindowHeld (bundle ws : List ℕ) (index entries : ℕ) (answer : Ans
 
 -- the marked texts are gathered, with this answer
 module _ (tag : Kind → Bytes) (bundle : Bytes) (words w i : ℕ) (marks : List ℕ) (body : ℕ) (at : body ≡ 8 + 8 * text_count bundle) (n : ℕ) (count : n ≡ text_count bundle)
-    (marked : MarkedAs (is_in_window w i) n marks) (ws : List ℕ) (got : Gathered)
+    (marked : MarkedAs (is_in_window w i) n marks) (ws : List ℕ) (got : Answered ℕ Refusal)
     (g : BundleGathered (gather_texts tag Checked (entry_limit words) (marked_texts body marks bundle) []) bundle ws (entry_limit words) got) where
   window_is : marked_texts body marks bundle ≡ window_texts w bundle i
   unfolding window_texts
@@ -84,13 +76,13 @@ module _ (tag : Kind → Bytes) (bundle : Bytes) (words w i : ℕ) (marks : List
   gathered : BundleGathered (gather_texts tag Checked (entry_limit words) (window_texts w bundle i) []) bundle ws (entry_limit words) got
   gathered = rw window_is at g
 
-  pub refused_window : (q : Refusal) → got ≡ G.Refused q → refused q ≡ window_line tag (entry_limit words) (window_texts w bundle i)
+  pub refused_window : (q : Refusal) → got ≡ Err q → refused q ≡ window_line tag (entry_limit words) (window_texts w bundle i)
   unfolding window_line
   refused_window q e =
       let is : refused q ≡ gather_texts tag Checked (entry_limit words) (window_texts w bundle i) [] = rw e at gathered.is in
       rw (← is)
 
-  pub held_window : (entries : ℕ) → got ≡ G.Entries entries → length ws ≡ words → (limit : ℕ) → limit ≡ entry_limit (length ws) → (index : ℕ) → index ≡ index_at limit
+  pub held_window : (entries : ℕ) → got ≡ Ok entries → length ws ≡ words → (limit : ℕ) → limit ≡ entry_limit (length ws) → (index : ℕ) → index ≡ index_at limit
       → WindowHeld bundle ws index entries (window_line tag (entry_limit words) (window_texts w bundle i))
   unfolding window_line
   held_window entries e long limit limit_is index at-index =

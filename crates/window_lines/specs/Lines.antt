@@ -1,13 +1,11 @@
 -- Windows and their lines, as the code meets them. Assumes nothing.
-use Rattle.model.specs.declared.Refusal.{Refusal}
 use Rattle.std.specs.Prelude.{ℕ, ◌≤◌, ◌≡◌, [], ◌∷◌, ◌++◌, length, take, Result, Ok, Err}
+use Rattle.model.specs.declared.Refusal.{Refusal}
 use Rattle.model.specs.Bytes.{Bytes, slash, newline}
 use Rattle.model.specs.Answer.{Answer, accepted, refused, ◌>>=◌}
 use Rattle.model.specs.Output.{written}
 use Rattle.model.specs.Number.{decimal}
 use Rattle.model_totals.specs.declared.Ratio.{Ratio}
-use Rattle.window_lines.specs.declared.Window.{Window}
-use Rattle.window_lines.specs.declared.Window.TheVariants as C
 
 -- ---- lines
 
@@ -19,9 +17,9 @@ abbrev pub ratio_line : Ratio → Bytes
 ratio_line lines = decimal lines.hit ++ slash ∷ decimal lines.found ++ newline ∷ []
 
 -- the line of a window that was counted
-abbrev pub line_of : Window → Answer Bytes
-line_of (C.Lines lines) = accepted (ratio_line lines)
-line_of (C.Refused r) = refused r
+abbrev pub line_of : Result Ratio Refusal → Answer Bytes
+line_of (Ok lines) = accepted (ratio_line lines)
+line_of (Err r) = refused r
 
 -- ---- the lines of all windows, at the front of an output
 

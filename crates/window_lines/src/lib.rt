@@ -4,7 +4,6 @@
 
 ghost use Rattle.std.specs.Prelude.{◌≡◌, true, ◌+◌, ◌*◌, ◌≤◌, ◌<◌, length};
 ghost use Rattle.model.specs.Limits.{max_texts, max_width};
-ghost use Rattle.model.specs.TagTable.{tags_of, are_tags};
 ghost use Rattle.model.specs.Output.{written};
 ghost use Rattle.model.specs.Calls.{WriteCall};
 ghost use Rattle.model.specs.Bundle.{text_count, well_formed};
@@ -13,10 +12,11 @@ ghost use Rattle.bundle.specs.Marks.{MarkedAs};
 ghost use Rattle.format.specs.Put.{over};
 ghost use Rattle.text_choice.specs.Windows.{is_width, is_in_window, window_texts, window_line, gather_windows};
 ghost use Rattle.window_lines.specs.Lines.{max_line, ratio_line, line_of, LinesPut};
+ghost use Rattle.tag_table.specs.Tags.{tag_of};
 
-use joined_table::Gathered;
 use model::{Fault, Mode, Refusal};
 use model_totals::Ratio;
+use tag_table::Tags;
 
 const MAX_TEXTS: usize = bundle::MAX_TEXTS;
 
@@ -32,10 +32,7 @@ const MAX_LINES: usize = MAX_TEXTS * MAX_LINE;
 fn is_width(width: usize) -> bool
     ensures { result ≡ is_width width }
 {
-    if width == 0 {
-        return false;
-    }
-    width <= MAX_WIDTH
+    (1..=MAX_WIDTH).contains(&width)
 }
 
 // Text j is the i-th, or one of the up to width − 1 before it.
@@ -43,10 +40,7 @@ fn is_in_window(width: usize, i: usize, j: usize) -> bool
     requires { (width ≤ max_width) × (j < max_texts) }
     ensures { result ≡ is_in_window width i j }
 {
-    if i < j {
-        return false;
-    }
-    i < j + width
+    j <= i && i < j + width
 }
 
 // A byte for each of n texts: 1 where it is in the window of the i-th, otherwise 0.
@@ -54,40 +48,31 @@ fn mark_window(marks: &mut [u8], n: usize, width: usize, i: usize)
     requires { (width ≤ max_width) × (n ≤ max_texts) × (n ≤ length marks.old) }
     ensures { MarkedAs (is_in_window width i) n marks.new }
 {
-    let mut j = 0;
-    while j < n {
+    for j in 0..n {
         marks[j] = is_in_window(width, i, j) as u8;
-        j += 1;
     }
 }
 
-// The lines of a window's joined report that are hit and found, or why there is none.
-#[derive(Clone, Copy)]
-pub enum Window {
-    Lines(Ratio),
-    Refused(Refusal),
-}
-
-// "the checked gather of that text and the up to w − 1 before it"
-fn count_window(tags: &[u8], bundle: &[u8], width: usize, i: usize, scratch: &mut [u64]) -> Window
-    requires tags_value { are_tags tags.now ≡ true }
+// The lines that are hit and found in a window: "the checked gather of that text and the up to w − 1 before it".
+fn count_window(
+    tags: Tags,
+    bundle: &[u8],
+    width: usize,
+    i: usize,
+    scratch: &mut [u64],
+) -> Result<Ratio, Refusal>
     requires bundle_value { (well_formed bundle.now ≡ true) × (width ≤ max_width) }
-    ensures { line_of result ≡ window_line (tags_of tags.now) (entry_limit (length scratch.old)) (window_texts width bundle.now i) }
+    ensures { line_of result ≡ window_line (tag_of tags.entry) (entry_limit (length scratch.old)) (window_texts width bundle.now i) }
 {
     let n = bundle::text_count(bundle);
     let mut marks = [0u8; MAX_TEXTS];
     mark_window(&mut marks, n, width, i);
     let body = bundle::body_at(bundle);
-    match joined_table::gather_marked(tags, bundle, body, &marks, scratch, Mode::Checked) {
-        Gathered::Refused(refusal) => Window::Refused(refusal),
-        Gathered::Entries(entries) => {
-            let limit = scratch_layout::entry_limit(scratch.len());
-            let index = scratch_layout::index_at(limit);
-            let totals = print_totals::count_totals(scratch, index, entries);
-            let lines = totals.lines;
-            Window::Lines(lines)
-        }
-    }
+    let entries = joined_table::gather_marked(tags, bundle, body, &marks, scratch, Mode::Checked)?;
+    let limit = scratch_layout::entry_limit(scratch.len());
+    let index = scratch_layout::index_at(limit);
+    let totals = print_totals::count_totals(scratch, index, entries);
+    Ok(totals.lines)
 }
 
 // The line of a window at the front of out: hit, '/', found and byte 10.
@@ -104,30 +89,20 @@ fn put_line(lines: Ratio, out: &mut [u8]) -> usize
 
 // The lines of all windows at the front of out, or the refusal of the first window that is refused.
 fn put_lines(
-    tags: &[u8],
+    tags: Tags,
     bundle: &[u8],
     width: usize,
     scratch: &mut [u64],
     out: &mut [u8],
 ) -> Result<usize, Refusal>
-    requires tags_value { are_tags tags.now ≡ true }
     requires bundle_value { (well_formed bundle.now ≡ true) × (is_width width ≡ true) × (max_texts * max_line ≤ length out.old) }
-    ensures { LinesPut (gather_windows (tags_of tags.now) bundle.now width (length scratch.old)) out.new result }
+    ensures { LinesPut (gather_windows (tag_of tags.entry) bundle.now width (length scratch.old)) out.new result }
 {
     let n = bundle::text_count(bundle);
-    let mut i = 0;
     let mut at = 0;
-    while i < n {
-        match count_window(tags, bundle, width, i, scratch) {
-            Window::Refused(refusal) => {
-                return Err(refusal);
-            }
-            Window::Lines(lines) => {
-                let len = put_line(lines, &mut out[at..]);
-                at += len;
-            }
-        }
-        i += 1;
+    for i in 0..n {
+        let lines = count_window(tags, bundle, width, i, scratch)?;
+        at += put_line(lines, &mut out[at..]);
     }
     Ok(at)
 }
@@ -145,15 +120,14 @@ fn write_bytes(bytes: &[u8], out: &mut [u8]) -> Result<usize, Refusal>
 
 // The lines of all windows of a width that is 1 to 16, of a bundle that is well formed.
 fn write_lines(
-    tags: &[u8],
+    tags: Tags,
     bundle: &[u8],
     width: usize,
     scratch: &mut [u64],
     out: &mut [u8],
 ) -> Result<usize, Refusal>
-    requires tags_value { are_tags tags.now ≡ true }
     requires bundle_value { (well_formed bundle.now ≡ true) × (is_width width ≡ true) }
-    ensures { WriteCall (gather_windows (tags_of tags.now) bundle.now width (length scratch.old) (length out.old)) out.old out.new result }
+    ensures { WriteCall (gather_windows (tag_of tags.entry) bundle.now width (length scratch.old) (length out.old)) out.old out.new result }
 {
     let mut lines = [0u8; MAX_LINES];
     match put_lines(tags, bundle, width, scratch, &mut lines) {
@@ -164,14 +138,13 @@ fn write_lines(
 
 // The lines of all windows of a bundle. 24 comes right after 16.
 pub fn print_windows(
-    tags: &[u8],
+    tags: Tags,
     bundle: &[u8],
     width: usize,
     scratch: &mut [u64],
     out: &mut [u8],
 ) -> Result<usize, Refusal>
-    requires { are_tags tags.now ≡ true }
-    ensures { WriteCall (gather_windows (tags_of tags.now) bundle.now width (length scratch.old) (length out.old)) out.old out.new result }
+    ensures { WriteCall (gather_windows (tag_of tags.entry) bundle.now width (length scratch.old) (length out.old)) out.old out.new result }
 {
     if bundle::is_well_formed(bundle) {
         if is_width(width) {

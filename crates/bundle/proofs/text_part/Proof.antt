@@ -1,5 +1,4 @@
 -- `bundle::text_part` meets its contract. Assumes nothing.
-use native.Mathlib.Omega.{arith}
 use borrow.Author.Rules.{rules}
 use Rattle.bundle.proofs.BundleLaws.{texts_sized, start-room, length-room, part-is, part-inside, part-fits}
 use Rattle.bundle.proofs.text_part.Statement.{statement}

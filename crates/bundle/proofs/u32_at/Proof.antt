@@ -1,5 +1,4 @@
 -- `bundle::u32_at` meets its contract. Assumes nothing.
-use native.Mathlib.Omega.{arith}
 use borrow.Author.Rules.{rules}
 use Rattle.bundle.proofs.BundleLaws.{quad_u32}
 use Rattle.bundle.proofs.u32_at.Statement.{statement}

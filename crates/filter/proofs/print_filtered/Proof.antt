@@ -32,13 +32,13 @@ start m = m.before.before.before.before.before.before.before
 
 -- what the length promises
 abbrev measured : (m : tie.After-required_len-needed) → let a = (start m).args in
-    Measured (filtered_from (tags_of a.tags.now) a.bound (ranges (start m)) a.text.now a.index a.n)
-    (print_sections (tags_of a.tags.now) (map (filter_section a.bound (ranges (start m))) (sections (entries_at a.text.now a.words.now a.index a.n))))
+    Measured (filtered_from (tags_of a.tags.table.now) a.bound (ranges (start m)) a.text.now a.index a.n)
+    (print_sections (tags_of a.tags.table.now) (map (filter_section a.bound (ranges (start m))) (sections (entries_at a.text.now a.words.now a.index a.n))))
     a.words.now m.required_len-needed.new.words a.out.now m.required_len-needed.new.out a.n a.spare
     m.required_len-needed.result
 measured m = let a = (start m).args in record {
   prints = filtered_prints _ a.bound (ranges (start m)) (spacious (start m));
-  is = ap (λ (r : Report). print_sections (tags_of a.tags.now) (map (filter_section a.bound (ranges (start m))) (sections r)))
+  is = ap (λ (r : Report). print_sections (tags_of a.tags.table.now) (map (filter_section a.bound (ranges (start m))) (sections r)))
       (entries-all a.text.now a.words.now a.index a.n);
   spared = m.required_len-needed.ensures.1;
   enough = m.required_len-needed.ensures.0;

@@ -19,7 +19,7 @@ abbrev grouped : tie.After-emit_group-lines → tie.After-emit_group-branches
 grouped l = l.before.before.before.before
 
 abbrev begun : (k : tie.After-slice_known-1) → let a = k.before.before.before.before.args in
-    Begun (tags_of a.tags.now) a.write a.text.now a.words.now a.out.now a.header a.numbers a.at a.kept
+    Begun (tags_of a.tags.table.now) a.write a.text.now a.words.now a.out.now a.header a.numbers a.at a.kept
 begun k = record { room = k.before.before.before.before.requires.1.1; few = omega arith; place = omega arith }
 
 pub print_kept_spec : {M : Type 1} → statement M

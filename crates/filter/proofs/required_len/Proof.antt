@@ -23,7 +23,7 @@ abbrev ranges : tie.Start → List Range
 ranges s = take s.args.count (ranges_in s.args.pairs.now)
 
 abbrev printed : tie.Start → Bytes
-printed s = filtered_from (tags_of s.args.tags.now) s.args.bound (ranges s) s.args.text.now s.args.index s.args.n s.args.words.now 0
+printed s = filtered_from (tags_of s.args.tags.table.now) s.args.bound (ranges s) s.args.text.now s.args.index s.args.n s.args.words.now 0
 
 few : (b : tie.After-surely_fits) → length (start b).args.out.now * 1 < 2 ^ 63
 few b = omega arith

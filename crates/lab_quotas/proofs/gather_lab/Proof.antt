@@ -25,7 +25,7 @@ gather_lab_spec =
     (λ c. search rules)
     (λ c κs. let m = marked c.before.before.before in (
       refused-inside _ _ (start m).args.labs.now (start m).requires.1.1 (start m).args.lab _ m.mark_lab.new.chosen _ c.before.before.before.before.before.before.body_at-body.ensures m.mark_lab.ensures _ _
-          c.before.before.before.gather_marked.ensures _ c.in-Refused.is,
+          c.before.before.before.gather_marked.ensures _ c.in-Err.is,
       few-texts _ (start m).requires.1.0 _ (start m).requires.1.1,
     ))
     (λ c. search rules)
@@ -33,8 +33,8 @@ gather_lab_spec =
     (λ c. search rules)
     (λ c. let m = marked c.before.before.before.before in
     mark_refused _ _ (start m).args.labs.now (start m).requires.1.1 (start m).args.lab _ m.mark_lab.new.chosen _ c.before.before.before.before.before.before.before.body_at-body.ensures m.mark_lab.ensures _ _ c.before.before.before.before.gather_marked.ensures _
-    c.before.in-Refused.is _ _ c.in_lab.ensures)
+    c.before.in-Err.is _ _ c.in_lab.ensures)
     (λ c. search rules)
     (λ c. let m = marked c.before.before.before.before in
     mark_counted _ _ (start m).args.labs.now (start m).requires.1.1 (start m).args.lab _ m.mark_lab.new.chosen _ c.before.before.before.before.before.before.before.body_at-body.ensures m.mark_lab.ensures _ _ c.before.before.before.before.gather_marked.ensures _
-    c.before.in-Entries.is _ _ c.mark_entries.ensures))
+    c.before.in-Ok.is _ _ c.mark_entries.ensures))

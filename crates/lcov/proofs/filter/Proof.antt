@@ -35,7 +35,7 @@ well l = sym l.before.before.is_well_formed.ensures ∙ l.before.if-is_well_form
 
 -- what is printed of a report
 abbrev printed : tie.Start → Report → Bytes
-printed s report = print_sections (tags_of s.args.tags.now) (map (filter_section s.args.bound (take s.args.used (ranges_in s.args.pairs.now))) (sections report))
+printed s report = print_sections (tags_of s.args.tags.table.now) (map (filter_section s.args.bound (take s.args.used (ranges_in s.args.pairs.now))) (sections report))
 
 pub filter_spec : {M : Type 1} → statement M
 filter_spec =

@@ -23,4 +23,4 @@ gather_spec =
     (λ c. search rules)
     (λ c. let g = gathered c.before.before.before.before in
     let s = start g in
-    gathered_called _ _ _ _ _ g.gather_bundle-got.ensures (search rules) (print_report (tags_of s.args.tags.now)) s.args.out.now _ _ _ (gather_means (tags_of s.args.tags.now) s.args.mode _ _ s.args.out.now) c.before.before.before.before.print_joined.ensures))
+    gathered_called _ _ _ _ _ g.gather_bundle-got.ensures (search rules) (print_report (tags_of s.args.tags.table.now)) s.args.out.now _ _ _ (gather_means (tags_of s.args.tags.table.now) s.args.mode _ _ s.args.out.now) c.before.before.before.before.print_joined.ensures))

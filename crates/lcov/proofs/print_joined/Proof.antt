@@ -26,13 +26,13 @@ print_joined_spec =
     (λ c κs. let e = entries c.before.before in
     let s = start e in (
       search rules,
-      joined_ready (print_report (tags_of s.args.tags.now)) s.args.bundle.now _ s.args.got s.requires.1 s.args.out.now _ e.in-Entries.is _
+      joined_ready (print_report (tags_of s.args.tags.table.now)) s.args.bundle.now _ s.args.got s.requires.1 s.args.out.now _ e.in-Entries.is _
           c.before.before.before.before.entry_limit-limit.ensures _ c.before.before.before.index_at-index.ensures _ c.before.before.spare_at-spare.ensures,
     ))
-    (λ c. called (joined-refused (print_report (tags_of c.before.before.before.before.before.args.tags.now)) c.before.before.before.before.before.args.bundle.now _ c.before.before.before.before.before.args.got c.before.before.before.before.before.requires.1 c.before.before.before.before.before.args.out.now _ c.in-Refused.is))
+    (λ c. called (joined-refused (print_report (tags_of c.before.before.before.before.before.args.tags.table.now)) c.before.before.before.before.before.args.bundle.now _ c.before.before.before.before.before.args.got c.before.before.before.before.before.requires.1 c.before.before.before.before.before.args.out.now _ c.in-Refused.is))
     (λ c. search rules)
     (λ c. search rules)
     (λ c. let e = entries c.before.before.before.before.before.before.before in
     let s = start e in
-    called (joined-printed (print_report (tags_of s.args.tags.now)) s.args.bundle.now _ s.args.got s.requires.1 s.args.out.now _ e.in-Entries.is _
+    called (joined-printed (print_report (tags_of s.args.tags.table.now)) s.args.bundle.now _ s.args.got s.requires.1 s.args.out.now _ e.in-Entries.is _
     c.before.before.before.before.before.before.before.before.before.entry_limit-limit.ensures _ c.before.before.before.before.before.before.before.before.index_at-index.ensures _ _ c.before.before.before.before.print_report.ensures)))

@@ -35,12 +35,12 @@ read_spec =
     (λ c. search rules)
     (λ c. let r = read c.before in
     let s = (limited r).before.before.before.before.before.args in
-    called (reading_refused _ _ _ _ (limited r).entry_limit-limit.ensures _ _ _ r.read_lines.ensures (print_report (tags_of s.tags.now)) s.out.now _
+    called (reading_refused _ _ _ _ (limited r).entry_limit-limit.ensures _ _ _ r.read_lines.ensures (print_report (tags_of s.tags.table.now)) s.out.now _
     (read_means _ s.text.now (length s.scratch.now) s.out.now) _ c.in-Refused.is))
     (λ c. search rules)
     (λ c. search rules)
     (λ c. let k = kept c.before.before.before.before.before.before.before in
     let r = read k.before in
     let s = (limited r).before.before.before.before.before.args in
-    called (reading_printed _ _ _ _ (limited r).entry_limit-limit.ensures _ _ _ r.read_lines.ensures (print_report (tags_of s.tags.now)) s.out.now _
+    called (reading_printed _ _ _ _ (limited r).entry_limit-limit.ensures _ _ _ r.read_lines.ensures (print_report (tags_of s.tags.table.now)) s.out.now _
     (read_means _ s.text.now (length s.scratch.now) s.out.now) _ _ k.in-Read.is _ _ c.before.before.before.before.print_report.ensures)))

@@ -22,7 +22,7 @@ puts_inside c =
 pub loop-t-init : goal.loop-t-init
 loop-t-init c =
     let begun = turns_begun c.args.plan c.args.list.now c.scan_start-found.result c.scan_start-found.ensures in
-    record { upto = omega arith; long = refl; list = begun.0; pass = begun.1 }
+    record { long = refl; list = begun.0; pass = begun.1 }
 
 pub offset_bounds-list-k : goal.offset_bounds-list-k
 offset_bounds-list-k c = let h = reads_inside c in search rules
@@ -38,11 +38,10 @@ bounds-list-at c = puts_inside c
 
 pub loop-t-preserved : goal.loop-t-preserved
 loop-t-preserved c = record {
-  upto = omega arith;
   long = length-set c.loop-t.list c.put_at-put.result.at c.put_at-put.result.range ∙ c.loop-t.invariant.long;
   list = next_list c.args.plan c.args.list.now c.loop-t.t c.read_at-k.result c.loop-t.list c.loop-t.found c.loop-t.invariant.list c.loop-t.invariant.pass c.read_at-k.ensures c.put_at-put.result c.put_at-put.ensures;
   pass = next_pass c.args.plan c.args.list.now c.loop-t.t c.read_at-k.result c.loop-t.list c.loop-t.found c.loop-t.invariant.list c.loop-t.invariant.pass c.read_at-k.ensures c.scanned-found.result c.scanned-found.ensures;
 }
 
 pub returns : goal.returns
-returns c = turns_done c.args.plan c.args.list.now c.loop-t.t c.loop-t.list c.loop-t.invariant.list c.loop-t.invariant.upto c.loop-t-test.false
+returns c = turns_done c.args.plan c.args.list.now c.loop-t.t c.loop-t.list c.loop-t.invariant.list (omega arith) c.loop-t-test.false

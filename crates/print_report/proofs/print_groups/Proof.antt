@@ -11,10 +11,10 @@ use Rattle.print_report.proofs.print_groups.Statement.{statement}
 use Rattle.print_report.proofs.print_groups.Tie as tie
 
 abbrev branches : tie.Start → Bytes
-branches s = branch_lines (tags_of s.args.tags.now) s.args.text.now s.args.words.now s.args.index s.args.runs
+branches s = branch_lines (tags_of s.args.tags.table.now) s.args.text.now s.args.words.now s.args.index s.args.runs
 
 abbrev lines : tie.Start → Bytes
-lines s = line_lines (tags_of s.args.tags.now) s.args.text.now s.args.words.now s.args.index s.args.runs
+lines s = line_lines (tags_of s.args.tags.table.now) s.args.text.now s.args.words.now s.args.index s.args.runs
 
 abbrev start : tie.After-emit_group-end → tie.Start
 start b = b.before.before.before.before.before.before

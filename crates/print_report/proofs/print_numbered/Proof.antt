@@ -19,10 +19,10 @@ abbrev items : tie.Start → List Item
 items s = items_by s.args.text.now s.args.words.now s.args.numbers s.args.n
 
 abbrev starts : tie.Start → Bytes
-starts s = print_records (tags_of s.args.tags.now) (concat_map start_record (items s))
+starts s = print_records (tags_of s.args.tags.table.now) (concat_map start_record (items s))
 
 abbrev others : tie.Start → Bytes
-others s = print_records (tags_of s.args.tags.now) (group functions_found functions_hit (items s))
+others s = print_records (tags_of s.args.tags.table.now) (group functions_found functions_hit (items s))
 
 pub print_numbered_spec : {M : Type 1} → statement M
 print_numbered_spec =

@@ -21,13 +21,13 @@ start m = m.before.before.before.before.before.before.before
 
 -- what the length promises
 abbrev measured : (m : tie.After-required_len-needed)
-    → Measured (printed_from (tags_of (start m).args.tags.now) (start m).args.text.now (start m).args.index (start m).args.n)
-    (print_report (tags_of (start m).args.tags.now) (entries_at (start m).args.text.now (start m).args.words.now (start m).args.index (start m).args.n))
+    → Measured (printed_from (tags_of (start m).args.tags.table.now) (start m).args.text.now (start m).args.index (start m).args.n)
+    (print_report (tags_of (start m).args.tags.table.now) (entries_at (start m).args.text.now (start m).args.words.now (start m).args.index (start m).args.n))
     (start m).args.words.now m.required_len-needed.new.words (start m).args.out.now
     m.required_len-needed.new.out (start m).args.n (start m).args.spare m.required_len-needed.result
 measured m = record {
   prints = report_prints _ (spacious (start m));
-  is = ap (print_report (tags_of (start m).args.tags.now)) (entries-all (start m).args.text.now (start m).args.words.now (start m).args.index (start m).args.n);
+  is = ap (print_report (tags_of (start m).args.tags.table.now)) (entries-all (start m).args.text.now (start m).args.words.now (start m).args.index (start m).args.n);
   spared = m.required_len-needed.ensures.1;
   enough = m.required_len-needed.ensures.0;
   few = omega arith;

@@ -11,7 +11,7 @@ abbrev start : tie.After-find_kind_ranges-runs → tie.Start
 start f = f.before.before.before.before.before.before
 
 abbrev here : (f : tie.After-find_kind_ranges-runs)
-    → Here (tags_of (start f).args.tags.now) (start f).args.write (start f).args.text.now (start f).args.words.now (start f).args.out.now (start f).args.index (start f).args.used
+    → Here (tags_of (start f).args.tags.table.now) (start f).args.write (start f).args.text.now (start f).args.words.now (start f).args.out.now (start f).args.index (start f).args.used
     (start f).args.n (start f).args.spare (start f).args.lo (start f).args.at f.before.get-header.result f.find_kind_ranges-runs.result
 here f = let s = start f in record {
   spacious = s.requires.1.0.0;

@@ -16,7 +16,7 @@ abbrev start : tie.After-surely_fits → tie.Start
 start b = b.before.before.before.before.before
 
 abbrev printed : tie.Start → Bytes
-printed s = printed_from (tags_of s.args.tags.now) s.args.text.now s.args.index s.args.n s.args.words.now 0
+printed s = printed_from (tags_of s.args.tags.table.now) s.args.text.now s.args.index s.args.n s.args.words.now 0
 
 few : (b : tie.After-surely_fits) → length (start b).args.out.now * 1 < 2 ^ 63
 few b = omega arith

@@ -22,4 +22,4 @@ write_lines_spec =
     (λ c. lines-refused _ _ _ c.before.before.before.before.put_lines.ensures (start c.before.before.before.before).args.out.now _ c.in-Refused.is)
     (λ c. search rules)
     (λ c. search rules)
-    (λ c. lines_called _ _ _ c.before.before.before.before.before.before.before.before.before.put_lines.ensures (start c.before.before.before.before.before.before.before.before.before).args.out.now _ c.before.before.before.before.before.in-Written.is _ _ c.before.before.write_bytes.ensures))
+    (λ c. lines_called _ _ _ c.before.before.before.before.before.before.before.before.before.put_lines.ensures (start c.before.before.before.before.before.before.before.before.before).args.out.now _ c.before.before.before.before.before.in-Ok.is _ _ c.before.before.write_bytes.ensures))

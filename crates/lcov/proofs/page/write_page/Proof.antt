@@ -23,4 +23,4 @@ write_page_spec =
     (λ c. search rules)
     (λ c. let g = gathered c.before.before in
     let s = start g in
-    gathered_called _ _ _ _ _ g.gather_bundle-got.ensures (search rules) page s.args.out.now _ _ _ (totals_means (tags_of s.args.tags.now) _ _ s.args.out.now) c.before.before.print_page.ensures))
+    gathered_called _ _ _ _ _ g.gather_bundle-got.ensures (search rules) page s.args.out.now _ _ _ (totals_means (tags_of s.args.tags.table.now) _ _ s.args.out.now) c.before.before.print_page.ensures))

@@ -1,6 +1,6 @@
 use Rattle.std.proofs.Common.{rules}
 use Rattle.model.specs.Tags.{default_tag}
-use Rattle.tag_table.proofs.DefaultLaws.{named_as, not_tag, total-named}
+use Rattle.tag_table.proofs.DefaultLaws.{named_as, not_tag, total_named}
 use Rattle.tag_table.proofs.default.named.Goals as goal
 
 pub returns-then-equal : goal.returns-then-equal
@@ -33,4 +33,4 @@ returns-then-equal-7 c = search (named_as, rules)
 
 pub returns : goal.returns
 unfolding default_tag
-returns c = search (total-named, not_tag, rules)
+returns c = search (total_named, not_tag, rules)

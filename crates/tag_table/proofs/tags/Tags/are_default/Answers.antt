@@ -1,0 +1,5 @@
+use Rattle.tag_table.proofs.LoadLaws.{empty_table}
+use Rattle.tag_table.proofs.tags.Tags.are_default.Goals as goal
+
+pub returns : goal.returns
+returns c = empty_table c.args.self.table.now
