@@ -15,10 +15,9 @@ use Rattle.model.specs.Reading.{outside}
 use Rattle.section.specs.declared.State.{State}
 use Rattle.section.specs.Reading.{SectionRoom, state_of, HoldsState}
 use Rattle.section.proofs.OtherLaws.{main-few}
-use Rattle.report_parser.specs.declared.LineStep.{LineStep}
-use Rattle.report_parser.specs.declared.LineStep.TheVariants as L
-use Rattle.report_parser.specs.declared.TextAnswer.{TextAnswer}
-use Rattle.report_parser.specs.declared.TextAnswer.TheVariants as T
+use Rattle.std.specs.Prelude.{Result, Ok, Err}
+use Rattle.report_parser.specs.declared.LineRead.{LineRead}
+use Rattle.report_parser.specs.declared.TextRead.{TextRead as TextSizes}
 use Rattle.report_parser.specs.Reader.{left_at, Progress, AfterLine, LineDone, TextFinished, TextRead}
 use Rattle.report_parser.proofs.LoopLaws.{start_progress, done_inside, done_outside}
 
@@ -29,25 +28,25 @@ pub text-start : (tag : Kind → Bytes) (text ws : List ℕ) (index limit from :
 text-start tag text ws index limit from st room valid state = start_progress tag text ws index limit from st (valid text ws index limit room) (state text ws index)
 
 -- one iteration
-module _ (tag : Kind → Bytes) (text ws ws' : List ℕ) (index limit from at number : ℕ) (st : State) (p : Progress tag text ws index limit from at number st) (got : LineStep)
+module _ (tag : Kind → Bytes) (text ws ws' : List ℕ) (index limit from at number : ℕ) (st : State) (p : Progress tag text ws index limit from at number st) (got : Result LineRead Refusal)
     (done : LineDone tag text ws ws' index limit at number st got) where
-  pub text-refused : (r : Refusal) → got ≡ L.Refused r → TextRead tag text ws' index limit from (T.Refused r)
+  pub text-refused : (r : Refusal) → got ≡ Err r → TextRead tag text ws' index limit from (Err r)
   text-refused r e =
-      let t : AfterLine tag text ws' index limit at number (left_at tag text ws index limit at number st) (L.Refused r) = rw e at done.after in
+      let t : AfterLine tag text ws' index limit at number (left_at tag text ws index limit at number st) (Err r) = rw e at done.after in
       record { is = sym t ∙ p.left; held = tt }
 
-  module _ (st' : State) (next : ℕ) (e : got ≡ L.Next st' next) where
-    flipped : AfterLine tag text ws' index limit at number (left_at tag text ws index limit at number st) (L.Next st' next)
+  module _ (l : LineRead) (e : got ≡ Ok l) where
+    flipped : AfterLine tag text ws' index limit at number (left_at tag text ws index limit at number st) (Ok l)
     flipped = rw e at done.after
 
-    pub text-next : Progress tag text ws' index limit from next (number + 1) st'
+    pub text-next : Progress tag text ws' index limit from l.next (number + 1) l.state
     text-next = record { valid = flipped.0; left = flipped.1 ∙ p.left; few = omega (arith, p.few, flipped.2) }
 
     -- less of the text is left
-    pub text-less : length text + 1 - next < length text + 1 - at
+    pub text-less : length text + 1 - l.next < length text + 1 - at
     text-less = omega (arith, flipped.2, flipped.3)
 
-    pub text-most : next ≤ length text + 1
+    pub text-most : l.next ≤ length text + 1
     text-most = flipped.3
 
 -- a line's number fits a word
@@ -56,7 +55,7 @@ pub number_fits : (tag : Kind → Bytes) (text ws : List ℕ) (index limit from 
 number_fits tag text ws index limit from at number st p h b = record { fits = omega (arith, p.few) }
 
 -- past the last line
-pub text_done : (tag : Kind → Bytes) (text ws ws' : List ℕ) (index limit from at number : ℕ) (st : State) (r : TextAnswer) → Progress tag text ws index limit from at number st
+pub text_done : (tag : Kind → Bytes) (text ws ws' : List ℕ) (index limit from at number : ℕ) (st : State) (r : Result TextSizes Refusal) → Progress tag text ws index limit from at number st
     → length text ≤ at → TextFinished text ws ws' index st number r → TextRead tag text ws' index limit from r
 text_done tag text ws ws' index limit from at number st r p end ε = go st.inside refl
   where
