@@ -9,7 +9,7 @@ ghost use Rattle.model.specs.Bytes.{compare_bytes};
 ghost use Rattle.model.specs.Path.{components, compare_paths};
 ghost use Rattle.model.specs.Report.{compare_items, compare_sections, compare_keys, entry_key, count_of};
 ghost use Rattle.model.specs.Gather.{entry_limit};
-ghost use Rattle.model_bounds.specs.Bounds.{same_keys, counts_rise, hits_of, bounds, hit_bounds, bounds_answer};
+ghost use Rattle.model_bounds.specs.Bounds.{same_keys, counts_rise, hits_of, bounds, hit_bounds, call_answer};
 ghost use Rattle.table.specs.Store.{Store};
 ghost use Rattle.table_item.specs.Items.{part, item_of, ItemInBounds};
 ghost use Rattle.table_section.specs.Sections.{entry_of, key_of, entries_at, NamesInBounds, RowInBounds};
@@ -223,7 +223,7 @@ fn compare_tables(
     index: usize,
 ) -> Result<Bounds, Refusal>
     requires { Kept least.now low.now index l × Kept greatest.now high.now index h }
-    ensures { result ≡ bounds_answer (bounds (entries_at least.now low.now index l.kept) (entries_at greatest.now high.now index h.kept)) }
+    ensures { result ≡ call_answer (bounds (entries_at least.now low.now index l.kept) (entries_at greatest.now high.now index h.kept)) }
 {
     if keys_agree(least, low, l, greatest, high, h, index) {
         if counts_rise(low, l.used, high, h.used, h.kept, index) {
@@ -249,7 +249,7 @@ fn compare_halves(
     limit: usize,
 ) -> Result<Bounds, Refusal>
     requires { ScratchRoom scratch.now limit × Kept least.now (take (base_at limit) scratch.now) (index_at limit) l × Kept greatest.now (drop (base_at limit) scratch.now) (index_at limit) h }
-    ensures { result ≡ bounds_answer (bounds (entries_at least.now (take (base_at limit) scratch.now) (index_at limit) l.kept) (entries_at greatest.now (drop (base_at limit) scratch.now) (index_at limit) h.kept)) }
+    ensures { result ≡ call_answer (bounds (entries_at least.now (take (base_at limit) scratch.now) (index_at limit) l.kept) (entries_at greatest.now (drop (base_at limit) scratch.now) (index_at limit) h.kept)) }
 {
     let base = scratch_layout::base_at(limit);
     let index = scratch_layout::index_at(limit);
@@ -294,7 +294,7 @@ fn find_behind(
     limit: usize,
 ) -> Result<Bounds, Refusal>
     requires scratch_room { ScratchRoom scratch.old limit × Kept least.now (take (base_at limit) scratch.old) (index_at limit) l }
-    ensures { result ≡ bounds_answer (bounds_behind (tag_of tags.entry) (entries_at least.now (take (base_at limit) scratch.old) (index_at limit) l.kept) greatest.now limit) }
+    ensures { result ≡ call_answer (bounds_behind (tag_of tags.entry) (entries_at least.now (take (base_at limit) scratch.old) (index_at limit) l.kept) greatest.now limit) }
 {
     match read_rest(tags, greatest, scratch, limit) {
         TextAnswer::Refused(refusal) => Err(joined_table::in_text(1, refusal)),
@@ -307,7 +307,7 @@ fn find_behind(
 
 // The bounds of the hit numbers of a run whose counts are known by two texts. E is for each text by itself.
 pub fn find_bounds(tags: Tags, least: &[u8], greatest: &[u8], scratch: &mut [u64]) -> Result<Bounds, Refusal>
-    ensures { result ≡ bounds_answer (hit_bounds (tag_of tags.entry) least.now greatest.now (length scratch.old)) }
+    ensures { result ≡ call_answer (hit_bounds (tag_of tags.entry) least.now greatest.now (length scratch.old)) }
 {
     let limit = scratch_layout::entry_limit(scratch.len());
     match read_front(tags, least, scratch, limit) {

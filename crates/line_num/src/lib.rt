@@ -4,7 +4,7 @@
 
 ghost use Rattle.std.specs.Prelude.{◌≡◌, ◌&&◌, ◌||◌, ◌+◌, ◌-◌, ◌<◌, ◌^◌, min, leb, length, get_or, set};
 ghost use Rattle.model.specs.Ranges.{query_call, insert_call};
-ghost use Rattle.model.specs.Calls.{query_answer, InsertCall, ValueCall};
+ghost use Rattle.model.specs.Calls.{call_answer, InsertCall, ValueCall};
 ghost use Rattle.line_num_pairs.specs.Pairs.{pair};
 ghost use Rattle.line_num.specs.Scans.{scan_start, passes_by, stays_by, scanned_by, scan_of, scan_answer};
 ghost use Rattle.line_num.specs.Steps.{plan_by, plan_of, answer_of, PlanFits, read_at, put_at, rewritten};
@@ -135,8 +135,8 @@ fn scan_all(list: &[Range], used: usize, start: u32, end: u32) -> Scan
     found
 }
 
-fn query_answer(found: Scan, used: usize, len: usize) -> Result<bool, Refusal>
-    ensures { result ≡ query_answer (scan_answer found used len) }
+fn call_answer(found: Scan, used: usize, len: usize) -> Result<bool, Refusal>
+    ensures { result ≡ call_answer (scan_answer found used len) }
 {
     if len < used {
         return Err(Refusal::from(Fault::MalformedRanges));
@@ -152,7 +152,7 @@ pub fn query(list: &[Range], used: usize, s: u32, e: u32) -> Result<bool, Refusa
     ensures { ValueCall (query_call list.now used s e) result }
 {
     let found = scan_all(list, used, s, e);
-    query_answer(found, used, list.len())
+    call_answer(found, used, list.len())
 }
 
 // The steps of an insert: the first `reads` read one range each and write them back with the new range among them; the
@@ -211,7 +211,7 @@ fn plan_of(found: Scan, used: usize, len: usize) -> Plan
     planned(found, 0, 0, 0, 0)
 }
 
-fn insert_answer(found: Scan, used: usize, len: usize) -> Result<usize, Refusal>
+fn length_answer(found: Scan, used: usize, len: usize) -> Result<usize, Refusal>
     ensures { result ≡ answer_of found used len }
 {
     if len < used {
@@ -303,7 +303,7 @@ pub fn insert(list: &mut [Range], used: usize, start: u32, end: u32) -> Result<u
     let found = scan_all(list, used, start, end);
     let plan = plan_of(found, used, len);
     rewrite(list, plan);
-    insert_answer(found, used, len)
+    length_answer(found, used, len)
 }
 
 // The ranges of a list by value.
