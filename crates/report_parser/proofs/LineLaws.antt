@@ -1,13 +1,11 @@
 -- One line of the loop, as the code meets it: the line is a part of the text that the code cut. Assumes nothing.
 use Rattle.std.specs.Prelude.{Result, Ok, Err}
-use Prim.Native.Nat.{ℕ, ◌+◌, ◌-◌, ◌^◌, ◌≤◌, ◌<◌}
+use Prim.Native.Nat.{ℕ, ◌+◌, ◌-◌, ◌≤◌, ◌<◌}
 use native.Mathlib.Omega.{arith}
 use mathlib.Core.Path.{◌≡◌, sym, ap, ◌∙◌}
 use mathlib.Core.List.{List}
 use lib.ListN.{length, take, drop, length-drop}
 use lib.Seq.{take_all}
-use mir.Val.{Fits}
-use mir.Syntax.{w64}
 use Rattle.model.specs.declared.Kind.{Kind}
 use Rattle.model.specs.declared.Record.{Record as LentRecord}
 use Rattle.model.specs.declared.Refusal.{Refusal}
@@ -19,12 +17,8 @@ use Rattle.model.specs.Calls.{ValueCall, call_answer}
 use Rattle.model.proofs.CallLaws.{call_exact}
 use Rattle.model.proofs.LentLaws.{record_read, record_refused}
 use Rattle.section.specs.declared.State.{State}
-use Rattle.section.specs.declared.Step.{Step}
-use Rattle.section.specs.declared.Step.TheVariants as S
-use Rattle.report_parser.specs.declared.LineStep.{LineStep}
-use Rattle.report_parser.specs.declared.LineStep.TheVariants as L
 use Rattle.report_parser.specs.Effect.{RecordAt, Steps}
-use Rattle.report_parser.specs.Reader.{at_line, fault_at, RefusedLine, RefusedStep, LineDone}
+use Rattle.report_parser.specs.Reader.{at_line, fault_at, LineDone}
 use Rattle.report_parser.proofs.LoopLaws.{line_refused, step-refused, step-next}
 
 -- the rest of the text, as the code lends it
@@ -50,9 +44,6 @@ module _ (text : List ℕ) (at len : ℕ) where
   pub line-end : at < length text → len ≤ length (rest_of text at) → at + len ≤ length text
   line-end h e = omega (arith, ap length (rest_all text at), length-drop at text)
 
-  pub line-end-fits : at < length text → len ≤ length (rest_of text at) → length text < 2 ^ 64 → Fits w64 (at + len)
-  line-end-fits h e b = record { fits = omega (arith, line-end h e) }
-
 -- the answer about the line as the code lends it is that about the line
 as_lent : (tag : Kind → Bytes) (text : List ℕ) (at len : ℕ) (got : Result LentRecord Refusal) → ValueCall (lent_record tag (line_of text at len)) got
     → got ≡ call_answer (lent_record tag (take len (drop at text)))
@@ -70,25 +61,23 @@ module _ (tag : Kind → Bytes) (text : List ℕ) (at len : ℕ) (got : Result L
 
   module _ (ws : List ℕ) (index limit number : ℕ) (st : State) (more : at < length text)
       (cut : len ≡ length (before newline (rest_of text at))) (short : len ≤ length (rest_of text at)) where
-    pub done_refused : (q : Refusal) (r : LineStep) → got ≡ Err q → RefusedLine number got r → LineDone tag text ws ws index limit at number st r
-    done_refused q r e h =
+    pub done_refused : (q : Refusal) {r : Refusal} → got ≡ Err q → r ≡ at_line number q → LineDone tag text ws ws index limit at number st (Err r)
+    done_refused q e h =
         let a = record_refused tag (take len (drop at text)) got read_is q e in
         let t = line_refused tag text ws index limit at number st more len (cut_is text at len cut) q a in
-        let f : r ≡ L.Refused (at_line number q) = rw e at h in
-        record { after = rw f t }
+        record { after = rw h t }
 
-    module _ (lent : LentRecord) (e : got ≡ Ok lent) (ws' : List ℕ) (done : Step) (steps : Steps text ws ws' index limit st lent at len done) where
+    module _ (lent : LentRecord) (e : got ≡ Ok lent) (ws' : List ℕ) (done : Result State Fault) (steps : Steps text ws ws' index limit st lent at len done) where
       lent_is : record_in (take len (drop at text)) lent ≡ read_record tag (take len (drop at text))
       lent_is = let (made, h, p) = record_read tag (take len (drop at text)) got read_is lent e in h ∙ sym p
 
-      pub done_step : (fault : Fault) (r : LineStep) → done ≡ S.Refused fault → RefusedStep number done r → LineDone tag text ws ws' index limit at number st r
-      done_step fault r d h =
+      pub done_step : (fault : Fault) {r : Refusal} → done ≡ Err fault → r ≡ fault_at number fault → LineDone tag text ws ws' index limit at number st (Err r)
+      done_step fault d h =
           let ρ = record_at tag text at len got lent e is in
           let t = step-refused tag text ws index limit at number st more len (cut_is text at len cut) lent ρ.made ρ.is lent_is ws' done fault (steps.by ρ.made ρ.is) d in
-          let f : r ≡ L.Refused (fault_at number fault) = rw d at h in
-          record { after = rw f t }
+          record { after = rw h t }
 
-      pub done_next : (after : State) → done ≡ S.Next after → LineDone tag text ws ws' index limit at number st (L.Next after (at + len + 1))
+      pub done_next : (after : State) → done ≡ Ok after → LineDone tag text ws ws' index limit at number st (Ok (record { state = after; next = at + len + 1 }))
       done_next after d =
           let r = record_at tag text at len got lent e is in
           let (valid, left) = step-next tag text ws index limit at number st more len (cut_is text at len cut) lent r.made r.is lent_is ws' done after (steps.by r.made r.is) d in

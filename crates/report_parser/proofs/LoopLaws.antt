@@ -8,6 +8,7 @@ use mathlib.Core.List.{List, [], ◌∷◌}
 use lib.Dec.{eqb}
 use lib.ListN.{length, take, drop, length-drop}
 use lib.Seq.{drop-drop}
+use Rattle.std.specs.Prelude.{Result, Ok, Err}
 use Rattle.model.specs.declared.Kind.{Kind}
 use Rattle.model.specs.declared.Fault.{Fault}
 use Rattle.model.specs.declared.Fault.TheVariants.{UnexpectedEof}
@@ -22,8 +23,6 @@ use Rattle.model.specs.Line.{read_record}
 use Rattle.model.specs.Parts.{record_in}
 use Rattle.model.specs.Reading.{State as ModelState, outside, effect, step, lines, read_lines, read_text}
 use Rattle.section.specs.declared.State.{State}
-use Rattle.section.specs.declared.Step.{Step}
-use Rattle.section.specs.declared.Step.TheVariants.{Next, Refused}
 use Rattle.section.specs.Reading.{state_of, HoldsState, counted, seen_step, ValidStep, StepOf}
 use Rattle.report_parser.specs.Reader.{left_at, Progress, at_line, fault_at}
 use Rattle.report_parser.proofs.CutLaws.{lines_none, lines_cut}
@@ -95,19 +94,19 @@ module _ (tag : Kind → Bytes) (text ws : List ℕ) (index limit at number : �
       unfolding step
       step_is = let e : read_record tag line ≡ accepted made = sym read ∙ is in rw e
 
-      pub step-refused : (ws' : List ℕ) (r : Step) (fault : Fault) → StepOf text ws' index limit (counted limit (effect made here)) r → r ≡ Refused fault
+      pub step-refused : (ws' : List ℕ) (r : Result State Fault) (fault : Fault) → StepOf text ws' index limit (counted limit (effect made here)) r → r ≡ Err fault
           → answer ≡ refused (fault_at number fault)
       step-refused ws' r fault o e =
-          let s : step tag limit line here ≡ seen_step text ws' index (Refused fault) = step_is ∙ sym o.is ∙ ap (seen_step text ws' index) e in
+          let s : step tag limit line here ≡ seen_step text ws' index (Err fault) = step_is ∙ sym o.is ∙ ap (seen_step text ws' index) e in
           sym whole ∙ rw s
 
-      pub step-next : (ws' : List ℕ) (r : Step) (st' : State) → StepOf text ws' index limit (counted limit (effect made here)) r → r ≡ Next st'
+      pub step-next : (ws' : List ℕ) (r : Result State Fault) (st' : State) → StepOf text ws' index limit (counted limit (effect made here)) r → r ≡ Ok st'
           → HoldsState text ws' index limit st' × (left_at tag text ws' index limit (at + len + 1) (number + 1) st' ≡ answer)
       step-next ws' r st' o e =
-          let s : step tag limit line here ≡ seen_step text ws' index (Next st') = step_is ∙ sym o.is ∙ ap (seen_step text ws' index) e in
+          let s : step tag limit line here ≡ seen_step text ws' index (Ok st') = step_is ∙ sym o.is ∙ ap (seen_step text ws' index) e in
           (next-valid r st' o.valid e, rw (add-one number) (follow s whole))
         where
-          next-valid : (r : Step) (st' : State) → ValidStep text ws' index limit r → r ≡ Next st' → HoldsState text ws' index limit st'
+          next-valid : (r : Result State Fault) (st' : State) → ValidStep text ws' index limit r → r ≡ Ok st' → HoldsState text ws' index limit st'
           next-valid r st' v e = rw e at v
 
           follow : step tag limit line here ≡ accepted (state_of text ws' index st')

@@ -1,5 +1,5 @@
 -- Parts of a line as parts of the text, and the rows of its items. Assumes nothing.
-use Rattle.std.specs.Prelude.{Option, Some, None}
+use Rattle.std.specs.Prelude.{Option as LentOption, Some, None}
 use Prim.Native.Nat.{ℕ, zero, suc, ◌+◌, ◌%◌, ◌≤◌}
 use mathlib.Core.Path.{◌≡◌, refl, sym, ap, ◌∙◌}
 use mathlib.Core.Bool.{Bool, true, false, cond}
@@ -52,17 +52,17 @@ moved-is text at p = ap (λ (b : Bytes). take p.len b) (sym (drop-drop p.start a
 
 -- ---- checksums
 
-pub given-within : {len : ℕ} {checksum : Option Part} (p : Part) → checksum ≡ Some p → ChecksumWithin len checksum → PartWithin len p
+pub given-within : {len : ℕ} {checksum : LentOption Part} (p : Part) → checksum ≡ Some p → ChecksumWithin len checksum → PartWithin len p
 given-within p e w = rw e at w
 
-pub given-moved : (at : ℕ) {checksum : Option Part} {q : Part} (p : Part) → checksum ≡ Some p → q ≡ moved_part at p → Some q ≡ moved_checksum at checksum
+pub given-moved : (at : ℕ) {checksum : LentOption Part} {q : Part} (p : Part) → checksum ≡ Some p → q ≡ moved_part at p → Some q ≡ moved_checksum at checksum
 given-moved at p e f = rw (e, f)
 
-checksum-is : (text : Bytes) (at : ℕ) (checksum : Option Part) → checksum_part text (moved_checksum at checksum) ≡ checksum_part (drop at text) checksum
+checksum-is : (text : Bytes) (at : ℕ) (checksum : LentOption Part) → checksum_part text (moved_checksum at checksum) ≡ checksum_part (drop at text) checksum
 checksum-is text at (Some p) = ap (λ (b : Bytes). some b) (moved-is text at p)
 checksum-is text at None = refl
 
-checksum-inside : (text : Bytes) (at len : ℕ) (checksum : Option Part) → at + len ≤ length text → ChecksumWithin len checksum → ChecksumInside text (moved_checksum at checksum)
+checksum-inside : (text : Bytes) (at len : ℕ) (checksum : LentOption Part) → at + len ≤ length text → ChecksumWithin len checksum → ChecksumInside text (moved_checksum at checksum)
 checksum-inside text at len (Some p) h w = omega arith
 checksum-inside text at len None h w = tt
 
@@ -115,7 +115,7 @@ pub row_as : {at len : ℕ} {lent found : LentRecord} {r : Row} → lent ≡ fou
 row_as e ω = rw e ω
 
 module _ {at len : ℕ} {r : Row} where
-  pub start_of : {start : ℕ} {end : Option ℕ} {p q : Part} → q ≡ moved_part at p → TextsWithin len (Lent.FunctionName start end p)
+  pub start_of : {start : ℕ} {end : LentOption ℕ} {p q : Part} → q ≡ moved_part at p → TextsWithin len (Lent.FunctionName start end p)
       → Makes r (λ text. function_item (function_of (part_in text q) (some (extent_at start (given_in end))) 0)) (λ text. PartInside text q) → RowOf at len (Lent.FunctionName start end p) r
   start_of {start} {end} {p} f w μ = record {
     is = λ text. μ.is text ∙ rw f (ap (λ (b : Bytes). function_item (function_of b (some (extent_at start (given_in end))) 0)) (moved-is text at p));
@@ -131,11 +131,11 @@ module _ {at len : ℕ} {r : Row} where
     adds = λ k. function-row [] r (function_of (part_in [] q) none count) (μ.is []);
   }
 
-  pub branch_of : {line block branch : ℕ} {taken : Option ℕ} → Makes r (λ text. branch_item line block branch (given_in taken)) (λ text. Unit {0})
+  pub branch_of : {line block branch : ℕ} {taken : LentOption ℕ} → Makes r (λ text. branch_item line block branch (given_in taken)) (λ text. Unit {0})
       → RowOf at len (Lent.BranchData line block branch taken) r
   branch_of μ = record { is = μ.is; inner = λ text h. μ.inner text tt; adds = λ k. absurd (omega arith) }
 
-  pub line_of : {line count : ℕ} {checksum given : Option Part} → given ≡ moved_checksum at checksum → TextsWithin len (Lent.LineData line count checksum)
+  pub line_of : {line count : ℕ} {checksum given : LentOption Part} → given ≡ moved_checksum at checksum → TextsWithin len (Lent.LineData line count checksum)
       → Makes r (λ text. line_item line count (checksum_part text given)) (λ text. ChecksumInside text given) → RowOf at len (Lent.LineData line count checksum) r
   line_of {line} {count} {checksum} f w μ = record {
     is = λ text. μ.is text ∙ rw f (ap (λ (c : Option Bytes). line_item line count c) (checksum-is text at checksum));

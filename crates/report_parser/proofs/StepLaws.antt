@@ -10,11 +10,12 @@ use lib.Dec.{eqb}
 use lib.ListN.{length, take, drop}
 use Rattle.ordmap.proofs.Results.{accepted_inj, bind-accepted, impossible}
 use Rattle.table.specs.declared.Row.{Row}
+use Rattle.model.specs.declared.Fault.{Fault}
 use Rattle.model.specs.declared.Part.{Part}
 use Rattle.model.specs.declared.Record.{Record as LentRecord}
 use Rattle.model.specs.declared.Record.TheVariants as Lent
 use Rattle.model.specs.Bytes.{Bytes}
-use Rattle.std.specs.Prelude.{if◌then◌else◌, Option, Some, None}
+use Rattle.std.specs.Prelude.{if◌then◌else◌, Option as LentOption, Some, None, Result}
 use Rattle.model.specs.Answer.{Answer, accepted, ◌>>=◌}
 use Rattle.model.specs.Record.{Record, test_name, source_file, function_name, function_data, line_data, end_of_record}
 use Rattle.model.specs.Report.{Item}
@@ -25,7 +26,6 @@ use Rattle.table_item.specs.Combining.{combine_of, is_calls, calls_of}
 use Rattle.table_item.proofs.CountLaws.{function-item}
 use Rattle.section_tail.specs.Tail.{RowOfLine}
 use Rattle.section.specs.declared.State.{State}
-use Rattle.section.specs.declared.Step.{Step}
 use Rattle.section.specs.Reading.{state_of, counted, StepOf, StepBy}
 use Rattle.section.proofs.StateLaws.{step_as}
 use Rattle.report_parser.specs.Effect.{kind_number, text_part, item_in, PartWithin, ChecksumWithin, TextsWithin, moved_part, AddsItem, RowOf, RecordAt, Steps}
@@ -124,13 +124,13 @@ text-read {A = A} len bytes p make {made} e = go (bind-accepted (part_of (take l
     go : (b : Bytes) × (part_of (take len bytes) p ≡ accepted b) × (◌≡◌ {A = Answer A} (accepted (make b)) (accepted made)) → PartWithin len p × (make (part_in bytes p) ≡ made)
     go (b, f, g) = let t = part-read len bytes p f in (t.0, ap make t.1 ∙ accepted_inj g)
 
-checksum-read : (len : ℕ) (bytes : Bytes) (checksum : Option Part) {given : Option Bytes} → checksum_in (take len bytes) checksum ≡ accepted given
+checksum-read : (len : ℕ) (bytes : Bytes) (checksum : LentOption Part) {given : Option Bytes} → checksum_in (take len bytes) checksum ≡ accepted given
     → ChecksumWithin len checksum × (checksum_part bytes checksum ≡ given)
 unfolding checksum_in
 checksum-read len bytes (Some p) e = text-read len bytes p (λ b. some b) e
 checksum-read len bytes None e = (tt, accepted_inj e)
 
-line_read : (len : ℕ) (bytes : Bytes) (line count : ℕ) (checksum : Option Part) {made : Record}
+line_read : (len : ℕ) (bytes : Bytes) (line count : ℕ) (checksum : LentOption Part) {made : Record}
     → (checksum_in (take len bytes) checksum >>= λ given. accepted (line_data line count given)) ≡ accepted made
     → ChecksumWithin len checksum × (line_data line count (checksum_part bytes checksum) ≡ made)
 line_read len bytes line count checksum {made} e = go (bind-accepted (checksum_in (take len bytes) checksum) (λ given. accepted (line_data line count given)) e)
@@ -224,7 +224,7 @@ moved_inside text at len p there μ h w = rw μ (omega arith)
 abbrev doing : List ℕ → List ℕ → ℕ → State → LentRecord → ℕ → ℕ → Answer ModelState
 doing text ws index st lent at k = meaning k (part_in (drop at text) (text_part lent)) (item_in (drop at text) lent) (state_of text ws index st)
 
-module _ {text ws ws' : List ℕ} {index limit : ℕ} {st : State} {lent : LentRecord} {at len : ℕ} {r : Step} {k : ℕ} (κ : k ≡ kind_number lent) where
+module _ {text ws ws' : List ℕ} {index limit : ℕ} {st : State} {lent : LentRecord} {at len : ℕ} {r : Result State Fault} {k : ℕ} (κ : k ≡ kind_number lent) where
   stepped : (f : Answer ModelState) → ((made : Record) → Read len (drop at text) lent made → f ≡ doing text ws index st lent at k)
       → ((made : Record) → Read len (drop at text) lent made → StepOf text ws' index limit (counted limit f) r) → Steps text ws ws' index limit st lent at len r
   stepped f e σ = record {

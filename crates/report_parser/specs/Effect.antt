@@ -1,7 +1,8 @@
 -- What a record of a line does to the reading state. The line is the part of the text from `at` with `len` bytes. Assumes nothing.
-use Rattle.std.specs.Prelude.{ℕ, ◌+◌, ◌≤◌, ◌≡◌, List, length, drop, Option, Some, None}
+use Rattle.std.specs.Prelude.{ℕ, ◌+◌, ◌≤◌, ◌≡◌, List, length, drop, Option, Some, None, Result}
 use Rattle.std.proofs.Math.Option.{none, some}
 use Rattle.table.specs.declared.Row.{Row}
+use Rattle.model.specs.declared.Fault.{Fault}
 use Rattle.model.specs.declared.Part.{Part}
 use Rattle.model.specs.declared.Record.{Record as LentRecord}
 use Rattle.model.specs.declared.Record.TheVariants as Lent
@@ -13,7 +14,6 @@ use Rattle.model.specs.Parts.{given_in, record_in}
 use Rattle.model.specs.Reading.{effect}
 use Rattle.table_item.specs.Items.{part, part_in, checksum_part, kind_of, function_kind, item_of, ItemRow}
 use Rattle.section.specs.declared.State.{State}
-use Rattle.section.specs.declared.Step.{Step}
 use Rattle.section.specs.Reading.{StepBy}
 
 -- ---- a record's kind and texts
@@ -137,5 +137,5 @@ pub record RecordAt (text : Bytes) (at len : ℕ) (lent : LentRecord) : Type 0 w
   pub is : record_in (part text at len) lent ≡ accepted made
 
 -- the step is the effect of the record that the line's record is
-pub record Steps (text ws ws' : List ℕ) (index limit : ℕ) (st : State) (lent : LentRecord) (at len : ℕ) (r : Step) : Type 0 where
+pub record Steps (text ws ws' : List ℕ) (index limit : ℕ) (st : State) (lent : LentRecord) (at len : ℕ) (r : Result State Fault) : Type 0 where
   pub by : (made : Record) → record_in (part text at len) lent ≡ accepted made → StepBy (effect made) text ws ws' index limit st r

@@ -6,8 +6,8 @@ ghost use Rattle.model.specs.Limits.{u64_max};
 ghost use Rattle.section.specs.Reading.{HoldsState};
 ghost use Rattle.report_parser.specs.Effect.{kind_number, text_part, moved_part, moved_checksum, PartWithin, ChecksumWithin, TextsWithin, RowOf, RecordAt, Steps, AddsItem};
 
-use model::{Part, Record};
-use section::{State, Step, on_end_of_record, on_item, on_source_file, on_test_name, open_section};
+use model::{Fault, Part, Record};
+use section::{State, on_end_of_record, on_item, on_source_file, on_test_name, open_section};
 use table::Row;
 use table_item::{branch_row, calls_row, line_row, start_row};
 
@@ -129,7 +129,7 @@ pub fn step(
     record: Record,
     at: usize,
     len: usize,
-) -> Step
+) -> Result<State, Fault>
     requires { HoldsState text.now words.old index limit state × (at + len ≤ length text.now) × RecordAt text.now at len «record» }
     ensures { Steps text.now words.old words.new index limit state «record» at len result }
 {

@@ -54,4 +54,4 @@ returns-in-Err c =
     let ζ = c.requires.0 in
     let kept : c.args.state.kept < h.result = header-free ζ.space h.ensures (omega arith) in
     line_refused ζ h.ensures h.auto.words kept u.ensures u.auto.words c.args.row c.args.accumulate
-    c.in-Err.fault (adding_as c.in-Err.is c.capacity.ensures c.add_row.ensures)
+    _ (adding_as c.in-Err.is c.capacity.ensures c.add_row.ensures)

@@ -9,7 +9,7 @@ move_checksum_spec =
     tie.close
     (tie.spec
     (λ c. search rules)
-    (λ c κs. (c.before.requires.0, given-within _ c.in-Given.is c.before.requires.1))
+    (λ c κs. (c.before.requires.0, given-within _ c.in-Some.is c.before.requires.1))
     (λ c. search rules)
-    (λ c. given-moved c.before.before.args.at _ c.before.in-Given.is c.move_part.ensures)
+    (λ c. given-moved c.before.before.args.at _ c.before.in-Some.is c.move_part.ensures)
     (λ c. search rules))
