@@ -135,7 +135,7 @@ fn scan_all(list: &[Range], used: usize, start: u32, end: u32) -> Scan
     found
 }
 
-fn call_answer(found: Scan, used: usize, len: usize) -> Result<bool, Refusal>
+fn query_answer(found: Scan, used: usize, len: usize) -> Result<bool, Refusal>
     ensures { result ≡ call_answer (scan_answer found used len) }
 {
     if len < used {

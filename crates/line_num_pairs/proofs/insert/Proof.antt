@@ -40,7 +40,7 @@ insert_spec =
     (λ c. omega arith)
     (λ c κs. search rules)
     (λ c. search rules)
-    (λ c. let μ = meets c.before.before.before in insert_called _ _ _ _ (full_answer _ _ _ _ _ _ _ μ (omega arith) _ c.unplaced-then-pairs-n.ensures) (full_slice _ _ _ _ _ _ _ μ (omega arith)))
+    (λ c. let μ = meets c.before.before.before in insert_called _ _ _ _ (full_answer _ _ _ _ _ _ _ μ (omega arith) _ c.from-then-pairs-n.ensures) (full_slice _ _ _ _ _ _ _ μ (omega arith)))
     (λ c κs. omega arith)
     (λ c. search rules)
     (λ c. let μ = meets c.before.before.before.before.before in insert_called _ _ _ _ (put_answer _ _ _ _ _ _ _ μ (omega arith)) (put_slice _ _ _ _ _ _ _ μ (omega arith) _ c.before.put_joined.ensures)))
