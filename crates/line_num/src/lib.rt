@@ -152,7 +152,7 @@ pub fn query(list: &[Range], used: usize, s: u32, e: u32) -> Result<bool, Refusa
     ensures { ValueCall (query_call list.now used s e) result }
 {
     let found = scan_all(list, used, s, e);
-    call_answer(found, used, list.len())
+    query_answer(found, used, list.len())
 }
 
 // The steps of an insert: the first `reads` read one range each and write them back with the new range among them; the
