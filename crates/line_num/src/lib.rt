@@ -211,7 +211,7 @@ fn plan_of(found: Scan, used: usize, len: usize) -> Plan
     planned(found, 0, 0, 0, 0)
 }
 
-fn length_answer(found: Scan, used: usize, len: usize) -> Result<usize, Refusal>
+fn insert_answer(found: Scan, used: usize, len: usize) -> Result<usize, Refusal>
     ensures { result ≡ answer_of found used len }
 {
     if len < used {
@@ -303,7 +303,7 @@ pub fn insert(list: &mut [Range], used: usize, start: u32, end: u32) -> Result<u
     let found = scan_all(list, used, start, end);
     let plan = plan_of(found, used, len);
     rewrite(list, plan);
-    length_answer(found, used, len)
+    insert_answer(found, used, len)
 }
 
 // The ranges of a list by value.
