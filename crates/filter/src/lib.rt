@@ -5,7 +5,7 @@
 ghost use Rattle.std.specs.Prelude.{◌≡◌, true, List, map, ℕ, ◌+◌, ◌-◌, ◌≤◌, ◌<◌, length, take};
 ghost use Rattle.table.specs.Rows.{word, row_at};
 ghost use Rattle.table.specs.Store.{row};
-ghost use Rattle.model.specs.Calls.{write_answer};
+ghost use Rattle.model.specs.Calls.{length_answer};
 ghost use Rattle.model.specs.declared.Bound.TheVariants.{GreaterStart};
 ghost use Rattle.model.specs.Filter.{line_of, is_held, start_line, has_start, end_before, bounding, end_or, filter_section};
 ghost use Rattle.model.specs.Limits.{max_entries};
@@ -471,7 +471,7 @@ pub fn print_filtered(
 ) -> Result<usize, Refusal>
     requires table { Table text.now words.old index used n × (n ≤ max_entries) × (well_formed_ranges (ranges_in pairs.now) count ≡ true) }
     requires used_bound { (index + used ≤ spare) × (spare + n + n ≤ length words.old) }
-    ensures value { result ≡ write_answer (written (length out.old) (print_sections (tag_of tags.entry) (map (filter_section bound (take count (ranges_in pairs.now))) (sections (entries_at text.now words.old index n))))) }
+    ensures value { result ≡ length_answer (written (length out.old) (print_sections (tag_of tags.entry) (map (filter_section bound (take count (ranges_in pairs.now))) (sections (entries_at text.now words.old index n))))) }
     ensures out_after { out.new ≡ output_after (written (length out.old) (print_sections (tag_of tags.entry) (map (filter_section bound (take count (ranges_in pairs.now))) (sections (entries_at text.now words.old index n))))) out.old }
 {
     let needed = required_len(

@@ -40,11 +40,11 @@ module _ {bytes out out₁ : Bytes} {needed : ℕ} (enough : RequiredLength out 
     unfolding written
     is-short = let e : leb (length bytes) (length out) ≡ false = lt-leb (length bytes) (length out) (omega (arith, needed-is, size)) in rw e
 
-    pub short_answer : {r : Result ℕ Refusal} → r ≡ length_answer (refuse_length needed) → r ≡ length_answer (written (length out) bytes)
+    pub short_answer : {r : Result ℕ Refusal} → r ≡ length_answer {A = ℕ} (refuse_length needed) → r ≡ length_answer (written (length out) bytes)
     unfolding length_answer
     short_answer e =
         let once : min (min (length bytes) u64_max) u64_max ≡ min (length bytes) u64_max = omega arith in
-        e ∙ ap (λ (m : ℕ). length_answer (refuse_length m)) needed-is ∙ (rw once) ∙ sym (ap length_answer is-short)
+        e ∙ ap (λ (m : ℕ). length_answer {A = ℕ} (refuse_length m)) needed-is ∙ (rw once) ∙ sym (ap length_answer is-short)
 
     pub short-out : out₁ ≡ output_after (written (length out) bytes) out
     unfolding output_after
@@ -76,6 +76,6 @@ module _ {bytes out out₁ : Bytes} {needed : ℕ} (enough : RequiredLength out 
           second.after ∙ ap (λ (m : ℕ). bytes ++ drop m out) (zero-add (length bytes)) ∙ sym (ap (λ (a : Answer Bytes). output_after a out) is-written)
 
 pub short-is : (needed : ℕ) → needed ≤ u64_max
-    → Err (record { fault = OutputTooShort; text = 0; line = 0; field = 0; needed = needed }) ≡ length_answer (refuse_length needed)
+    → Err (record { fault = OutputTooShort; text = 0; line = 0; field = 0; needed = needed }) ≡ length_answer {A = ℕ} (refuse_length needed)
 unfolding length_answer
 short-is needed h = let e : min needed u64_max ≡ needed = omega arith in rw e

@@ -115,3 +115,15 @@ module _ {printed : List ℕ → ℕ → Bytes} {bytes : Bytes} {ws ws₁ out ou
 
   pub emitted_again : {out₂ : Bytes} {len : ℕ} → Emitted true out₁ out₂ 0 (printed ws₁ 0) len → Emitted true out₁ out₂ 0 bytes len
   emitted_again ε = rw again at ε
+
+-- what the length of a report promises
+pub report_measured : (tag : Kind → Bytes) {text ws ws₁ out out₁ : List ℕ} {index used n spare needed : ℕ} → PrintableTable text ws index used n spare
+    → UnchangedBefore ws ws₁ spare → RequiredLength out out₁ (printed_from tag text index n ws 0) needed → length out * 1 < 2 ^ 63
+    → Measured (printed_from tag text index n) (print_report tag (entries_at text ws index n)) ws ws₁ out out₁ n spare needed
+report_measured tag {text} {ws} {index = index} {n = n} π spared enough few = record {
+  prints = report_prints tag π;
+  is = ap (print_report tag) (entries-all text ws index n);
+  spared = spared;
+  enough = enough;
+  few = few;
+}

@@ -36,6 +36,13 @@ pub record Here (tag : Kind → Bytes) (write : Bool) (text ws out : List ℕ) (
   pub few : length out * 1 < 2 ^ 63
   pub place : at ≤ u64_max
 
+pub here : {tag : Kind → Bytes} {write : Bool} {text ws out : List ℕ} {index used n spare lo at : ℕ} {header : Row} {r : KindRanges}
+    → PrintableTable text ws index used n spare × (lo < n) × (kind_of (row ws index lo) ≡ 0) → header ≡ row ws index lo → AreKindRanges ws index n (lo + 1) r
+    → RoomFor write out at (printed_from tag text index n ws lo) → length out * 1 < 2 ^ 63 → at ≤ u64_max
+    → Here tag write text ws out index used n spare lo at header r
+here π is runs room few place =
+    record { spacious = π.0; more = π.1; kind = π.2; is = is; runs = runs; room = room; few = few; place = place }
+
 module _ {tag : Kind → Bytes} {write : Bool} {text ws out : List ℕ} {index used n spare lo at : ℕ} {header : Row} {r : KindRanges}
     (η : Here tag write text ws out index used n spare lo at header r) where
   abbrev functions : Bytes

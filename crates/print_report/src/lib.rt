@@ -2,10 +2,10 @@
 // branches, lines, end_of_record." Where the output may be too short, a measuring pass with the same code comes first.
 #![tactic(auto)]
 
-ghost use Rattle.std.specs.Prelude.{◌≡◌, true, ◌++◌, ◌+◌, ◌≤◌, ◌<◌, length};
+ghost use Rattle.std.specs.Prelude.{◌≡◌, ℕ, true, ◌++◌, ◌+◌, ◌≤◌, ◌<◌, length};
 ghost use Rattle.table.specs.Store.{Store, row};
 ghost use Rattle.model.specs.Answer.{refuse_length};
-ghost use Rattle.model.specs.Calls.{write_answer};
+ghost use Rattle.model.specs.Calls.{length_answer};
 ghost use Rattle.model.specs.Limits.{max_entries};
 ghost use Rattle.model.specs.Lists.{sort};
 ghost use Rattle.model.specs.Output.{written, output_after};
@@ -242,7 +242,7 @@ fn print_sections(
 
 // Refusal 14.
 pub fn too_short(needed: usize) -> Result<usize, Refusal>
-    ensures { result ≡ write_answer (refuse_length needed) }
+    ensures { result ≡ length_answer {A = ℕ} (refuse_length needed) }
 {
     Err(Refusal {
         fault: Fault::OutputTooShort,
@@ -288,7 +288,7 @@ pub fn print_report(
 ) -> Result<usize, Refusal>
     requires table { Table text.now words.old index used n × (n ≤ max_entries) }
     requires used_bound { (index + used ≤ spare) × (spare + n + n ≤ length words.old) }
-    ensures value { result ≡ write_answer (written (length out.old) (print_report (tag_of tags.entry) (entries_at text.now words.old index n))) }
+    ensures value { result ≡ length_answer (written (length out.old) (print_report (tag_of tags.entry) (entries_at text.now words.old index n))) }
     ensures out_after { out.new ≡ output_after (written (length out.old) (print_report (tag_of tags.entry) (entries_at text.now words.old index n))) out.old }
 {
     let needed = required_len(tags, text, words, index, used, n, spare, out);

@@ -4,7 +4,7 @@
 
 ghost use Rattle.std.specs.Prelude.{◌≡◌, List, ◌∷◌, ℕ, ◌+◌, ◌-◌, ◌≤◌, ◌<◌, length};
 ghost use Rattle.table.specs.Store.{row};
-ghost use Rattle.model.specs.Calls.{write_answer};
+ghost use Rattle.model.specs.Calls.{length_answer};
 ghost use Rattle.model.specs.Limits.{max_entries};
 ghost use Rattle.model.specs.Output.{written, output_after};
 ghost use Rattle.table_item.specs.Items.{part, kind_of};
@@ -236,7 +236,7 @@ fn print_lines(
 // Prints the page of the first n rows, all of which are entries. An output that is too short stays.
 pub fn print_page(text: &[u8], words: &[u64], index: usize, n: usize, out: &mut [u8]) -> Result<usize, Refusal>
     requires { Table text.now words.now index n n × (n ≤ max_entries) }
-    ensures value { result ≡ write_answer (written (length out.old) (page (entries_at text.now words.now index n))) }
+    ensures value { result ≡ length_answer (written (length out.old) (page (entries_at text.now words.now index n))) }
     ensures out_after { out.new ≡ output_after (written (length out.old) (page (entries_at text.now words.now index n))) out.old }
 {
     let needed = print_lines(text, words, index, n, out, false);

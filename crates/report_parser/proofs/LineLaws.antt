@@ -1,13 +1,11 @@
 -- One line of the loop, as the code meets it: the line is a part of the text that the code cut. Assumes nothing.
 use Rattle.std.specs.Prelude.{Result, Ok, Err}
-use Prim.Native.Nat.{ℕ, ◌+◌, ◌-◌, ◌^◌, ◌≤◌, ◌<◌}
+use Prim.Native.Nat.{ℕ, ◌+◌, ◌-◌, ◌≤◌, ◌<◌}
 use native.Mathlib.Omega.{arith}
 use mathlib.Core.Path.{◌≡◌, sym, ap, ◌∙◌}
 use mathlib.Core.List.{List}
 use lib.ListN.{length, take, drop, length-drop}
 use lib.Seq.{take_all}
-use mir.Val.{Fits}
-use mir.Syntax.{w64}
 use Rattle.model.specs.declared.Kind.{Kind}
 use Rattle.model.specs.declared.Record.{Record as LentRecord}
 use Rattle.model.specs.declared.Refusal.{Refusal}
@@ -45,9 +43,6 @@ module _ (text : List ℕ) (at len : ℕ) where
   -- it ends within the text
   pub line-end : at < length text → len ≤ length (rest_of text at) → at + len ≤ length text
   line-end h e = omega (arith, ap length (rest_all text at), length-drop at text)
-
-  pub line-end-fits : at < length text → len ≤ length (rest_of text at) → length text < 2 ^ 64 → Fits w64 (at + len)
-  line-end-fits h e b = record { fits = omega (arith, line-end h e) }
 
 -- the answer about the line as the code lends it is that about the line
 as_lent : (tag : Kind → Bytes) (text : List ℕ) (at len : ℕ) (got : Result LentRecord Refusal) → ValueCall (lent_record tag (line_of text at len)) got

@@ -134,10 +134,6 @@ module _ {text ws : List ℕ} {index limit : ℕ} {st : State} (ζ : HoldsState 
 
 -- ---- end_of_record
 
--- a state with items is inside
-pub items-inside : {text ws : List ℕ} {index limit : ℕ} {st : State} → HoldsState text ws index limit st → rows_of st.sizes ≢ 0 → st.kept < st.used
-items-inside ζ h = by-inside ζ (λ o. o) (λ z e. absurd (h z))
-
 -- and all its rows but the tombstones are within the limit
 items_fit : {text ws : List ℕ} {index limit : ℕ} {st : State} → HoldsState text ws index limit st → rows_of st.sizes ≢ 0
     → st.kept + 1 + length (state_of text ws index st).items ≤ limit + st.tombstones

@@ -6,8 +6,7 @@ use mathlib.Core.List.{List, map}
 use Prim.Native.Nat.{ℕ, ◌+◌, ◌-◌, ◌≤◌, ◌<◌, compare, Ordering}
 use native.Mathlib.Omega.{arith}
 use lib.Dec.{compare_is_eq}
-use lib.ListN.{length, set}
-use lib.Seq.{get_or-set_same, get_or-set_other}
+use lib.ListN.{length}
 use Rattle.table.specs.declared.Row.{Row}
 use Rattle.table.specs.Places.{tabulate, Unchanged, PartitionPoint}
 use Rattle.table.specs.Rows.{word, UnchangedOutside}
@@ -85,28 +84,7 @@ section_between {text} {f} {n} σ j i m a b l e = go (compare_sections (key_of t
 pub section_itself : (text : Bytes) (f : ℕ → Row) (j : ℕ) → compare_sections (key_of text (f j)) (key_of text (f (j + 0))) ≡ Ordering.eq
 section_itself text f j = let z : j + 0 ≡ j = omega arith in rw z (sections-order.same (key_of text (f j)))
 
--- two rows that the store handed out
-pub section_as : (text : Bytes) {a b p q : Row} → a ≡ p → b ≡ q → true ≡ compare_is_eq (compare_sections (key_of text a) (key_of text b)) → compare_sections (key_of text p) (key_of text q) ≡ Ordering.eq
-section_as text {a} {b} e f h = rw (e, f) at (is_eq (compare_sections (key_of text a) (key_of text b)) (sym h))
-
 -- ---- words filled with a number
-
-pub filled_none : (ws : List ℕ) (at value : ℕ) → Filled ws ws at 0 value
-filled_none ws at value = record { there = λ k h. absurd (omega arith); kept = record { below = λ k l. refl; above = λ k l. refl } }
-
-pub filled_as : {ws₀ ws : List ℕ} {at i n value : ℕ} → Filled ws₀ ws at i value → i ≡ n → Filled ws₀ ws at n value
-filled_as φ e = rw (← e) φ
-
-pub filled-one : {ws₀ ws : List ℕ} {at i value : ℕ} → Filled ws₀ ws at i value → at + i < length ws → Filled ws₀ (set ws (at + i) value) at (i + 1) value
-filled-one {ws₀} {ws} {at} {i} {value} φ l = record {
-  there = λ k h. by-eq k i
-      (λ e. ap (λ (n : ℕ). word (set ws (at + i) value) (at + n)) e ∙ get_or-set_same ws (at + i) value 0 l)
-      (λ e. get_or-set_other ws (at + i) (at + k) value 0 (omega arith) ∙ φ.there k (omega arith));
-  kept = record {
-    below = λ k h. get_or-set_other ws (at + i) k value 0 (omega arith) ∙ φ.kept.below k h;
-    above = λ k h. get_or-set_other ws (at + i) k value 0 (omega arith) ∙ φ.kept.above k (omega arith);
-  };
-}
 
 -- ---- the loop: the insert positions of the first j are written
 

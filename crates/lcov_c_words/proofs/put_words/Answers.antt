@@ -1,10 +1,10 @@
 use Rattle.std.proofs.Common.{arith, ◌≡◌, ℕ, List, ◌++◌, length, drop, ap, sym, ◌∙◌}
 use Rattle.model.specs.Output.{output_after}
-use Rattle.format.proofs.PutLaws.{short-out, fits_out}
+use Rattle.format.proofs.PutLaws.{short_out, fits_out}
 use Rattle.lcov_c_words.proofs.put_words.Goals as goal
 
 pub returns-then-slice-lt8 : goal.returns-then-slice-lt8
-returns-then-slice-lt8 c = short-out c.args.words c.args.slice.now (omega (arith, c.if-slice-lt8.true, c.well_formed))
+returns-then-slice-lt8 c = short_out c.args.words c.args.slice.now (omega (arith, c.if-slice-lt8.true, c.well_formed))
 
 pub returns : goal.returns
 unfolding output_after
