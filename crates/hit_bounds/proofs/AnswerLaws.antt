@@ -15,7 +15,8 @@ use Rattle.model.specs.Report.{Report}
 use Rattle.model.specs.Reading.{read_text}
 use Rattle.model.specs.Gather.{entry_limit}
 use Rattle.model_bounds.specs.declared.Hits.{Hits}
-use Rattle.model_bounds.specs.Bounds.{same_keys, counts_rise, hits_of, bounds, hit_bounds, call_answer}
+use Rattle.model_bounds.specs.Bounds.{same_keys, counts_rise, hits_of, bounds, hit_bounds}
+use Rattle.model.specs.Calls.{call_answer}
 use Rattle.table_section.specs.Sections.{entries_at}
 use Rattle.report_parser.specs.declared.TextRead.{TextRead as TextSizes}
 use Rattle.report_parser.specs.Reader.{TextRead}
@@ -28,16 +29,16 @@ use Rattle.hit_bounds.specs.Pairs.{ReadRest, bounds_behind}
 
 module _ (low high : Report) where
   pub other_keys : same_keys low high ≡ false → (r : Refusal) → r ≡ unplaced DifferentKeys → Err r ≡ call_answer (bounds low high)
-  unfolding bounds
+  unfolding bounds call_answer
   other_keys k r e = rw (e, k)
 
   module _ (same : same_keys low high ≡ true) where
     pub count_above : counts_rise low high ≡ false → (r : Refusal) → r ≡ unplaced LeastAboveGreatest → Err r ≡ call_answer (bounds low high)
-    unfolding bounds
+    unfolding bounds call_answer
     count_above c r e = rw (e, same, c)
 
-    pub both_counted : counts_rise low high ≡ true → (l g : Hits) → l ≡ hits_of low → g ≡ hits_of high → Ok_BoundsAnswer l g ≡ call_answer (bounds low high)
-    unfolding bounds
+    pub both_counted : counts_rise low high ≡ true → (l g : Hits) → l ≡ hits_of low → g ≡ hits_of high → Ok (record { least = l; greatest = g }) ≡ call_answer (bounds low high)
+    unfolding bounds call_answer
     both_counted c l g e f = rw (e, f, same, c)
 
 -- ---- one text
@@ -63,7 +64,7 @@ module _ (tag : Kind → Bytes) (text ws : List ℕ) (limit : ℕ) (r : Result T
 
 module _ (tag : Kind → Bytes) (least greatest : Bytes) (words limit : ℕ) (at-limit : limit ≡ entry_limit words) (ws : List ℕ) (got : Result TextSizes Refusal) (t : TextRead tag least (take (base_at limit) ws) (index_at limit) limit 0 got) where
   pub least-refused : (q r : Refusal) → got ≡ Err q → r ≡ in_text_of 0 q → Err r ≡ call_answer (hit_bounds tag least greatest words)
-  unfolding hit_bounds
+  unfolding hit_bounds call_answer
   least-refused q r e h =
       let read = refused-is tag least (take (base_at limit) ws) limit got t q e in
       rw (h, ← at-limit, ← read)
@@ -71,7 +72,15 @@ module _ (tag : Kind → Bytes) (least greatest : Bytes) (words limit : ℕ) (at
   pub least-read : (kept used : ℕ) → got ≡ Ok (record { kept = kept; used = used }) → (r : Result Bounds Refusal)
       → r ≡ call_answer (bounds_behind tag (entries_at least (take (base_at limit) ws) (index_at limit) kept) greatest limit)
       → r ≡ call_answer (hit_bounds tag least greatest words)
-  unfolding hit_bounds
+  unfolding hit_bounds call_answer
   least-read kept used e r h =
       let read = read_is tag least (take (base_at limit) ws) limit got t kept used e in
       h ∙ rw (← at-limit, ← read)
+
+-- the greatest text is not readable
+module _ (tag : Kind → Bytes) (low : Report) (greatest ws : Bytes) (limit : ℕ) (got : Result TextSizes Refusal) (t : TextRead tag greatest ws (index_at limit) limit 0 got) where
+  pub behind-refused : (q r : Refusal) → got ≡ Err q → r ≡ in_text_of 1 q → Err r ≡ call_answer (bounds_behind tag low greatest limit)
+  unfolding call_answer
+  behind-refused q r e h =
+      let read = refused-is tag greatest ws limit got t q e in
+      rw (h, ← read)

@@ -228,9 +228,11 @@ fn compare_tables(
 {
     if keys_agree(least, low, l, greatest, high, h, index) {
         if counts_rise(low, l.used, high, h.used, h.kept, index) {
+            let least_hits = count_hits(low, index, l);
+            let greatest_hits = count_hits(high, index, h);
             return Ok(Bounds {
-                least: count_hits(low, index, l),
-                greatest: count_hits(high, index, h),
+                least: least_hits,
+                greatest: greatest_hits,
             });
         }
         return Err(Refusal::from(Fault::LeastAboveGreatest));
@@ -264,7 +266,12 @@ fn compare_halves(
 }
 
 // Reads a text into the front of the scratch, where a gather has its joined table.
-fn read_front(tags: Tags, text: &[u8], scratch: &mut [u64], limit: usize) -> Result<TextRead, Refusal>
+fn read_front(
+    tags: Tags,
+    text: &[u8],
+    scratch: &mut [u64],
+    limit: usize,
+) -> Result<TextRead, Refusal>
     requires scratch_room { ScratchRoom scratch.old limit }
     ensures { TextIsRead (tag_of tags.entry) text.now (take (base_at limit) scratch.new) (index_at limit) limit 0 result }
 {
@@ -274,7 +281,12 @@ fn read_front(tags: Tags, text: &[u8], scratch: &mut [u64], limit: usize) -> Res
 }
 
 // Reads a text into the words behind it.
-fn read_rest(tags: Tags, text: &[u8], scratch: &mut [u64], limit: usize) -> Result<TextRead, Refusal>
+fn read_rest(
+    tags: Tags,
+    text: &[u8],
+    scratch: &mut [u64],
+    limit: usize,
+) -> Result<TextRead, Refusal>
     requires scratch_room { ScratchRoom scratch.old limit }
     ensures { ReadRest (tag_of tags.entry) text.now scratch.old scratch.new limit result }
 {
@@ -308,7 +320,12 @@ fn find_behind(
 }
 
 // The bounds of the hit numbers of a run whose counts are known by two texts. E is for each text by itself.
-pub fn find_bounds(tags: Tags, least: &[u8], greatest: &[u8], scratch: &mut [u64]) -> Result<Bounds, Refusal>
+pub fn find_bounds(
+    tags: Tags,
+    least: &[u8],
+    greatest: &[u8],
+    scratch: &mut [u64],
+) -> Result<Bounds, Refusal>
     ensures { result ≡ call_answer (hit_bounds (tag_of tags.entry) least.now greatest.now (length scratch.old)) }
 {
     let limit = scratch_layout::entry_limit(scratch.len());

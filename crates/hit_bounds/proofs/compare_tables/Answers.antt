@@ -1,3 +1,4 @@
+-- `hit_bounds::compare_tables` meets its contract. Assumes nothing.
 use Rattle.std.proofs.Common.{sym, ◌∙◌, arith}
 use Rattle.table_section.specs.Sections.{entry_at}
 use Rattle.hit_bounds.proofs.ListLaws.{same_length, rise_kept}
@@ -22,9 +23,9 @@ pub returns-then-keys_agree : goal.returns-then-keys_agree
 returns-then-keys_agree c =
     let keys = sym c.keys_agree.ensures ∙ c.if-keys_agree.true in
     let rise = c.counts_rise.ensures c.args.least.now c.args.greatest.now in
-    count_above _ _ keys (rise_kept _ _ _ _ keys _ _ rise c.if-counts_rise.false) _ c.unplaced.ensures
+    count_above _ _ keys (rise_kept _ _ _ _ keys _ _ rise c.if-counts_rise.false) _ c.from.ensures
 
 pub returns : goal.returns
 returns c =
     let keys = sym c.keys_agree.ensures ∙ c.if-keys_agree.false in
-    other_keys _ _ keys _ c.unplaced-2.ensures
+    other_keys _ _ keys _ c.from-2.ensures

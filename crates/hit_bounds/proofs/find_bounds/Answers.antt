@@ -9,4 +9,4 @@ returns-in-Err c =
 
 pub returns-in-Ok : goal.returns-in-Ok
 returns-in-Ok c =
-    least-read (tags_of c.args.tags.table.now) c.args.least.now c.args.greatest.now _ c.entry_limit-limit.result c.entry_limit-limit.ensures _ _ c.read_front.ensures c.in-Ok.kept c.in-Ok.used c.in-Ok.is _ c.find_behind.ensures
+    least-read (tags_of c.args.tags.table.now) c.args.least.now c.args.greatest.now _ c.entry_limit-limit.result c.entry_limit-limit.ensures _ _ c.read_front.ensures c.in-Ok.read.kept c.in-Ok.read.used c.in-Ok.is _ c.find_behind.ensures

@@ -14,6 +14,6 @@ read_front_spec =
     (λ c κs. search rules)
     (λ c. search (base_inside, rules))
     (λ c. search (front_long, base_inside, rules))
-    (λ c κs. (search rules, (search (front-room, room_as, rules), search rules)))
+    (λ c κs. (search (front-room, room_as, rules), search rules))
     (λ c. search (lent_size, base_inside, rules))
     (λ c. search (front_read, lent-part, base_inside, rules)))

@@ -15,6 +15,6 @@ read_rest_spec =
     (λ c. search (base_inside, rules))
     (λ c. search (base_inside, rules))
     (λ c. search (base_inside, rules))
-    (λ c κs. (search rules, (search (behind-room, room_as, rules), search rules)))
+    (λ c κs. (search (behind-room, room_as, rules), search rules))
     (λ c. search rules)
     (λ c. search (rest_read, rules)))
