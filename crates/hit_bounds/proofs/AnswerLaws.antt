@@ -17,8 +17,7 @@ use Rattle.model.specs.Gather.{entry_limit}
 use Rattle.model_bounds.specs.declared.Hits.{Hits}
 use Rattle.model_bounds.specs.Bounds.{same_keys, counts_rise, hits_of, bounds, hit_bounds, call_answer}
 use Rattle.table_section.specs.Sections.{entries_at}
-use Rattle.report_parser.specs.declared.TextAnswer.{TextAnswer}
-use Rattle.report_parser.specs.declared.TextAnswer.TheVariants as T
+use Rattle.report_parser.specs.declared.TextRead.{TextRead as TextSizes}
 use Rattle.report_parser.specs.Reader.{TextRead}
 use Rattle.scratch_layout.specs.Layout.{index_at, base_at, ScratchRoom}
 use Rattle.joined_table.specs.Gathering.{in_text_of}
@@ -43,7 +42,7 @@ module _ (low high : Report) where
 
 -- ---- one text
 
-module _ (tag : Kind → Bytes) (text : Bytes) (limit base index : ℕ) (at_base : base ≡ base_at limit) (at-index : index ≡ index_at limit) (ys : List ℕ) (r : TextAnswer) (t : TextRead tag text ys index limit 0 r) where
+module _ (tag : Kind → Bytes) (text : Bytes) (limit base index : ℕ) (at_base : base ≡ base_at limit) (at-index : index ≡ index_at limit) (ys : List ℕ) (r : Result TextSizes Refusal) (t : TextRead tag text ys index limit 0 r) where
   pub front_read : (us : List ℕ) → take base us ≡ ys → TextRead tag text (take (base_at limit) us) (index_at limit) limit 0 r
   front_read us e = rw (← at_base, e, ← at-index) t
 
@@ -52,24 +51,24 @@ module _ (tag : Kind → Bytes) (text : Bytes) (limit base index : ℕ) (at_base
       let inside = base_inside ws limit space base at_base in
       record { read = rw (← at_base, lent-behind ws ys base inside, ← at-index) t; stays = rw (← at_base) (lent-before ws ys base inside) }
 
-module _ (tag : Kind → Bytes) (text ws : List ℕ) (limit : ℕ) (r : TextAnswer) (t : TextRead tag text ws (index_at limit) limit 0 r) where
-  pub refused-is : (q : Refusal) → r ≡ T.Refused q → refused q ≡ read_text tag limit text
+module _ (tag : Kind → Bytes) (text ws : List ℕ) (limit : ℕ) (r : Result TextSizes Refusal) (t : TextRead tag text ws (index_at limit) limit 0 r) where
+  pub refused-is : (q : Refusal) → r ≡ Err q → refused q ≡ read_text tag limit text
   refused-is q e = rw e at t.is
 
-  module _ (kept used : ℕ) (e : r ≡ T.Read kept used) where
+  module _ (kept used : ℕ) (e : r ≡ Ok (record { kept = kept; used = used })) where
     pub read_is : accepted (entries_at text ws (index_at limit) kept) ≡ read_text tag limit text
     read_is = rw e at t.is
 
 -- ---- the call
 
-module _ (tag : Kind → Bytes) (least greatest : Bytes) (words limit : ℕ) (at-limit : limit ≡ entry_limit words) (ws : List ℕ) (got : TextAnswer) (t : TextRead tag least (take (base_at limit) ws) (index_at limit) limit 0 got) where
-  pub least-refused : (q r : Refusal) → got ≡ T.Refused q → r ≡ in_text_of 0 q → Err r ≡ call_answer (hit_bounds tag least greatest words)
+module _ (tag : Kind → Bytes) (least greatest : Bytes) (words limit : ℕ) (at-limit : limit ≡ entry_limit words) (ws : List ℕ) (got : Result TextSizes Refusal) (t : TextRead tag least (take (base_at limit) ws) (index_at limit) limit 0 got) where
+  pub least-refused : (q r : Refusal) → got ≡ Err q → r ≡ in_text_of 0 q → Err r ≡ call_answer (hit_bounds tag least greatest words)
   unfolding hit_bounds
   least-refused q r e h =
       let read = refused-is tag least (take (base_at limit) ws) limit got t q e in
       rw (h, ← at-limit, ← read)
 
-  pub least-read : (kept used : ℕ) → got ≡ T.Read kept used → (r : Result Bounds Refusal)
+  pub least-read : (kept used : ℕ) → got ≡ Ok (record { kept = kept; used = used }) → (r : Result Bounds Refusal)
       → r ≡ call_answer (bounds_behind tag (entries_at least (take (base_at limit) ws) (index_at limit) kept) greatest limit)
       → r ≡ call_answer (hit_bounds tag least greatest words)
   unfolding hit_bounds

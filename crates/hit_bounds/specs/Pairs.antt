@@ -12,7 +12,9 @@ use Rattle.model_bounds.specs.declared.Bounds.{Bounds}
 use Rattle.model_bounds.specs.Bounds.{bounds}
 use Rattle.table.specs.declared.Row.{Row}
 use Rattle.table_section.specs.Sections.{Sections}
-use Rattle.report_parser.specs.declared.TextAnswer.{TextAnswer}
+use Rattle.std.specs.Prelude.{Result, Ok, Err}
+use Rattle.model.specs.declared.Refusal.{Refusal}
+use Rattle.report_parser.specs.declared.TextRead.{TextRead as TextSizes}
 use Rattle.report_parser.specs.Reader.{TextRead}
 use Rattle.scratch_layout.specs.Layout.{index_at, base_at}
 use Rattle.hit_bounds.specs.declared.Rows.{Rows}
@@ -44,7 +46,7 @@ pub record Kept (text ws : List ℕ) (index : ℕ) (rows : Rows) : Type 0 where
   pub few : rows.kept ≤ max_entries
 
 -- a text read behind the front, which stays
-pub record ReadRest (tag : Kind → Bytes) (text ws ws' : List ℕ) (limit : ℕ) (r : TextAnswer) : Type 0 where
+pub record ReadRest (tag : Kind → Bytes) (text ws ws' : List ℕ) (limit : ℕ) (r : Result TextSizes Refusal) : Type 0 where
   pub read : TextRead tag text (drop (base_at limit) ws') (index_at limit) limit 0 r
   pub stays : take (base_at limit) ws' ≡ take (base_at limit) ws
 

@@ -9,18 +9,19 @@ ghost use Rattle.model.specs.Bytes.{compare_bytes};
 ghost use Rattle.model.specs.Path.{components, compare_paths};
 ghost use Rattle.model.specs.Report.{compare_items, compare_sections, compare_keys, entry_key, count_of};
 ghost use Rattle.model.specs.Gather.{entry_limit};
-ghost use Rattle.model_bounds.specs.Bounds.{same_keys, counts_rise, hits_of, bounds, hit_bounds, call_answer};
+ghost use Rattle.model_bounds.specs.Bounds.{same_keys, counts_rise, hits_of, bounds, hit_bounds};
+ghost use Rattle.model.specs.Calls.{call_answer};
 ghost use Rattle.table.specs.Store.{Store};
 ghost use Rattle.table_item.specs.Items.{part, item_of, ItemInBounds};
 ghost use Rattle.table_section.specs.Sections.{entry_of, key_of, entries_at, NamesInBounds, RowInBounds};
-ghost use Rattle.report_parser.specs.Reader.{TextRead};
+ghost use Rattle.report_parser.specs.Reader.{TextRead as TextIsRead};
 ghost use Rattle.scratch_layout.specs.Layout.{index_at, base_at, ScratchRoom};
 ghost use Rattle.hit_bounds.specs.Pairs.{same_branch, HitsBelow, with_hit, Kept, ReadRest, bounds_behind};
 ghost use Rattle.tag_table.specs.Tags.{tag_of};
 
 use model::{Fault, Refusal};
 use model_bounds::{Bounds, Hits};
-use report_parser::TextAnswer;
+use report_parser::TextRead;
 use table::Row;
 use tag_table::Tags;
 
@@ -227,12 +228,10 @@ fn compare_tables(
 {
     if keys_agree(least, low, l, greatest, high, h, index) {
         if counts_rise(low, l.used, high, h.used, h.kept, index) {
-            let least_hits = count_hits(low, index, l);
-            let greatest_hits = count_hits(high, index, h);
-            return BoundsAnswer::Bounds {
-                least: least_hits,
-                greatest: greatest_hits,
-            };
+            return Ok(Bounds {
+                least: count_hits(low, index, l),
+                greatest: count_hits(high, index, h),
+            });
         }
         return Err(Refusal::from(Fault::LeastAboveGreatest));
     }
@@ -265,9 +264,9 @@ fn compare_halves(
 }
 
 // Reads a text into the front of the scratch, where a gather has its joined table.
-fn read_front(tags: Tags, text: &[u8], scratch: &mut [u64], limit: usize) -> TextAnswer
+fn read_front(tags: Tags, text: &[u8], scratch: &mut [u64], limit: usize) -> Result<TextRead, Refusal>
     requires scratch_room { ScratchRoom scratch.old limit }
-    ensures { TextRead (tag_of tags.entry) text.now (take (base_at limit) scratch.new) (index_at limit) limit 0 result }
+    ensures { TextIsRead (tag_of tags.entry) text.now (take (base_at limit) scratch.new) (index_at limit) limit 0 result }
 {
     let base = scratch_layout::base_at(limit);
     let index = scratch_layout::index_at(limit);
@@ -275,7 +274,7 @@ fn read_front(tags: Tags, text: &[u8], scratch: &mut [u64], limit: usize) -> Tex
 }
 
 // Reads a text into the words behind it.
-fn read_rest(tags: Tags, text: &[u8], scratch: &mut [u64], limit: usize) -> TextAnswer
+fn read_rest(tags: Tags, text: &[u8], scratch: &mut [u64], limit: usize) -> Result<TextRead, Refusal>
     requires scratch_room { ScratchRoom scratch.old limit }
     ensures { ReadRest (tag_of tags.entry) text.now scratch.old scratch.new limit result }
 {
@@ -297,9 +296,12 @@ fn find_behind(
     ensures { result ≡ call_answer (bounds_behind (tag_of tags.entry) (entries_at least.now (take (base_at limit) scratch.old) (index_at limit) l.kept) greatest.now limit) }
 {
     match read_rest(tags, greatest, scratch, limit) {
-        TextAnswer::Refused(refusal) => Err(joined_table::in_text(1, refusal)),
-        TextAnswer::Read { kept, used } => {
-            let h = Rows { used, kept };
+        Err(refusal) => Err(joined_table::in_text(1, refusal)),
+        Ok(read) => {
+            let h = Rows {
+                used: read.used,
+                kept: read.kept,
+            };
             compare_halves(least, l, greatest, h, scratch, limit)
         }
     }
@@ -311,9 +313,12 @@ pub fn find_bounds(tags: Tags, least: &[u8], greatest: &[u8], scratch: &mut [u64
 {
     let limit = scratch_layout::entry_limit(scratch.len());
     match read_front(tags, least, scratch, limit) {
-        TextAnswer::Refused(refusal) => Err(joined_table::in_text(0, refusal)),
-        TextAnswer::Read { kept, used } => {
-            let l = Rows { used, kept };
+        Err(refusal) => Err(joined_table::in_text(0, refusal)),
+        Ok(read) => {
+            let l = Rows {
+                used: read.used,
+                kept: read.kept,
+            };
             find_behind(tags, least, l, greatest, scratch, limit)
         }
     }

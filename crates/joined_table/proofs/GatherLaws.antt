@@ -27,8 +27,7 @@ use Rattle.text_choice.proofs.Positions.{choose_next, choose_past}
 use Rattle.table_section.specs.Sections.{entries_at}
 use Rattle.section.specs.Table.{Table}
 use Rattle.section.specs.Reading.{capacity}
-use Rattle.report_parser.specs.declared.TextAnswer.{TextAnswer}
-use Rattle.report_parser.specs.declared.TextAnswer.TheVariants as T
+use Rattle.report_parser.specs.declared.TextRead.{TextRead as TextSizes}
 use Rattle.report_parser.specs.Reader.{seen_text}
 use Rattle.merge.specs.Merging.{Tables, seen_joined, HeldJoined, MergedAsModel}
 use Rattle.std.specs.Prelude.{Result as Answered, Ok, Err}
@@ -47,18 +46,18 @@ space-same ws ws' limit s e = record { most = s.most; words = rw e s.words }
 
 -- ---- one text, read behind the joined table
 
-module _ (tag : Kind → Bytes) (bundle : Bytes) (body : ℕ) (ws ws' : List ℕ) (mode : Mode) (limit n i : ℕ) (got : TextAnswer) (b : ReadBehind tag bundle body ws ws' limit i got) where
+module _ (tag : Kind → Bytes) (bundle : Bytes) (body : ℕ) (ws ws' : List ℕ) (mode : Mode) (limit n i : ℕ) (got : Answered TextSizes Refusal) (b : ReadBehind tag bundle body ws ws' limit i got) where
   abbrev answer : Answer Report
   answer = gather_text tag mode limit (text_from body bundle i).bytes (joined_at bundle ws limit n)
 
   -- it is not readable
-  pub text-refused : (q r : Refusal) → got ≡ T.Refused q → r ≡ in_text_of i q → GatheredAs (in_text i answer) bundle ws' limit (Err r)
+  pub text-refused : (q r : Refusal) → got ≡ Err q → r ≡ in_text_of i q → GatheredAs (in_text i answer) bundle ws' limit (Err r)
   unfolding gather_text
   text-refused q r e h =
       let read : refused q ≡ read_text tag limit (text_from body bundle i).bytes = rw e at b.read.is in
       record { is = rw (h, ← read); held = tt }
 
-  module _ (kept used : ℕ) (e : got ≡ T.Read kept used) where
+  module _ (kept used : ℕ) (e : got ≡ Ok (record { kept = kept; used = used })) where
     read_is : accepted (entries_at bundle (drop (base_at limit) ws') (index_at limit) kept) ≡ read_text tag limit (text_from body bundle i).bytes
     read_is = rw e at b.read.is
 
@@ -101,7 +100,7 @@ module _ (tag : Kind → Bytes) (bundle : Bytes) (body : ℕ) (ws ws' : List ℕ
 
 -- ---- one text, read in front
 
-module _ (tag : Kind → Bytes) (bundle : Bytes) (body : ℕ) (ws ys us : List ℕ) (mode : Mode) (limit n i : ℕ) (got : TextAnswer) (o : ReadOne tag bundle body ys limit i got) (none_yet : n ≡ 0) where
+module _ (tag : Kind → Bytes) (bundle : Bytes) (body : ℕ) (ws ys us : List ℕ) (mode : Mode) (limit n i : ℕ) (got : Answered TextSizes Refusal) (o : ReadOne tag bundle body ys limit i got) (none_yet : n ≡ 0) where
   abbrev alone : Answer Report
   alone = gather_text tag mode limit (text_from body bundle i).bytes (joined_at bundle ws limit n)
 
@@ -110,11 +109,11 @@ module _ (tag : Kind → Bytes) (bundle : Bytes) (body : ℕ) (ws ys us : List �
   alone-is = rw none_yet (read-alone tag limit mode (text_from body bundle i).bytes) ∙ sym o.is
 
   -- it is not readable
-  pub front-refused : (q r : Refusal) → got ≡ T.Refused q → r ≡ in_text_of i q → GatheredAs (in_text i alone) bundle us limit (Err r)
+  pub front-refused : (q r : Refusal) → got ≡ Err q → r ≡ in_text_of i q → GatheredAs (in_text i alone) bundle us limit (Err r)
   front-refused q r e h = record { is = rw (alone-is, e, h); held = tt }
 
   -- all rows are the text's: they are the joined table
-  pub front-joined : (kept used base : ℕ) → got ≡ T.Read kept used → kept ≡ used → base ≡ base_at limit → take base us ≡ ys
+  pub front-joined : (kept used base : ℕ) → got ≡ Ok (record { kept = kept; used = used }) → kept ≡ used → base ≡ base_at limit → take base us ≡ ys
       → GatheredAs (in_text i alone) bundle us limit (Ok kept)
   front-joined kept used base e f g h =
       let held : Table bundle ys (index_at limit) used kept × (used ≤ capacity limit) × (kept ≤ limit) = rw e at o.held in

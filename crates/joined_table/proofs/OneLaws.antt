@@ -16,8 +16,8 @@ use Rattle.model.proofs.Read.{read_text-valid}
 use Rattle.table_section.specs.Sections.{entries_at}
 use Rattle.section.specs.Table.{Table}
 use Rattle.section.specs.Reading.{SectionRoom}
-use Rattle.report_parser.specs.declared.TextAnswer.{TextAnswer}
-use Rattle.report_parser.specs.declared.TextAnswer.TheVariants as T
+use Rattle.std.specs.Prelude.{Result, Ok, Err}
+use Rattle.report_parser.specs.declared.TextRead.{TextRead as TextSizes}
 use Rattle.report_parser.specs.Reader.{TextRead}
 use Rattle.bundle.specs.Places.{part_from, text_from}
 use Rattle.scratch_layout.specs.Layout.{index_at, base_at, ScratchRoom}
@@ -25,7 +25,7 @@ use Rattle.joined_table.specs.Gathering.{ReadOne, ReadBehind}
 use Rattle.joined_table.proofs.TableLaws.{entries_longer, table_longer}
 
 -- what was read is a table
-pub read_table : (tag : Kind → Bytes) (text ws : List ℕ) (index limit from kept used : ℕ) → TextRead tag text ws index limit from (T.Read kept used) → Table text ws index used kept
+pub read_table : (tag : Kind → Bytes) (text ws : List ℕ) (index limit from kept used : ℕ) → TextRead tag text ws index limit from (Ok (record { kept = kept; used = used })) → Table text ws index used kept
 read_table tag text ws index limit from kept used t =
     let s = t.held.0 in
     record { store = s.store; room = s.room; whole = s.whole; valid = (read_text-valid tag limit (drop from text) (sym t.is)).0 }
@@ -92,30 +92,30 @@ module _ (tag : Kind → Bytes) (bundle : Bytes) (body : ℕ) (ws : List ℕ) (l
   whole_is : take end bundle ++ drop end bundle ≡ bundle
   whole_is = take-append-drop end bundle
 
-  one_as : (r : TextAnswer) → TextRead tag (take end bundle) ws (index_at limit) limit p.start r → ReadOne tag bundle body ws limit i r
-  one_as (T.Refused q) t = record { is = t.is ∙ ap (read_text tag limit) text-is; held = tt }
-  one_as (T.Read kept used) t =
-      let table = read_table tag (take end bundle) ws (index_at limit) limit p.start kept used t in
+  one_as : (r : Result TextSizes Refusal) → TextRead tag (take end bundle) ws (index_at limit) limit p.start r → ReadOne tag bundle body ws limit i r
+  one_as (Err q) t = record { is = t.is ∙ ap (read_text tag limit) text-is; held = tt }
+  one_as (Ok sizes) t =
+      let table = read_table tag (take end bundle) ws (index_at limit) limit p.start sizes.kept sizes.used t in
       record {
         is =
             ap (λ (l : Report). accepted l)
-            (subst (λ (b : Bytes). entries_at b ws (index_at limit) kept ≡ entries_at (take end bundle) ws (index_at limit) kept) whole_is
-            (entries_longer (take end bundle) (drop end bundle) ws (index_at limit) used kept table))
+            (subst (λ (b : Bytes). entries_at b ws (index_at limit) sizes.kept ≡ entries_at (take end bundle) ws (index_at limit) sizes.kept) whole_is
+            (entries_longer (take end bundle) (drop end bundle) ws (index_at limit) sizes.used sizes.kept table))
             ∙ t.is ∙ ap (read_text tag limit) text-is;
         held = (
-          subst (λ (b : Bytes). Table b ws (index_at limit) used kept) whole_is
-              (table_longer (take end bundle) (drop end bundle) ws (index_at limit) used kept table),
+          subst (λ (b : Bytes). Table b ws (index_at limit) sizes.used sizes.kept) whole_is
+              (table_longer (take end bundle) (drop end bundle) ws (index_at limit) sizes.used sizes.kept table),
           t.held.1,
           t.held.2,
         );
       }
 
   -- as the code has the place in a local
-  pub read_one_lem : (index : ℕ) → index ≡ index_at limit → (r : TextAnswer) → TextRead tag (take end bundle) ws index limit p.start r → ReadOne tag bundle body ws limit i r
+  pub read_one_lem : (index : ℕ) → index ≡ index_at limit → (r : Result TextSizes Refusal) → TextRead tag (take end bundle) ws index limit p.start r → ReadOne tag bundle body ws limit i r
   read_one_lem index e r t = one_as r (rw e at t)
 
 -- and behind the joined table
-pub read_behind : (tag : Kind → Bytes) (bundle : Bytes) (body : ℕ) (ws ys : List ℕ) (limit i base : ℕ) (r : TextAnswer) → ScratchRoom ws limit → base ≡ base_at limit → ReadOne tag bundle body ys limit i r
+pub read_behind : (tag : Kind → Bytes) (bundle : Bytes) (body : ℕ) (ws ys : List ℕ) (limit i base : ℕ) (r : Result TextSizes Refusal) → ScratchRoom ws limit → base ≡ base_at limit → ReadOne tag bundle body ys limit i r
     → ReadBehind tag bundle body ws (lent ws ys base) limit i r
 read_behind tag bundle body ws ys limit i base r space e o =
     let inside = base_inside ws limit space base e in

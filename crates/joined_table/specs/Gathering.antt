@@ -14,8 +14,7 @@ use Rattle.bundle.specs.Places.{text_from}
 use Rattle.table_section.specs.Sections.{entries_at}
 use Rattle.section.specs.Table.{Table}
 use Rattle.section.specs.Reading.{capacity}
-use Rattle.report_parser.specs.declared.TextAnswer.{TextAnswer}
-use Rattle.report_parser.specs.declared.TextAnswer.TheVariants as T
+use Rattle.report_parser.specs.declared.TextRead.{TextRead as TextSizes}
 use Rattle.report_parser.specs.Reader.{seen_text}
 use Rattle.std.specs.Prelude.{Result as Answered, Ok, Err}
 use Rattle.scratch_layout.specs.Layout.{index_at, base_at}
@@ -37,17 +36,17 @@ pub record JoinedTable (text ws : List ℕ) (limit n : ℕ) : Type 0 where
 
 -- ---- a text that is read
 
-abbrev pub HeldOne : Bytes → List ℕ → ℕ → TextAnswer → Type 0
-HeldOne text ws limit (T.Read kept used) = Table text ws (index_at limit) used kept × (used ≤ capacity limit) × (kept ≤ limit)
-HeldOne text ws limit (T.Refused r) = Unit {0}
+abbrev pub HeldOne : Bytes → List ℕ → ℕ → Answered TextSizes Refusal → Type 0
+HeldOne text ws limit (Ok t) = Table text ws (index_at limit) t.used t.kept × (t.used ≤ capacity limit) × (t.kept ≤ limit)
+HeldOne text ws limit (Err r) = Unit {0}
 
 -- the answer is the model's for the i-th text of a bundle whose text bytes begin at `body`
-pub record ReadOne (tag : Kind → Bytes) (bundle : Bytes) (body : ℕ) (ws : List ℕ) (limit i : ℕ) (r : TextAnswer) : Type 0 where
+pub record ReadOne (tag : Kind → Bytes) (bundle : Bytes) (body : ℕ) (ws : List ℕ) (limit i : ℕ) (r : Answered TextSizes Refusal) : Type 0 where
   pub is : seen_text bundle ws (index_at limit) r ≡ read_text tag limit (text_from body bundle i).bytes
   pub held : HeldOne bundle ws limit r
 
 -- the same in the words behind the joined table, which stays
-pub record ReadBehind (tag : Kind → Bytes) (bundle : Bytes) (body : ℕ) (ws ws' : List ℕ) (limit i : ℕ) (r : TextAnswer) : Type 0 where
+pub record ReadBehind (tag : Kind → Bytes) (bundle : Bytes) (body : ℕ) (ws ws' : List ℕ) (limit i : ℕ) (r : Answered TextSizes Refusal) : Type 0 where
   pub read : ReadOne tag bundle body (drop (base_at limit) ws') limit i r
   pub stays : take (base_at limit) ws' ≡ take (base_at limit) ws
 

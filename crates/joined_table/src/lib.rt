@@ -14,7 +14,7 @@ ghost use Rattle.joined_table.specs.Gathering.{in_text_of, joined_at, JoinedTabl
 ghost use Rattle.tag_table.specs.Tags.{tag_of};
 
 use model::{Fault, Mode, Refusal};
-use report_parser::TextAnswer;
+use report_parser::TextRead;
 use tag_table::Tags;
 
 // A refusal, in the i-th text.
@@ -40,7 +40,7 @@ fn read_one(
     words: &mut [u64],
     limit: usize,
     i: usize,
-) -> TextAnswer
+) -> Result<TextRead, Refusal>
     requires texts_inside { TextsInside bundle.now body × (i < text_count bundle.now) × (limit ≤ max_entries) × SectionRoom words.old (index_at limit) limit }
     ensures { ReadOne (tag_of tags.entry) bundle.now body words.new limit i result }
 {
@@ -59,7 +59,7 @@ fn read_behind(
     scratch: &mut [u64],
     limit: usize,
     i: usize,
-) -> TextAnswer
+) -> Result<TextRead, Refusal>
     requires texts_inside { TextsInside bundle.now body × (i < text_count bundle.now) × ScratchRoom scratch.old limit }
     ensures { ReadBehind (tag_of tags.entry) bundle.now body scratch.old scratch.new limit i result }
 {
@@ -82,11 +82,13 @@ fn gather_behind(
     ensures { GatheredAs (in_text i (gather_text (tag_of tags.entry) mode limit (text_from body bundle.now i).bytes (joined_at bundle.now scratch.old limit n))) bundle.now scratch.new limit result }
 {
     match read_behind(tags, bundle, body, scratch, limit, i) {
-        TextAnswer::Refused(refusal) => Err(in_text(i, refusal)),
-        TextAnswer::Read { kept, used } => {
+        Err(refusal) => Err(in_text(i, refusal)),
+        Ok(read) => {
             let base = scratch_layout::base_at(limit);
             let index = scratch_layout::index_at(limit);
-            match merge::merge(bundle, scratch, base, index, limit, n, used, kept, mode) {
+            match merge::merge(
+                bundle, scratch, base, index, limit, n, read.used, read.kept, mode,
+            ) {
                 Ok(joined) => Ok(joined),
                 Err(fault) => Err(in_text(i, Refusal::from(fault))),
             }
@@ -113,12 +115,12 @@ fn gather_text(
     if n == 0 {
         let base = scratch_layout::base_at(limit);
         match read_one(tags, bundle, body, &mut scratch[..base], limit, i) {
-            TextAnswer::Refused(refusal) => {
+            Err(refusal) => {
                 return Err(in_text(i, refusal));
             }
-            TextAnswer::Read { kept, used } => {
-                if kept == used {
-                    return Ok(kept);
+            Ok(read) => {
+                if read.kept == read.used {
+                    return Ok(read.kept);
                 }
                 return gather_behind(tags, bundle, body, scratch, limit, 0, i, mode);
             }
