@@ -17,7 +17,7 @@ gather_highest_spec =
     (λ c κs. search (well, rules))
     (λ c κs. search (well, rules))
     (λ c. search rules)
-    (λ c κs. (search rules, search (texts-inside, rules)))
+    (λ c κs. search (texts-inside, rules))
     (λ c. search rules)
     (λ c. search (highest-gathered, rules))
     (λ c κs. search rules)

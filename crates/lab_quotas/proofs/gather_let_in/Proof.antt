@@ -14,6 +14,6 @@ gather_let_in_spec =
     (λ c κs. (search rules, search rules, search (few-texts, rules)))
     (λ c κs. (search (well_sized, rules), search (well_few, rules)))
     (λ c. search rules)
-    (λ c κs. (search rules, search (texts-inside, rules)))
+    (λ c κs. search (texts-inside, rules))
     (λ c. search rules)
     (λ c. search (let_in_gathered, rules)))

@@ -10,7 +10,7 @@ gather_marked_labs_spec =
     tie.close
     (tie.spec
     (λ c κs. search rules)
-    (λ c κs. (search rules, (search rules, search (labs_count, rules), search (labs_all, rules), search rules)))
+    (λ c κs. (search rules, search (labs_count, rules), search (labs_all, rules), search rules))
     (λ c. search rules)
     (λ c. search rules)
-    (λ c. (search rules, joint-gathered _ _ _ _ c.before.before.before.before.before.before.before.before.before.before.before.before.before.before.before.before.before.requires.1.1 _ c.before.before.before.before.before.before.before.before.before.before.before.before.before.before.before.before.before.args.marks.now _ c.before.before.before.before.before.before.before.before.before.before.before.before.before.before.before.before.before.requires.1.2 c.before.before.before.before.before.before.before.before.mark_labs.ensures _ (search rules) _ _ c.before.before.gather_let_in.ensures)))
+    (λ c. (search rules, joint-gathered _ _ _ _ c.before.before.before.before.before.before.before.before.before.before.before.before.before.before.before.before.requires.1 _ c.before.before.before.before.before.before.before.before.before.before.before.before.before.before.before.before.before.args.marks.now _ c.before.before.before.before.before.before.before.before.before.before.before.before.before.before.before.before.before.requires.1.2 c.before.before.before.before.before.before.before.before.mark_labs.ensures _ (search rules) _ _ c.before.before.gather_let_in.ensures)))

@@ -10,8 +10,8 @@ loop-i-init c = search (marks-start, rules)
 pub bounds-quotas-i : goal.bounds-quotas-i
 bounds-quotas-i c = search (quota_inside, rules)
 
-pub gather_lab-mark-requires-clause-bundle_value : goal.gather_lab-mark-requires-clause-bundle_value
-gather_lab-mark-requires-clause-bundle_value c = (search rules, search (labs_count, rules))
+pub gather_lab-mark-requires : goal.gather_lab-mark-requires
+gather_lab-mark-requires c = record { bundle_value = (search rules, search (labs_count, rules)) }
 
 pub loop-i-preserved : goal.loop-i-preserved
 loop-i-preserved c = search (marks-next, rules)
