@@ -1,5 +1,5 @@
 -- What a row's words say of its item: its start, its line, and where the function before it ends. Assumes nothing.
-use Rattle.std.specs.Prelude.{Option, Some, None}
+use Rattle.std.specs.Prelude.{Option as LentOption, Some, None}
 use Prim.Native.Nat.{ℕ, zero, suc, ◌+◌, ◌*◌, ◌-◌, ◌/◌, ◌%◌, ◌≤◌, ◌<◌}
 use native.Mathlib.Omega.{arith}
 use native.Mathlib.Nat.{add-zero}
@@ -121,7 +121,7 @@ module _ (text ws : List ℕ) (next n : ℕ) where
     end-one = sym (end-first some ∙ ap (λ (k : ℕ). k - 1) (sym start-next))
 
 -- a function's own end goes first
-module _ (row : Row) (reckoned : ℕ) (end : Option ℕ) (own : (text : Bytes) → given_in end ≡ end_of (item_of text row)) where
+module _ (row : Row) (reckoned : ℕ) (end : LentOption ℕ) (own : (text : Bytes) → given_in end ≡ end_of (item_of text row)) where
   pub end_own : (line : ℕ) → end ≡ Some line → (text : Bytes) → line ≡ end_or reckoned (end_of (item_of text row))
   unfolding given_in
   end_own line e text = ap (end_or reckoned) (sym (ap given_in e) ∙ own text)

@@ -1,5 +1,6 @@
 -- A filtered section: its lines are those of the rows that stay. Assumes nothing.
-use Prim.Native.Nat.{ℕ, ◌+◌, ◌-◌, ◌<◌}
+use Prim.Native.Nat.{ℕ, ◌+◌, ◌-◌, ◌*◌, ◌^◌, ◌<◌}
+use lib.ListN.{length}
 use native.Mathlib.Omega.{arith}
 use mathlib.Core.Path.{◌≡◌, refl, sym, ap, ap₂, ◌∙◌}
 use mathlib.Core.Bool.{Bool, true, false}
@@ -20,14 +21,15 @@ use Rattle.model.specs.Filter.{is_held, has_start, filter_items, filter_section}
 use Rattle.model.proofs.ListLaws.{All, all_map, all_select, all-sort, select_all, select_none, select_append}
 use Rattle.table_item.specs.Items.{kind_of, branch_kind, line_kind}
 use Rattle.table_item.specs.SortedItems.{items_at}
+use Rattle.table_section.specs.Sections.{entries_at}
 use Rattle.print_rows.specs.Emit.{RoomFor, Emitted}
 use Rattle.print_rows.proofs.EmitLaws.{room-first}
 use Rattle.print_report.specs.declared.KindRanges.{KindRanges}
-use Rattle.print_report.specs.Printing.{entries_from, PrintableTable, AreKindRanges, SectionPrinted, head_lines, function_lines, group_lines}
+use Rattle.print_report.specs.Printing.{entries_from, PrintableTable, AreKindRanges, UnchangedBefore, RequiredLength, SectionPrinted, head_lines, function_lines, group_lines}
 use Rattle.print_report.proofs.KindLaws.{next-header}
 use Rattle.print_report.proofs.SplitLaws.{section_lines, lines_of, items, items-functions, items-branches, items-lines, section_at, sections_at}
 use Rattle.print_report.proofs.TableLaws.{entries-kept}
-use Rattle.print_report.proofs.LoopLaws.{Prints, entries_none}
+use Rattle.print_report.proofs.LoopLaws.{Prints, entries_none, entries-all, Measured}
 use Rattle.filter.specs.declared.Kept.{Kept}
 use Rattle.filter.specs.Filtered.{filtered_from, functions_left, KeptRows, SectionPrintable, kept_lines}
 use Rattle.filter.proofs.ResortLaws.{all_held, printed_again}
@@ -260,4 +262,18 @@ unfolding print_sections print_records sections concat_map
 filtered_prints tag bound ranges {text} {ws} {index} {used} {n} π = record {
   same = λ ws' σ lo. ap (λ (e : Report). print_sections tag (map (filter_section bound ranges) (sections e))) (entries-kept π σ lo);
   none = λ lo h. ap (λ (e : Report). print_sections tag (map (filter_section bound ranges) (sections e))) (entries_none text ws index n lo h);
+}
+
+-- what the length of a filtered report promises
+pub filtered_measured : (tag : Kind → Bytes) (bound : Bound) (ranges : List Range) {text ws ws₁ out out₁ : List ℕ} {index used n spare needed : ℕ}
+    → PrintableTable text ws index used n spare → UnchangedBefore ws ws₁ spare
+    → RequiredLength out out₁ (filtered_from tag bound ranges text index n ws 0) needed → length out * 1 < 2 ^ 63
+    → Measured (filtered_from tag bound ranges text index n) (print_sections tag (map (filter_section bound ranges) (sections (entries_at text ws index n))))
+    ws ws₁ out out₁ n spare needed
+filtered_measured tag bound ranges {text} {ws} {index = index} {n = n} π spared enough few = record {
+  prints = filtered_prints tag bound ranges π;
+  is = ap (λ (r : Report). print_sections tag (map (filter_section bound ranges) (sections r))) (entries-all text ws index n);
+  spared = spared;
+  enough = enough;
+  few = few;
 }

@@ -443,7 +443,7 @@ fn required_len(
     spare: usize,
     out: &mut [u8],
 ) -> usize
-    requires printable_table { PrintableTable text.now words.old index used n spare × (well_formed_ranges (ranges_in pairs.now) count ≡ true) }
+    requires { PrintableTable text.now words.old index used n spare × (well_formed_ranges (ranges_in pairs.now) count ≡ true) }
     ensures required_length { RequiredLength out.old out.new (filtered_from (tag_of tags.entry) bound (take count (ranges_in pairs.now)) text.now index n words.old 0) result }
     ensures unchanged_before { UnchangedBefore words.old words.new spare }
 {

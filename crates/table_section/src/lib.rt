@@ -18,7 +18,8 @@ ghost use Rattle.table_section.specs.Splice.{with_section, SectionSet, HeaderRow
 use std::cmp::Ordering;
 use table::Row;
 
-// Compares two parts of the text as paths. Equal parts at one offset are not read.
+// Compares two parts of the text as paths. Equal parts at one offset are not read. It differs from `table_item::compare_parts` in the
+// comparison called: one function for both would take that as an argument, and be no plainer.
 fn compare_path_parts(text: &[u8], a: u64, n: u64, b: u64, m: u64) -> Ordering
     requires { (a + n ≤ length text.now) × (b + m ≤ length text.now) }
     ensures { order_of result ≡ compare_paths (components (part text.now a n)) (components (part text.now b m)) }

@@ -12,6 +12,6 @@ end_of_spec =
     (λ c. search rules)
     (λ c. search rules)
     (λ c. let s = c.before.before.args in
-    end_own s.row s.reckoned c.before.end_line.result c.before.end_line.ensures _ c.in-Given.is)
+    end_own s.row s.reckoned c.before.end_line.result c.before.end_line.ensures _ c.in-Some.is)
     (λ c. let s = c.before.before.args in
-    end_reckoned s.row s.reckoned c.before.end_line.result c.before.end_line.ensures c.in-Absent.is))
+    end_reckoned s.row s.reckoned c.before.end_line.result c.before.end_line.ensures c.in-None.is))
