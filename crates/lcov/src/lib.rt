@@ -32,7 +32,7 @@ ghost use Rattle.lcov.specs.Demand.{GatherCall, ReadCall, GatherTagged, ReadTagg
 ghost use Rattle.tag_table.specs.Tags.{tag_of};
 
 pub use bounds::{hit_bounds, hit_bounds_tagged};
-pub use compare::{Ordering, compare_bytes, compare_paths};
+pub use compare::{compare_bytes, compare_paths};
 pub use latest::{windows, windows_tagged};
 pub use line_num::{
     insert as insert_into_structs, insert_by_value, query as query_structs, query_by_value,
