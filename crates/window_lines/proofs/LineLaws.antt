@@ -173,7 +173,7 @@ module _ (tag : Kind → Bytes) (bundle : Bytes) (w words : ℕ) (old : Bytes) w
 
 -- ---- the call
 
-pub bytes-short : (bytes out : Bytes) → length out < length bytes → (r : Result ℕ Refusal) → r ≡ length_answer (refuse_length (length bytes)) → WriteCall (written (length out) bytes) out out r
+pub bytes-short : (bytes out : Bytes) → length out < length bytes → (r : Result ℕ Refusal) → r ≡ length_answer {A = ℕ} (refuse_length (length bytes)) → WriteCall (written (length out) bytes) out out r
 unfolding written output_after
 bytes-short bytes out h r e =
     let short : leb (length bytes) (length out) ≡ false = lt-leb (length bytes) (length out) h in

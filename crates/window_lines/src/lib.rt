@@ -130,10 +130,8 @@ fn write_lines(
     ensures { WriteCall (gather_windows (tag_of tags.entry) bundle.now width (length scratch.old) (length out.old)) out.old out.new result }
 {
     let mut lines = [0u8; MAX_LINES];
-    match put_lines(tags, bundle, width, scratch, &mut lines) {
-        Err(refusal) => Err(refusal),
-        Ok(len) => write_bytes(&lines[..len], out),
-    }
+    let len = put_lines(tags, bundle, width, scratch, &mut lines)?;
+    write_bytes(&lines[..len], out)
 }
 
 // The lines of all windows of a bundle. 24 comes right after 16.

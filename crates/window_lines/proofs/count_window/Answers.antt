@@ -15,8 +15,8 @@ mark_window-requires c = (search rules, search (few-texts, rules), search (few-t
 pub body_at-body-requires : goal.body_at-body-requires
 body_at-body-requires c = (search (well_sized, rules), search (well_few, rules))
 
-pub gather_marked-requires-clause-texts_inside : goal.gather_marked-requires-clause-texts_inside
-gather_marked-requires-clause-texts_inside c = search (texts-inside, rules)
+pub gather_marked-requires : goal.gather_marked-requires
+gather_marked-requires c = record { texts_inside = search (texts-inside, rules) }
 
 pub returns-in_err-entries : goal.returns-in_err-entries
 returns-in_err-entries c =

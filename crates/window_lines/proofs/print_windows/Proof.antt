@@ -10,7 +10,7 @@ print_windows_spec =
     (tie.spec
     (λ c κs. search rules)
     (λ c κs. search rules)
-    (λ c κs. (search rules, (search (is_well, rules), search (is_wide, rules))))
+    (λ c κs. (search (is_well, rules), search (is_wide, rules)))
     (λ c. search rules)
     (λ c. search rules)
     (λ c. search rules)
