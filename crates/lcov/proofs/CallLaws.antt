@@ -9,7 +9,6 @@ use lib.ListN.{length, take, drop, take-append-drop}
 use Rattle.model.specs.declared.Kind.{Kind}
 use Rattle.model.specs.declared.Fault.{Fault}
 use Rattle.model.specs.declared.Fault.TheVariants.{MalformedRanges}
-use Rattle.model.specs.declared.Record.{Record as LentRecord}
 use Rattle.model.specs.declared.Mode.{Mode}
 use Rattle.model.specs.declared.Mode.TheVariants.{Checked}
 use Rattle.model.specs.declared.Bound.{Bound}
@@ -18,35 +17,29 @@ use Rattle.model.specs.declared.Refusal.{Refusal}
 use Rattle.model.specs.Bytes.{Bytes}
 use Rattle.model.specs.Limits.{max_entries}
 use Rattle.model.specs.Answer.{Answer, accepted, refused, unplaced, refuse, ◌>>=◌}
-use Rattle.model.specs.TagTable.{load_tags, tagged, tags_of, are_tags}
+use Rattle.model.specs.TagTable.{load_tags, tagged}
 use Rattle.tag_table.specs.Loading.{LoadedTags, LoadedAs}
-use Rattle.tag_table.specs.declared.Loading.{Loading}
-use Rattle.tag_table.specs.declared.Loading.TheVariants.{Loaded, Refused}
+use Rattle.tag_table.specs.declared.tags.Tags.{Tags}
+use Rattle.tag_table.specs.Tags.{tag_of}
 use Rattle.model.specs.Report.{Report}
 use Rattle.model.specs.Reading.{read_text}
 use Rattle.model.specs.Printing.{sections, print_sections, print_report}
 use Rattle.model.specs.Ranges.{well_formed_ranges}
 use Rattle.model.specs.Filter.{filter_section, filter_text}
 use Rattle.model.specs.Output.{written, output_after}
-use Rattle.model.specs.Calls.{call_values, ValueCall, WriteCall, length_answer}
+use Rattle.model.specs.Calls.{call_values, ValueCall, WriteCall, call_answer, length_answer}
 use Rattle.model.proofs.CallLaws.{write_called}
 use Rattle.model.specs.Gather.{entry_limit, read_and_print, gather_bundle, gather}
 use Rattle.table_section.specs.Sections.{entries_at}
 use Rattle.section.specs.Table.{Table}
 use Rattle.section.specs.Reading.{capacity}
-use Rattle.report_parser.specs.declared.TextAnswer.{TextAnswer}
-use Rattle.report_parser.specs.declared.TextAnswer.TheVariants as T
+use Rattle.report_parser.specs.declared.TextRead.{TextRead as TextSizes}
 use Rattle.report_parser.specs.Reader.{TextRead}
 use Rattle.model_totals.specs.Totals.{page, totals}
 use Rattle.scratch_layout.specs.Layout.{index_at, spare_at}
-use Rattle.joined_table.specs.declared.Gathered.{Gathered}
-use Rattle.joined_table.specs.declared.Gathered.TheVariants as G
 use Rattle.joined_table.specs.Gathering.{seen_bundle, HeldBundle, BundleGathered}
-use Rattle.model_bounds.specs.declared.Bounds.{Bounds}
-use Rattle.model_bounds.specs.Bounds.{call_answer}
 use Rattle.text_choice.specs.Revisions.{gather_highest, gather_revisions}
 use Rattle.lcov.specs.Printed.{printed_by}
-use Rattle.lcov.specs.Demand.{refused_tags}
 use Rattle.joined_table.proofs.OneLaws.{read_table}
 
 -- ---- answers
@@ -78,7 +71,7 @@ module _ (text ws : List ℕ) (words index spare limit used n : ℕ) (is : limit
 -- ---- a bundle gathered
 
 -- the words hold what was gathered, and there are as many as before
-module _ (made : Answer Report) (bundle : Bytes) (words : ℕ) (ws : List ℕ) (got : Gathered) (g : BundleGathered made bundle ws (entry_limit words) got)
+module _ (made : Answer Report) (bundle : Bytes) (words : ℕ) (ws : List ℕ) (got : Result ℕ Refusal) (g : BundleGathered made bundle ws (entry_limit words) got)
     (long : length ws ≡ words) where
   pub gathered-held : HeldBundle bundle ws (entry_limit (length ws)) got
   gathered-held = rw long g.held
@@ -104,14 +97,14 @@ unfolding gather_revisions
 revisions_means tag bundle words out = refl
 
 -- what the words hold is printed
-module _ (print : Report → Bytes) (bundle : Bytes) (ws : List ℕ) (got : Gathered) (held : HeldBundle bundle ws (entry_limit (length ws)) got) (out : Bytes) where
+module _ (print : Report → Bytes) (bundle : Bytes) (ws : List ℕ) (got : Result ℕ Refusal) (held : HeldBundle bundle ws (entry_limit (length ws)) got) (out : Bytes) where
   abbrev printing : Answer Bytes
   printing = printed_by print (seen_bundle bundle ws (entry_limit (length ws)) got) (length out)
 
-  pub joined-refused : (r : Refusal) → got ≡ G.Refused r → Told printing out out (Err r)
+  pub joined-refused : (r : Refusal) → got ≡ Err r → Told printing out out (Err r)
   joined-refused r e = told_refused printing r out (rw e)
 
-  module _ (n : ℕ) (e : got ≡ G.Entries n) (limit : ℕ) (is : limit ≡ entry_limit (length ws)) (index : ℕ) (at-index : index ≡ index_at limit) where
+  module _ (n : ℕ) (e : got ≡ Ok n) (limit : ℕ) (is : limit ≡ entry_limit (length ws)) (index : ℕ) (at-index : index ≡ index_at limit) where
     held-table : Table bundle ws (index_at (entry_limit (length ws))) n n × (n ≤ entry_limit (length ws))
     held-table = rw e at held
 
@@ -135,25 +128,25 @@ pub read_means : (tag : Kind → Bytes) (text : Bytes) (words : ℕ) (out : Byte
 unfolding read_and_print
 read_means tag text words out = refl
 
-module _ (tag : Kind → Bytes) (text : Bytes) (words limit : ℕ) (is : limit ≡ entry_limit words) (ws : List ℕ) (index : ℕ) (got : TextAnswer)
+module _ (tag : Kind → Bytes) (text : Bytes) (words limit : ℕ) (is : limit ≡ entry_limit words) (ws : List ℕ) (index : ℕ) (got : Result TextSizes Refusal)
     (t : TextRead tag text ws index limit 0 got) where
-  pub reading_ready : (kept used : ℕ) → got ≡ T.Read kept used → length ws ≡ words → index ≡ index_at limit → (spare : ℕ) → spare ≡ spare_at limit
-      → Ready text ws index spare used kept
-  reading_ready kept used e long at-index spare at-spare =
+  pub reading_ready : (sizes : TextSizes) → got ≡ Ok sizes → length ws ≡ words → index ≡ index_at limit → (spare : ℕ) → spare ≡ spare_at limit
+      → Ready text ws index spare sizes.used sizes.kept
+  reading_ready sizes e long at-index spare at-spare =
       let held = rw e at t.held in
-      ready text ws words index spare limit used kept is long at-index at-spare (read_table tag text ws index limit 0 kept used (rw e at t)) held.1 held.2
+      ready text ws words index spare limit sizes.used sizes.kept is long at-index at-spare (read_table tag text ws index limit 0 sizes.kept sizes.used (rw e at t)) held.1 held.2
 
   module _ (print : Report → Bytes) (out : Bytes) (answer : Answer Bytes) (means : answer ≡ read_then tag print text words out) where
-    pub reading_refused : (r : Refusal) → got ≡ T.Refused r → Told answer out out (Err r)
+    pub reading_refused : (r : Refusal) → got ≡ Err r → Told answer out out (Err r)
     reading_refused r e =
         let read : refused r ≡ read_text tag limit text = rw e at t.is in
         told_refused answer r out (sym (means ∙ rw (← is, ← read)))
 
-    pub reading_printed : (kept used : ℕ) → got ≡ T.Read kept used → (out' : Bytes) (r : Result ℕ Refusal)
-        → Told (written (length out) (print (entries_at text ws index kept))) out out' r → Told answer out out' r
-    reading_printed kept used e out' r h =
-        let read : accepted (entries_at text ws index kept) ≡ read_text tag limit text = rw e at t.is in
-        told_as (written (length out) (print (entries_at text ws index kept))) answer out out' r (sym (means ∙ rw (← is, ← read))) h
+    pub reading_printed : (sizes : TextSizes) → got ≡ Ok sizes → (out' : Bytes) (r : Result ℕ Refusal)
+        → Told (written (length out) (print (entries_at text ws index sizes.kept))) out out' r → Told answer out out' r
+    reading_printed sizes e out' r h =
+        let read : accepted (entries_at text ws index sizes.kept) ≡ read_text tag limit text = rw e at t.is in
+        told_as (written (length out) (print (entries_at text ws index sizes.kept))) answer out out' r (sym (means ∙ rw (← is, ← read))) h
 
 -- ---- one text filtered
 
@@ -171,38 +164,32 @@ module _ (tag : Kind → Bytes) (bound : Bound) (text : Bytes) (slice : List Ran
 
 -- ---- a lent table of tags
 
-module _ (table out : Bytes) (got : Loading) (l : LoadedAs table got) where
-  loaded : got ≡ Loaded → LoadedTags table
-  loaded e = rw e at l
+module _ (table : Bytes) (got : Result Tags Fault) (l : LoadedAs table got) where
+  loaded : (tags : Tags) → got ≡ Ok tags → load_tags table ≡ accepted (tag_of tags)
+  loaded tags e = let τ : LoadedTags table tags = rw e at l in τ.is
 
-  pub tags-are : got ≡ Loaded → are_tags table ≡ true
-  tags-are e = (loaded e).are
+  unloaded : (fault : Fault) → got ≡ Err fault → load_tags table ≡ refuse fault
+  unloaded fault e = rw e at l
 
-  pub tags-refused : (call : (Kind → Bytes) → Answer Bytes) (fault : Fault) (r : Result ℕ Refusal) → got ≡ Refused fault → r ≡ refused_tags fault → WriteCall (tagged table call) out out r
-  tags-refused call fault r e q =
-      let no-tags : load_tags table ≡ refuse fault = rw e at l in
-      rw q (called (told_refused (tagged table call) (unplaced fault) out (rw no-tags)))
+  module _ (out : Bytes) (call : (Kind → Bytes) → Answer Bytes) where
+    pub tags_refused : (fault : Fault) (r : Result ℕ Refusal) → got ≡ Err fault → r ≡ Err (unplaced fault) → WriteCall (tagged table call) out out r
+    tags_refused fault r e q = rw q (called (told_refused (tagged table call) (unplaced fault) out (rw (unloaded fault e))))
 
-  pub tags_called : (call : (Kind → Bytes) → Answer Bytes) (out' : Bytes) (r : Result ℕ Refusal) → got ≡ Loaded → WriteCall (call (tags_of table)) out out' r → WriteCall (tagged table call) out out' r
-  tags_called call out' r e c = rw (loaded e).tags c
+    pub tags_called : (tags : Tags) (out' : Bytes) (r : Result ℕ Refusal) → got ≡ Ok tags → WriteCall (call (tag_of tags)) out out' r → WriteCall (tagged table call) out out' r
+    tags_called tags out' r e c = rw (loaded tags e) c
 
--- the same for a line that is read
-module _ (table : Bytes) (got : Loading) (l : LoadedAs table got) where
-  pub line_refused : (call : (Kind → Bytes) → Answer LentRecord) (fault : Fault) (r : Refusal) → got ≡ Refused fault → r ≡ unplaced fault → ValueCall (tagged table call) (Err r)
-  unfolding call_values
-  line_refused call fault r e q =
-      let no-tags : load_tags table ≡ refuse fault = rw e at l in
-      rw (no-tags, q)
+  -- the same for a call that returns a value
+  module _ {A : Type 0} (call : (Kind → Bytes) → Answer A) where
+    pub value_refused : (fault : Fault) (r : Result A Refusal) → got ≡ Err fault → r ≡ Err (unplaced fault) → ValueCall (tagged table call) r
+    unfolding call_values
+    value_refused fault r e q = rw (q, unloaded fault e)
 
-  pub value_called : (call : (Kind → Bytes) → Answer LentRecord) (r : Result LentRecord Refusal) → got ≡ Loaded → ValueCall (call (tags_of table)) r → ValueCall (tagged table call) r
-  value_called call r e c = let τ : LoadedTags table = rw e at l in rw τ.tags c
+    pub value_tagged : (tags : Tags) (r : Result A Refusal) → got ≡ Ok tags → ValueCall (call (tag_of tags)) r → ValueCall (tagged table call) r
+    value_tagged tags r e c = rw (loaded tags e) c
 
-  -- and for bounds
-  pub bounds_untagged : (call : (Kind → Bytes) → Answer Bounds) (fault : Fault) (r : Refusal) → got ≡ Refused fault → r ≡ unplaced fault
-      → Err r ≡ call_answer (tagged table call)
-  bounds_untagged call fault r e q =
-      let no-tags : load_tags table ≡ refuse fault = rw e at l in
-      rw (no-tags, q)
+    pub answer_refused : (fault : Fault) (r : Result A Refusal) → got ≡ Err fault → r ≡ Err (unplaced fault) → r ≡ call_answer (tagged table call)
+    unfolding call_answer
+    answer_refused fault r e q = rw (q, unloaded fault e)
 
-  pub bounds_called : (call : (Kind → Bytes) → Answer Bounds) (r : Result Bounds Refusal) → got ≡ Loaded → r ≡ call_answer (call (tags_of table)) → r ≡ call_answer (tagged table call)
-  bounds_called call r e c = let τ : LoadedTags table = rw e at l in rw τ.tags c
+    pub answer_tagged : (tags : Tags) (r : Result A Refusal) → got ≡ Ok tags → r ≡ call_answer (call (tag_of tags)) → r ≡ call_answer (tagged table call)
+    answer_tagged tags r e c = rw (loaded tags e) c

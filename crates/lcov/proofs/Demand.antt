@@ -28,6 +28,9 @@ use Rattle.lcov.specs.Demand.{GatherCall, GatherTagged, IsWritten, Wrote, Accept
 
 -- ---- what was written is the answer
 
+abbrev Written : ℕ → Result ℕ Refusal
+Written n = Ok n
+
 module _ (out out' : Bytes) (r : Result ℕ Refusal) where
   pub wrote_of : (g : Answer Bytes) → WriteCall g out out' r → (bytes : Bytes) → g ≡ accepted bytes → Wrote bytes out out' r
   unfolding length_answer output_after
@@ -36,35 +39,35 @@ module _ (out out' : Bytes) (r : Result ℕ Refusal) where
   pub of_wrote : (g : Answer Bytes) → WriteCall g out out' r → (bytes : Bytes) → Wrote bytes out out' r → g ≡ accepted bytes
   unfolding length_answer output_after
   of_wrote (accepted bs) c bytes w =
-      let both : Ok (length bs) ≡ Ok (length bytes) = sym (length_exact (accepted bs) r c.returns) ∙ w.number in
+      let both : Written (length bs) ≡ Written (length bytes) = sym (length_exact {A = ℕ} (accepted bs) r c.returns) ∙ w.number in
       let long : length bs ≡ length bytes = written_inj both in
       let fronts : bs ++ drop (length bs) out ≡ bytes ++ drop (length bytes) out = sym c.leaves ∙ w.front in
       let same : bs ≡ bytes =
       sym (take_at bs (drop (length bs) out) (length bytes) long) ∙ ap (take (length bytes)) fronts ∙ take_at bytes (drop (length bytes) out) (length bytes) refl in
       ap (λ (l : Bytes). accepted l) same
     where
-      written_inj : {m n : ℕ} → Ok m ≡ Ok n → m ≡ n
+      written_inj : {m n : ℕ} → Written m ≡ Written n → m ≡ n
       written_inj p = cc
-  of_wrote (refused q) c bytes w = absurd (clash (sym w.number ∙ length_exact (refused q) r c.returns))
+  of_wrote (refused q) c bytes w = absurd (clash (sym w.number ∙ length_exact {A = ℕ} (refused q) r c.returns))
     where
-      clash : {n : ℕ} {q : Refusal} → Ok n ≡ Err q → ⊥
+      clash : {n : ℕ} {q : Refusal} → Written n ≡ Err q → ⊥
       clash p = impossible cc
 
   pub written-accepted : (g : Answer Bytes) → WriteCall g out out' r → IsWritten r → IsAccepted g
   unfolding length_answer
   written-accepted (accepted bs) c i = tt
-  written-accepted (refused q) c i = rw (length_exact (refused q) r c.returns) at i
+  written-accepted (refused q) c i = rw (length_exact {A = ℕ} (refused q) r c.returns) at i
 
   pub accepted-written : (g : Answer Bytes) → WriteCall g out out' r → IsAccepted g → IsWritten r
   unfolding length_answer
-  accepted-written (accepted bs) c i = rw (length_exact (accepted bs) r c.returns) tt
+  accepted-written (accepted bs) c i = rw (length_exact {A = ℕ} (accepted bs) r c.returns) tt
   accepted-written (refused q) c i = absurd i
 
   pub refused-stays : (g : Answer Bytes) → WriteCall g out out' r → (q : Refusal) → r ≡ Err q → out' ≡ out
   unfolding length_answer output_after
-  refused-stays (accepted bs) c q e = absurd (clash (sym (length_exact (accepted bs) r c.returns) ∙ e))
+  refused-stays (accepted bs) c q e = absurd (clash (sym (length_exact {A = ℕ} (accepted bs) r c.returns) ∙ e))
     where
-      clash : {n : ℕ} {q : Refusal} → Ok n ≡ Err q → ⊥
+      clash : {n : ℕ} {q : Refusal} → Written n ≡ Err q → ⊥
       clash p = impossible cc
   refused-stays (refused p) c q e = c.leaves
 

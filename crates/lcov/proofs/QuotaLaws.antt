@@ -12,7 +12,7 @@ use Rattle.model.specs.declared.Mode.TheVariants.{Checked}
 use Rattle.std.specs.Prelude.{if◌then◌else◌, Result, Ok, Err}
 use Rattle.model.specs.Bytes.{Bytes}
 use Rattle.model.specs.Answer.{Answer, accepted, refused, refuse, unplaced, ◌>>=◌}
-use Rattle.model.specs.TagTable.{load_tags, tagged, tags_of}
+use Rattle.model.specs.TagTable.{load_tags, tagged}
 use Rattle.model.specs.Report.{Report}
 use Rattle.model.specs.Printing.{print_report}
 use Rattle.model.specs.Output.{written, output_after}
@@ -21,14 +21,12 @@ use Rattle.model.specs.Bundle.{well_formed}
 use Rattle.model.specs.Gather.{entry_limit, gather_texts, gather_many}
 use Rattle.model.proofs.CallLaws.{write_called}
 use Rattle.tag_table.specs.Loading.{LoadedTags, LoadedAs}
-use Rattle.tag_table.specs.declared.Loading.{Loading}
-use Rattle.tag_table.specs.declared.Loading.TheVariants.{Loaded, Refused}
+use Rattle.tag_table.specs.declared.tags.Tags.{Tags}
+use Rattle.tag_table.specs.Tags.{tag_of}
 use Rattle.text_choice.specs.Quotas.{are_labs, let_in_texts, LabsAnswer, joint_of, marks_after, gather_labs, gather_quotas}
-use Rattle.joined_table.specs.declared.Gathered.{Gathered}
 use Rattle.joined_table.specs.Gathering.{seen_bundle, HeldBundle}
 use Rattle.lab_quotas.specs.Labs.{gather_joint, LabsGathered}
 use Rattle.lcov.specs.Printed.{printed_by}
-use Rattle.lcov.specs.Demand.{refused_tags}
 use Rattle.lcov.specs.Quotas.{QuotasCall}
 use Rattle.lcov.proofs.CallLaws.{gathered_called}
 
@@ -46,7 +44,7 @@ quotas_means tag bundle labs quotas words room = go (well_formed bundle) (are_la
     go true false = refl
     go false c = refl
 
-pub quotas_printed : (tag : Kind → Bytes) (bundle : Bytes) (labs quotas : List ℕ) (words : ℕ) (ws marks marks' : List ℕ) (got : Gathered)
+pub quotas_printed : (tag : Kind → Bytes) (bundle : Bytes) (labs quotas : List ℕ) (words : ℕ) (ws marks marks' : List ℕ) (got : Result ℕ Refusal)
     → LabsGathered tag bundle labs quotas words ws marks marks' got → length ws ≡ words → (out out' : Bytes) (r : Result ℕ Refusal)
     → WriteCall (printed_by (print_report tag) (seen_bundle bundle ws (entry_limit (length ws)) got) (length out)) out out' r
     → QuotasCall (gather_quotas tag bundle labs quotas words (length out)) out out' marks marks' r
@@ -59,13 +57,13 @@ quotas_printed tag bundle labs quotas words ws marks marks' got g long out out' 
 
 -- ---- a lent table of tags
 
-module _ (table out : Bytes) (got : Loading) (l : LoadedAs table got) (call : (Kind → Bytes) → Answer LabsAnswer) (marks : List ℕ) where
-  pub quotas_refused : (fault : Fault) (r : Result ℕ Refusal) → got ≡ Refused fault → r ≡ refused_tags fault → QuotasCall (tagged table call) out out marks marks r
+module _ (table out : Bytes) (got : Result Tags Fault) (l : LoadedAs table got) (call : (Kind → Bytes) → Answer LabsAnswer) (marks : List ℕ) where
+  pub quotas_refused : (fault : Fault) (r : Result ℕ Refusal) → got ≡ Err fault → r ≡ Err (unplaced fault) → QuotasCall (tagged table call) out out marks marks r
   unfolding marks_after length_answer output_after
   quotas_refused fault r e q =
       let no-tags : load_tags table ≡ refuse fault = rw e at l in
       rw (q, no-tags) (record { call = write_called (refused (unplaced fault)) out out (Err (unplaced fault)) refl refl; marked = refl })
 
-  pub quotas_called : (out' : Bytes) (marks' : List ℕ) (r : Result ℕ Refusal) → got ≡ Loaded → QuotasCall (call (tags_of table)) out out' marks marks' r
+  pub quotas_called : (tags : Tags) (out' : Bytes) (marks' : List ℕ) (r : Result ℕ Refusal) → got ≡ Ok tags → QuotasCall (call (tag_of tags)) out out' marks marks' r
       → QuotasCall (tagged table call) out out' marks marks' r
-  quotas_called out' marks' r e c = let τ : LoadedTags table = rw e at l in rw τ.tags c
+  quotas_called tags out' marks' r e c = let τ : LoadedTags table tags = rw e at l in rw τ.is c

@@ -36,10 +36,6 @@ GatherTagged table bundle words out out' r = WriteCall (tagged table (λ tag. ga
 abbrev pub ReadTagged : Bytes → Bytes → ℕ → Bytes → Bytes → Result ℕ Refusal → Type 0
 ReadTagged table text words out out' r = WriteCall (tagged table (λ tag. read_and_print tag text words (length out))) out out' r
 
--- what such a call returns where the table does not load
-abbrev pub refused_tags : Fault → Result ℕ Refusal
-refused_tags fault = Err (unplaced fault)
-
 -- "Accepted means answered with the written length"
 abbrev pub IsWritten : Result ℕ Refusal → Type 0
 IsWritten (Ok n) = Unit {0}

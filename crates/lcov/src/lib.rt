@@ -66,7 +66,7 @@ fn print_joined(
     got: Result<usize, Refusal>,
     out: &mut [u8],
 ) -> Result<usize, Refusal>
-    requires held_bundle { HeldBundle bundle.now scratch.old (entry_limit (length scratch.old)) got }
+    requires { HeldBundle bundle.now scratch.old (entry_limit (length scratch.old)) got }
     ensures { WriteCall (printed_by (print_report (tag_of tags.entry)) (seen_bundle bundle.now scratch.old (entry_limit (length scratch.old)) got) (length out.old)) out.old out.new result }
 {
     let n = got?;
