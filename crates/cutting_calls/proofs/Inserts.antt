@@ -23,11 +23,11 @@ used-accepted : (answer : Answer (List Range)) (slice slice' : List Range) (used
 unfolding length_answer
 used-accepted (accepted ranges) slice slice' used c = (ranges, refl, used_inj (sym (length_exact (accepted ranges) (Ok used) c.returns)), sym c.leaves)
   where
-    used_inj : {m n : ℕ} → Ok m ≡ Ok n → m ≡ n
+    used_inj : {m n : ℕ} → ◌≡◌ {A = Result ℕ Refusal} (Ok m) (Ok n) → m ≡ n
     used_inj p = cc
-used-accepted (refused q) slice slice' used c = absurd (clash (length_exact (refused q) (Ok used) c.returns))
+used-accepted (refused q) slice slice' used c = absurd (clash (length_exact {A = Range} (refused q) (Ok used) c.returns))
   where
-    clash : {n : ℕ} {q : Refusal} → Ok n ≡ Err q → ⊥
+    clash : {n : ℕ} {q : Refusal} → ◌≡◌ {A = Result ℕ Refusal} (Ok n) (Err q) → ⊥
     clash p = impossible cc
 
 calls-insert : {slice last : List Range} {used n : ℕ} {rs : List Range} → InsertCalls slice used rs last n → Inserts slice used rs last n
@@ -47,7 +47,7 @@ module _ (slice last rs : List Range) (n s e : ℕ) (answer : Result Bool Refusa
       let (to, from) = queries.ranges_hold rs s e h in
       (λ p. to (holds_inj (sym calls_answer ∙ p)), λ x. calls_answer ∙ ap (λ (b : Bool). Ok b) (from x))
     where
-      holds_inj : {a b : Bool} → Ok a ≡ Ok b → a ≡ b
+      holds_inj : {a b : Bool} → ◌≡◌ {A = Result Bool Refusal} (Ok a) (Ok b) → a ≡ b
       holds_inj p = cc
 
 -- INSERTS AND QUERIES, of the calls

@@ -17,8 +17,8 @@ ghost use Rattle.lab_quotas.specs.Labs.{mark_size, is_of_lab, rank_of, lab_mark,
 ghost use Rattle.tag_table.specs.Tags.{tag_of};
 
 use model::{Fault, Mode, Refusal};
-use text_choice::Mark;
 use tag_table::Tags;
+use text_choice::Mark;
 
 const MAX_TEXTS: usize = bundle::MAX_TEXTS;
 

@@ -9,7 +9,12 @@ use model::Refusal;
 use tag_table::Tags;
 
 // For each text a line `hit/found` over the lines of the checked gather of that text and the up to width − 1 before it.
-pub fn windows(bundle: &[u8], width: u32, scratch: &mut [u64], out: &mut [u8]) -> Result<usize, Refusal>
+pub fn windows(
+    bundle: &[u8],
+    width: u32,
+    scratch: &mut [u64],
+    out: &mut [u8],
+) -> Result<usize, Refusal>
     ensures { WriteCall (gather_windows default_tag bundle.now width (length scratch.old) (length out.old)) out.old out.new result }
 {
     window_lines::print_windows(Tags::defaults(), bundle, width as usize, scratch, out)

@@ -47,8 +47,8 @@ pub use page::{totals, totals_tagged};
 pub use quotas::{gather_quotas, gather_quotas_tagged};
 pub use record_parse::read_number;
 use report_parser::TextRead;
-use tag_table::Tags;
 pub use revisions::{gather_revisions, gather_revisions_tagged};
+use tag_table::Tags;
 
 // The fixed numbers of model/specs/Limits.antt that code outside needs too: `words_per_entry`, and the scratch and the output of the program
 // `gather`, which `program_words` and `program_output` are.
@@ -96,8 +96,7 @@ fn read(tags: Tags, text: &[u8], scratch: &mut [u64], out: &mut [u8]) -> Result<
 {
     let limit = scratch_layout::entry_limit(scratch.len());
     let index = scratch_layout::index_at(limit);
-    let TextRead { kept, used } =
-        report_parser::read_lines(tags, text, 0, scratch, index, limit)?;
+    let TextRead { kept, used } = report_parser::read_lines(tags, text, 0, scratch, index, limit)?;
     let spare = scratch_layout::spare_at(limit);
     print_report::print_report(tags, text, scratch, index, used, kept, spare, out)
 }
@@ -119,8 +118,9 @@ fn filter(
     }
     let limit = scratch_layout::entry_limit(scratch.len());
     let index = scratch_layout::index_at(limit);
-    let TextRead { kept, used: rows } =
-        report_parser::read_lines(tags, text, 0, scratch, index, limit)?;
+    let TextRead { kept, used: rows } = report_parser::read_lines(
+        tags, text, 0, scratch, index, limit,
+    )?;
     let spare = scratch_layout::spare_at(limit);
     filter::print_filtered(
         tags, text, scratch, pairs, used, bound, index, rows, kept, spare, out,
@@ -200,7 +200,15 @@ pub fn filter_text(
 ) -> Result<usize, Refusal>
     ensures { WriteCall (filter_text default_tag NextStart text.now (ranges_in pairs.now) used (length scratch.old) (length out.old)) out.old out.new result }
 {
-    filter(Tags::defaults(), text, pairs, used, Bound::NextStart, scratch, out)
+    filter(
+        Tags::defaults(),
+        text,
+        pairs,
+        used,
+        Bound::NextStart,
+        scratch,
+        out,
+    )
 }
 
 // The same under the tags of a lent table.
@@ -228,7 +236,15 @@ pub fn filter_text_distinct_starts(
 ) -> Result<usize, Refusal>
     ensures { WriteCall (filter_text default_tag GreaterStart text.now (ranges_in pairs.now) used (length scratch.old) (length out.old)) out.old out.new result }
 {
-    filter(Tags::defaults(), text, pairs, used, Bound::GreaterStart, scratch, out)
+    filter(
+        Tags::defaults(),
+        text,
+        pairs,
+        used,
+        Bound::GreaterStart,
+        scratch,
+        out,
+    )
 }
 
 // The same under the tags of a lent table.

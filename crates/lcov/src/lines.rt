@@ -54,7 +54,12 @@ pub fn print_line(text: &[u8], record: Record, out: &mut [u8]) -> Result<usize, 
 }
 
 // The same under the tags of a lent table.
-pub fn print_line_tagged(tags: &[u8], text: &[u8], record: Record, out: &mut [u8]) -> Result<usize, Refusal>
+pub fn print_line_tagged(
+    tags: &[u8],
+    text: &[u8],
+    record: Record,
+    out: &mut [u8],
+) -> Result<usize, Refusal>
     ensures { WriteCall (tagged tags.now (λ tag. print_line tag text.now «record» (length out.old))) out.old out.new result }
 {
     let tags = tag_table::load(tags)?;
@@ -69,7 +74,12 @@ pub fn print_line_data(line: u32, count: u64, out: &mut [u8]) -> Result<usize, R
 }
 
 // The same under the tags of a lent table.
-pub fn print_line_data_tagged(tags: &[u8], line: u32, count: u64, out: &mut [u8]) -> Result<usize, Refusal>
+pub fn print_line_data_tagged(
+    tags: &[u8],
+    line: u32,
+    count: u64,
+    out: &mut [u8],
+) -> Result<usize, Refusal>
     ensures { WriteCall (tagged tags.now (λ tag. print_line tag [] (counted line count) (length out.old))) out.old out.new result }
 {
     let tags = tag_table::load(tags)?;

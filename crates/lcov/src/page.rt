@@ -14,7 +14,12 @@ use model::{Mode, Refusal};
 use tag_table::Tags;
 
 // The page of what was gathered of a bundle, or why there is none.
-fn print_page(bundle: &[u8], scratch: &[u64], got: Result<usize, Refusal>, out: &mut [u8]) -> Result<usize, Refusal>
+fn print_page(
+    bundle: &[u8],
+    scratch: &[u64],
+    got: Result<usize, Refusal>,
+    out: &mut [u8],
+) -> Result<usize, Refusal>
     requires { HeldBundle bundle.now scratch.now (entry_limit (length scratch.now)) got }
     ensures { WriteCall (printed_by page (seen_bundle bundle.now scratch.now (entry_limit (length scratch.now)) got) (length out.old)) out.old out.new result }
 {
@@ -25,7 +30,12 @@ fn print_page(bundle: &[u8], scratch: &[u64], got: Result<usize, Refusal>, out: 
 }
 
 // The texts of a bundle gathered, checked, and the page of the joined report written.
-fn write_page(tags: Tags, bundle: &[u8], scratch: &mut [u64], out: &mut [u8]) -> Result<usize, Refusal>
+fn write_page(
+    tags: Tags,
+    bundle: &[u8],
+    scratch: &mut [u64],
+    out: &mut [u8],
+) -> Result<usize, Refusal>
     ensures { WriteCall (totalsPage (tag_of tags.entry) bundle.now (length scratch.old) (length out.old)) out.old out.new result }
 {
     let got = joined_table::gather_bundle(tags, bundle, scratch, Mode::Checked);
@@ -40,7 +50,12 @@ pub fn totals(bundle: &[u8], scratch: &mut [u64], out: &mut [u8]) -> Result<usiz
 }
 
 // The same under the tags of a lent table.
-pub fn totals_tagged(tags: &[u8], bundle: &[u8], scratch: &mut [u64], out: &mut [u8]) -> Result<usize, Refusal>
+pub fn totals_tagged(
+    tags: &[u8],
+    bundle: &[u8],
+    scratch: &mut [u64],
+    out: &mut [u8],
+) -> Result<usize, Refusal>
     ensures { WriteCall (tagged tags.now (λ tag. totalsPage tag bundle.now (length scratch.old) (length out.old))) out.old out.new result }
 {
     let tags = tag_table::load(tags)?;

@@ -11,7 +11,12 @@ use model::Refusal;
 use tag_table::Tags;
 
 // The texts with the highest revisions gathered, the joined report printed.
-fn gather_chosen(tags: Tags, bundle: &[u8], scratch: &mut [u64], out: &mut [u8]) -> Result<usize, Refusal>
+fn gather_chosen(
+    tags: Tags,
+    bundle: &[u8],
+    scratch: &mut [u64],
+    out: &mut [u8],
+) -> Result<usize, Refusal>
     ensures { WriteCall (gather_revisions (tag_of tags.entry) bundle.now (length scratch.old) (length out.old)) out.old out.new result }
 {
     let got = joined_revisions::gather_highest(tags, bundle, scratch);
@@ -19,7 +24,11 @@ fn gather_chosen(tags: Tags, bundle: &[u8], scratch: &mut [u64], out: &mut [u8])
 }
 
 // The checked gather of a bundle of the second kind. The texts of lower revisions are not read.
-pub fn gather_revisions(bundle: &[u8], scratch: &mut [u64], out: &mut [u8]) -> Result<usize, Refusal>
+pub fn gather_revisions(
+    bundle: &[u8],
+    scratch: &mut [u64],
+    out: &mut [u8],
+) -> Result<usize, Refusal>
     ensures { WriteCall (gather_revisions default_tag bundle.now (length scratch.old) (length out.old)) out.old out.new result }
 {
     gather_chosen(Tags::defaults(), bundle, scratch, out)

@@ -1,10 +1,9 @@
 -- What the exported calls promise follows from what the crates below promise. Assumes nothing.
-use Prim.Native.Nat.{ℕ, Ordering}
-use mathlib.Core.Path.{◌≡◌, refl, sym, ap, ◌∙◌}
-use mathlib.Core.List.{List, [], ◌∷◌, ◌++◌}
+use Prim.Native.Nat.{ℕ}
+use mathlib.Core.Path.{◌≡◌, refl, ap, ◌∙◌}
+use mathlib.Core.List.{List}
 use lib.ListN.{length}
 use Rattle.std.specs.Prelude.{Result, Ok, Err}
-use Rattle.std.specs.declared.cmp.Ordering.{Ordering as Order}
 use Rattle.model.specs.declared.Record.{Record as LentRecord}
 use Rattle.model.specs.declared.Refusal.{Refusal}
 use Rattle.model.specs.declared.Kind.{Kind}
@@ -17,13 +16,12 @@ use Rattle.model.proofs.LentLaws as LentLaws
 use Rattle.model.specs.declared.Range.{Range}
 use Rattle.model.specs.Calls.{ValueCall, WriteCall, InsertCall, call_answer, length_answer}
 use Rattle.model.proofs.CallLaws.{call_exact, length_exact, write_called}
-use Rattle.compare.specs.Orders.{order_of}
 use Rattle.lcov_c_words.specs.Words.{length_words, answer_words, answer_number, with_prefix}
-use Rattle.lcov_c.specs.Exports.{Stored, printed_line, AnswerStored, RangeInserted, range_words, order_number}
+use Rattle.lcov_c.specs.Exports.{Stored, printed_line, AnswerStored, RangeInserted}
 
 -- ---- an answer handed back
 
-module _ {A : Type 0} (words : A → List ℕ) (answer : Answer A) (got : Result A Refusal) (slice slice' : List ℕ) (number : ℕ)
+module _ {A : Type 0} {words : A → List ℕ} {answer : Answer A} (got : Result A Refusal) {slice slice' : List ℕ} {number : ℕ}
     (n : number ≡ answer_number got) (w : slice' ≡ with_prefix (answer_words words got) slice) where
   pub stored_as : got ≡ call_answer answer → Stored words answer slice slice' number
   stored_as is = record { numbered = n ∙ ap answer_number is; stored = rw is at w }
@@ -31,16 +29,16 @@ module _ {A : Type 0} (words : A → List ℕ) (answer : Answer A) (got : Result
   pub stored : ValueCall answer got → Stored words answer slice slice' number
   stored call = stored_as (call_exact answer got call)
 
-module _ (got : Result ℕ Refusal) (slice slice' : List ℕ) (number : ℕ) (n : number ≡ answer_number got)
+module _ {got : Result ℕ Refusal} {slice slice' : List ℕ} {number : ℕ} (n : number ≡ answer_number got)
     (w : slice' ≡ with_prefix (answer_words length_words got) slice) where
-  pub told : (answer : Answer Bytes) (out out' : Bytes) → WriteCall answer out out' got → AnswerStored answer slice slice' out out' number
-  told answer out out' call =
+  pub told : {answer : Answer Bytes} {out out' : Bytes} → WriteCall answer out out' got → AnswerStored answer slice slice' out out' number
+  told {answer} call =
       let is = length_exact answer got call.returns in
       record { numbered = n ∙ ap answer_number is; words = rw is at w; output = call.leaves }
 
-  pub inserted : (answer : Answer (List Range)) (ranges ranges' : List Range) → InsertCall answer ranges ranges' got
+  pub inserted : {answer : Answer (List Range)} {ranges ranges' : List Range} → InsertCall answer ranges ranges' got
       → RangeInserted answer slice slice' ranges ranges' number
-  inserted answer ranges ranges' call =
+  inserted {answer} call =
       let is = length_exact answer got call.returns in
       record { numbered = n ∙ ap answer_number is; words = rw is at w; kept = call.leaves }
 
@@ -62,13 +60,3 @@ module _ (tag : Kind → Bytes) (line : Bytes) (got : Result LentRecord Refusal)
       → WriteCall (printed_line tag line (length out)) out out' wrote
   unfolding print_line printed_line
   printed-line lent e out out' wrote print = rw (LentLaws.line_read tag line got is lent e) at print
-
--- ---- ranges
-
-pub half_open_words : (range is : Range) (slice slice' : List ℕ) → range ≡ is → slice' ≡ with_prefix (range_words range) slice → slice' ≡ with_prefix (range_words is) slice
-half_open_words range is slice slice' e h = rw e at h
-
--- ---- two paths
-
-pub order-number : (order is : Order) (o : Ordering) (n : ℕ) → order_of order ≡ o → order ≡ is → n ≡ order_number (order_of is) → n ≡ order_number o
-order-number order is o n told e h = h ∙ ap (λ (x : Order). order_number (order_of x)) (sym e) ∙ ap order_number told

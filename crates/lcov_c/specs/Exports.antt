@@ -1,6 +1,6 @@
 -- What the exported calls answer and leave in the lent slices, in the model's definitions. Assumes nothing.
 use Prim.Native.Nat.{ℕ, Ordering}
-use Rattle.std.specs.Prelude.{◌≡◌, Bool, List, [], ◌∷◌, ◌++◌}
+use Rattle.std.specs.Prelude.{◌≡◌, List, [], ◌∷◌, ◌++◌}
 use Rattle.model.specs.declared.Kind.{Kind}
 use Rattle.model.specs.Bytes.{Bytes, newline}
 use Rattle.model.specs.Answer.{Answer, ◌>>=◌}

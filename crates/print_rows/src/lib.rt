@@ -360,14 +360,7 @@ pub fn emit_group(
 }
 
 // TN and SF of a section's header row.
-pub fn emit_head(
-    tags: Tags,
-    text: &[u8],
-    row: Row,
-    out: &mut [u8],
-    at: usize,
-    write: bool,
-) -> usize
+pub fn emit_head(tags: Tags, text: &[u8], row: Row, out: &mut [u8], at: usize, write: bool) -> usize
     requires test_len_in_bounds { (row.test + row.test_len ≤ length text.now) × (row.path + row.path_len ≤ length text.now) }
     requires room_for { RoomFor write out.old at (print_records (tag_of tags) (test_name (part text.now row.test row.test_len) ∷ source_file (part text.now row.path row.path_len) ∷ [])) }
     ensures { Emitted write out.old out.new at (print_records (tag_of tags.entry) (test_name (part text.now row.test row.test_len) ∷ source_file (part text.now row.path row.path_len) ∷ [])) result }

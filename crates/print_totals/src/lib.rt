@@ -234,7 +234,13 @@ fn print_lines(
 }
 
 // Prints the page of the first n rows, all of which are entries. An output that is too short stays.
-pub fn print_page(text: &[u8], words: &[u64], index: usize, n: usize, out: &mut [u8]) -> Result<usize, Refusal>
+pub fn print_page(
+    text: &[u8],
+    words: &[u64],
+    index: usize,
+    n: usize,
+    out: &mut [u8],
+) -> Result<usize, Refusal>
     requires { Table text.now words.now index n n × (n ≤ max_entries) }
     ensures value { result ≡ length_answer (written (length out.old) (page (entries_at text.now words.now index n))) }
     ensures out_after { out.new ≡ output_after (written (length out.old) (page (entries_at text.now words.now index n))) out.old }

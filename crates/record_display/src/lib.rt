@@ -39,12 +39,7 @@ pub fn line_len(tags: Tags, text: &[u8], record: Record) -> usize
 }
 
 // Prints a record, whose text parts lie in text, with byte 10 after it.
-pub fn print_line(
-    tags: Tags,
-    text: &[u8],
-    record: Record,
-    out: &mut [u8],
-) -> Result<usize, Refusal>
+pub fn print_line(tags: Tags, text: &[u8], record: Record, out: &mut [u8]) -> Result<usize, Refusal>
     ensures { WriteCall (print_line (tag_of tags.entry) text.now «record» (length out.old)) out.old out.new result }
 {
     let fields = fields::fields_of(record);

@@ -1,6 +1,4 @@
 -- Bundles with revisions, for the calls: `revisions_calls-tables` at the end. Assumes nothing.
-use Rattle.std.specs.Prelude.{Result}
-use Rattle.model.specs.declared.Refusal.{Refusal}
 use Prim.Native.Nat.{ℕ}
 use mathlib.Core.Path.{◌≡◌, sym, ap, ◌∙◌}
 use lib.ListN.{length}

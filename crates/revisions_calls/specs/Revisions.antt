@@ -1,6 +1,6 @@
 -- Bundles with revisions, for what the calls `gather_revisions` and `read_text` return and leave in the lent output. The clauses are those of
 -- crate text_choice's Revisions; `IsWritten` and `Wrote` are demand 3's (crate lcov). Assumes nothing.
-use Rattle.std.specs.Prelude.{ℕ, ◌≤◌, ◌≡◌, ◌↔◌, true, List, length, Result, Ok, Err}
+use Rattle.std.specs.Prelude.{ℕ, ◌≤◌, ◌≡◌, ◌↔◌, true, List, length, Result, Err}
 use Rattle.std.proofs.Math.Option.{none}
 use Rattle.model.specs.declared.Kind.{Kind}
 use Rattle.model.specs.declared.Refusal.{Refusal}

@@ -207,7 +207,6 @@ header-free {limit = limit} {header = header} {st = st} ς ρ h = go ρ.free
 module _ {text ws ws₁ : List ℕ} {index limit header : ℕ} {st : State} (ζ : HoldsState text ws index limit st)
     (ρ : RowReserved ws ws₁ index st.used limit st.kept header)
     (len : length ws₁ ≡ length ws) (h : st.kept < header) where
-
   module _ {ws₂ : List ℕ} {used : ℕ} (ρ' : RowReserved ws₁ ws₂ index header limit (end_of (st.kept + 1) st.sizes) used)
       (len' : length ws₂ ≡ length ws₁) where
     there : HoldsState text ws₂ index limit (with_used st used)

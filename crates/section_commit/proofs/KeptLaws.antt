@@ -209,7 +209,6 @@ module _ {text ws : List ℕ} {index used main-size delta-size deleted n lo₀ h
       module _ (ws₁ : List ℕ) {items : ℕ} {header : Row} (placed : header ≡ with_position spelled lo₀ items)
           (ς : Spliced F' (rows_from ws₁ index main-size) delta-size delta-size n place place header) (below : Unchanged (row ws' index) (row ws₁ index) 0 main-size)
           (σ : Store ws₁ index used) where
-
         spliced₁ : Spliced F' (rows_from ws₁ index main-size) delta-size delta-size n place place (with_position spelled lo₀ items)
         spliced₁ = rw placed at ς
 

@@ -12,8 +12,7 @@ loop-lo-init c = loop_start c.requires.printable_table c.requires.count_value.1 
 
 pub filter_section-done-requires-clause-printable_table : goal.filter_section-done-requires-clause-printable_table
 filter_section-done-requires-clause-printable_table c =
-    let Λ = c.loop-lo.invariant in
-    (
+    let Λ = c.loop-lo.invariant in (
       printable-kept c.requires.printable_table Λ.spared,
       omega arith,
       loop_header c.requires.printable_table (filtered_prints _ c.args.bound (take c.args.count (ranges_in c.args.pairs.now)) c.requires.printable_table) Λ (omega arith),

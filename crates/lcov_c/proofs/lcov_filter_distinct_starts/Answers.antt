@@ -1,0 +1,6 @@
+-- `lcov_c::lcov_filter_distinct_starts` meets its contract. Assumes nothing.
+use Rattle.lcov_c.proofs.ExportLaws.{told}
+use Rattle.lcov_c.proofs.lcov_filter_distinct_starts.Goals as goal
+
+pub returns : goal.returns
+returns c = told c.store_answer.ensures.number c.store_answer.ensures.words c.filter_text_distinct_starts-got.ensures

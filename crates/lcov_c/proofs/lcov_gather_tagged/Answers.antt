@@ -1,0 +1,6 @@
+-- `lcov_c::lcov_gather_tagged` meets its contract. Assumes nothing.
+use Rattle.lcov_c.proofs.ExportLaws.{told}
+use Rattle.lcov_c.proofs.lcov_gather_tagged.Goals as goal
+
+pub returns : goal.returns
+returns c = told c.store_answer.ensures.number c.store_answer.ensures.words c.gather_checked_tagged-got.ensures.call
