@@ -117,6 +117,7 @@ fn compare_from(a: &[u8], b: &[u8], from: usize) -> Ordering
 {
     let mut p = from;
     let mut q = from;
+    // no `for`: moves by components in both paths, and by different steps
     loop {
         let y = next_component(b, q);
         let Some(x) = next_component(a, p) else {
