@@ -92,7 +92,7 @@ enum lcov_refusal {
     LCOV_SECOND_SOURCE_FILE = 25,      /* second SF in a section: text, line */
     LCOV_DIFFERENT_KEYS = 27,          /* the two texts do not hold the same keys */
     LCOV_LEAST_ABOVE_GREATEST = 28,    /* a least count above its greatest */
-    LCOV_MALFORMED_LABS = 29           /* lab number outside 1 to 8, or not one lab number for each text */
+    LCOV_MALFORMED_LABS = 29           /* lab number outside 1 to 8, not one lab number for each text, or not eight quotas */
 };
 
 /* Reads one line, with or without its end. The words are
