@@ -7,9 +7,7 @@ use Prim.Native.Nat.{ℕ, ◌+◌, ◌-◌, ◌≤◌, ◌<◌}
 use native.Mathlib.Omega.{arith}
 use lib.ListN.{length}
 use Rattle.table.specs.Places.{tabulate, Unchanged}
-use Rattle.table.specs.Rows.{UnchangedOutside}
 use Rattle.table.specs.Store.{row, Store}
-use Rattle.table.proofs.WordLaws.{kept_wider}
 use Rattle.model.specs.declared.Fault.{Fault}
 use Rattle.model.specs.declared.Part.{Part}
 use Rattle.model.specs.Lists.{filter}
@@ -30,40 +28,6 @@ use Rattle.section_commit.proofs.HeldLaws.{parts_as, kept_as, kept-length, all-m
 use Rattle.section.specs.Reading.{slack, capacity, SectionRoom, RowReserved, with_open, with_path, with_closed, main_of, kept_sizes_of, path_in, state_of, Opened, RowsWithinLimit, PathInside, StateRoom, HoldsState, StepOf}
 
 -- ---- rows that are ready
-
-pub ready_there : {ws : List ℕ} {index used limit place : ℕ} → Store ws index used → used ≤ capacity limit → place < used
-    → RowReserved ws ws index used limit place used
-ready_there σ l h = record {
-  store = σ;
-  more = omega arith;
-  most = l;
-  rows = λ k p q. refl;
-  free = inl h;
-  spare = record { below = λ j m. refl; above = λ j m. refl };
-}
-
-pub ready_grown : {ws ws' : List ℕ} {index used limit place rows : ℕ} → place ≤ used → rows ≡ capacity limit → used < rows → Store ws' index (used + 1)
-    → Unchanged (row ws index) (row ws' index) 0 used → UnchangedOutside ws ws' 0 (index + used + 1) → RowReserved ws ws' index used limit place (used + 1)
-ready_grown p e l σ s κ = record {
-  store = σ;
-  more = omega arith;
-  most = omega arith;
-  rows = s;
-  free = inl (omega arith);
-  spare = kept_wider κ
-      (omega arith) (omega arith);
-}
-
-pub ready_full : {ws : List ℕ} {index used limit place rows : ℕ} → Store ws index used → used ≤ capacity limit → rows ≡ capacity limit → rows ≤ used
-    → RowReserved ws ws index used limit place used
-ready_full σ l e h = record {
-  store = σ;
-  more = omega arith;
-  most = l;
-  rows = λ k p q. refl;
-  free = inr (omega arith);
-  spare = record { below = λ j m. refl; above = λ j m. refl };
-}
 
 -- ---- the rows of the open section counted
 
@@ -249,9 +213,6 @@ module _ {ws : List ℕ} {index limit : ℕ} {st named : State} {path : Part} (e
   room : StateRoom ws index limit st → StateRoom ws index limit (with_path st path)
   room ς = record { room = ς.room; store = ς.store; delta = ς.delta; kept = ς.kept; most = ς.most; tombstones = ς.tombstones }
 
-  pub named-room : StateRoom ws index limit st → StateRoom ws index limit named
-  named-room ς = rw e (room ς)
-
   pub named-valid : {text : List ℕ} → HoldsState text ws index limit st → PartInside text path → HoldsState text ws index limit named
   named-valid {text} ζ i = rw e there
     where
@@ -276,9 +237,6 @@ module _ {ws : List ℕ} {index limit : ℕ} {st named : State} {path : Part} (e
 
 -- where no SF came the path is empty, as the model has it
 module _ (text : List ℕ) where
-  pub path_inside : (b : Bool) (path : Part) → PathInside text b path → PartInside text path
-  path_inside true path i = i
-  path_inside false path e = rw e (omega arith)
 
   pub path_or_lem : (b : Bool) (path : Part) → PathInside text b path → part_in text path ≡ path_or (path_in text b path)
   path_or_lem true path i = refl
