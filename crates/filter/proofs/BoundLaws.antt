@@ -5,7 +5,6 @@ use native.Mathlib.Nat.{add-zero}
 use mathlib.Core.Path.{◌≡◌, refl, sym, ap, ap₂, ◌∙◌}
 use mathlib.Core.Bool.{Bool, false}
 use mathlib.Core.List.{List, [], ◌∷◌}
-use Rattle.ordmap.proofs.Results.{impossible}
 use Rattle.table.specs.declared.Row.{Row}
 use Rattle.table.specs.Places.{tabulate}
 use Rattle.table.specs.Rows.{word, row_at}
@@ -24,7 +23,7 @@ use Rattle.print_sort.specs.Sorting.{items_by}
 use Rattle.print_rows.proofs.LentLaws.{item}
 use Rattle.filter.specs.declared.Looked.{Looked}
 use Rattle.filter.specs.declared.Rule.{Rule}
-use Rattle.filter.specs.declared.Rule.TheVariants.{Started, Held, Until}
+use Rattle.filter.specs.declared.Rule.TheVariants.{Until}
 use Rattle.filter.specs.Keeping.{Ahead, Behind}
 use Rattle.filter.proofs.KeepLaws.{items-cons}
 
@@ -87,12 +86,6 @@ module _ (bound : Bound) (start r : ℕ) (items : Bytes → List Item) where
 
 until_same : (a b : Bound) → Until a ≡ Until b → a ≡ b
 until_same a b e = cc
-
-pub started_not_until : (rule : Rule) → rule ≡ Started → rule ≡ Until GreaterStart → ⊥
-started_not_until rule e q = let z : Started ≡ Until GreaterStart = sym e ∙ q in impossible cc
-
-pub held_not_until : (rule : Rule) → rule ≡ Held → rule ≡ Until GreaterStart → ⊥
-held_not_until rule e q = let z : Held ≡ Until GreaterStart = sym e ∙ q in impossible cc
 
 module _ (ws : List ℕ) (at n : ℕ) (rule : Rule) (bound : Bound) (until : rule ≡ Until bound) (start : ℕ) where
   -- a function of the same start ends where the one before it does

@@ -6,7 +6,7 @@ use mathlib.Core.Logic.{◌≢◌, ◌⊎◌, inl, inr}
 use mathlib.Core.Bool.{Bool, true, false}
 use mathlib.Core.Option.{Option, none, some}
 use lib.Dec.{leb, ltb, eqb, eqb-suc-suc}
-use borrow.Author.Tests.{le-leb, lt-leb, lt-ltb, le-ltb, ltb-true, ltb-false, eqb-true}
+use borrow.Author.Tests.{le-leb, lt-ltb, le-ltb, ltb-true, ltb-false, eqb-true}
 use Rattle.ordmap.proofs.Results.{impossible}
 use Rattle.model.proofs.Items.{larger-none}
 use Rattle.table.specs.declared.Row.{Row}
@@ -29,11 +29,6 @@ use Rattle.std.specs.Prelude.{Result, Ok, Err}
 use Rattle.merge_combine.specs.Combined.{choice_of, made, with_larger_end, summed, RowsCombined}
 
 -- ---- which of two stays
-
-pub choice_later : (mode : Mode) (e l : ℕ) (alike : Bool) → l ≢ 0 → e ≡ 0 → Later ≡ choice_of mode e l alike
-choice_later mode e zero alike h g = absurd (h refl)
-choice_later mode zero (suc l) alike h g = refl
-choice_later mode (suc e) (suc l) alike h g = absurd (omega arith)
 
 choice_both : (mode : Mode) (e l : ℕ) (alike : Bool) → l ≢ 0 → e ≢ 0 → choice_of mode e l alike ≡ choice_of mode 1 1 alike
 choice_both mode e zero alike h g = absurd (h refl)
@@ -367,6 +362,3 @@ module _ (text : Bytes) (mode : Mode) (old new : Row) where
 
 pub sum_fits : (r : Row) (more : ℕ) → r.count + more ≤ u64_max → Ok (made r r.tag r.k2 r.k3 (r.count + more)) ≡ summed r more
 sum_fits r more h = rw (le-leb (r.count + more) u64_max h)
-
-pub sum_past : (r : Row) (more : ℕ) → u64_max < r.count + more → Err CountOverflow ≡ summed r more
-sum_past r more h = rw (lt-leb (r.count + more) u64_max h)

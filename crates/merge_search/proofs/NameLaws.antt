@@ -1,5 +1,5 @@
 -- Rows that spell the names of one section at places of their own. Assumes nothing.
-use mathlib.Core.Path.{◌≡◌, refl, sym, ◌∙◌}
+use mathlib.Core.Path.{◌≡◌, sym, ◌∙◌}
 use mathlib.Core.Logic.{◌≢◌}
 use mathlib.Core.Bool.{true}
 use lib.Dec.{compare_is_eq}
@@ -20,10 +20,6 @@ use Rattle.merge_search.specs.Names.{SameNamePositions, OneSection, SameEntry}
 pub same_key : (text : Bytes) {x y : Row} → SameNamePositions x y → key_of text x ≡ key_of text y
 same_key text ν = λ k. (part text (ν.test k) (ν.test_len k), components (part text (ν.path k) (ν.path_len k)))
 
--- a row that stays means what it meant
-pub same-entry_itself : {text : Bytes} {row : Row} → RowInBounds text row → SameEntry text row row
-same-entry_itself w = record { entry = refl; whole = w }
-
 pub same-entry_as : {text : Bytes} {row q r : Row} → row ≡ q → SameEntry text row r → SameEntry text q r
 same-entry_as e μ = rw e at μ
 
@@ -38,9 +34,6 @@ same-entry-joined {text} {row} {r} {section} e ν h σ w = rw e (record {
     keys = sym σ.key ∙ sym (same_key text ν)
 
 -- ---- the known section
-
-pub known-new : {text : Bytes} {row : Row} → RowInBounds text row → OneSection text (record { spelled = row; joined = row })
-known-new w = record { key = refl; named = w.named }
 
 pub known_joined : {text : Bytes} {row before : Row} → compare_is_eq (compare_sections (key_of text row) (key_of text before)) ≡ true → NamesInBounds text before
     → OneSection text (record { spelled = row; joined = before })

@@ -79,12 +79,6 @@ pub equal-entries : (text : Bytes) {x y : Row} → SameNamePositions x y → com
     → compare_entries (entry_of text x) (entry_of text y) ≡ Ordering.eq
 equal-entries text {x} {y} ν e = sym (by-item (entry_of text x) (entry_of text y) Ordering.eq (one_section text ν) (sym e))
 
--- the key is that of a row that the store handed out
-pub found-equal : {text : Bytes} {key r q : Row} → r ≡ q
-    → ((text : Bytes) → RowInBounds text key → RowInBounds text r → compare_entries (entry_of text key) (entry_of text r) ≡ Ordering.eq)
-    → RowInBounds text key → RowInBounds text q → compare_entries (entry_of text key) (entry_of text q) ≡ Ordering.eq
-found-equal {text} e same wk wq = rw e at (same text wk (rw e wq))
-
 -- a row that the store handed out
 pub whole_as : {text : Bytes} {r q : Row} → r ≡ q → RowInBounds text q → RowInBounds text r
 whole_as e w = rw e w

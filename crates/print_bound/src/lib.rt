@@ -18,6 +18,7 @@ use table::Row;
 use tag_table::Tags;
 
 // How many digits v has at most: one test, since most numbers of a report are small.
+#[tactic(auto, using(crate::proofs::LengthLaws::five_digits))]
 fn max_digits(v: u64) -> u64
     ensures { (length (decimal v) ≤ result) × (1 ≤ result) × (result ≤ 20) }
 {

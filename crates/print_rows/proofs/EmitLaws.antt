@@ -111,9 +111,6 @@ emitted-written write a b e q w = rw e (rw q at w)
 pub emitted-past : (write : Bool) (out bytes : Bytes) (at r : ℕ) → write ≡ false → r ≡ min (at + length bytes) u64_max → Emitted write out out at bytes r
 emitted-past write out bytes at r e h = rw e (record { next = h; after = refl })
 
-pub emitted_measured : (write : Bool) (out bytes : Bytes) (at n r : ℕ) → write ≡ false → n ≡ length bytes → r ≡ min (at + n) u64_max → Emitted write out out at bytes r
-emitted_measured write out bytes at n r e q h = emitted-past write out bytes at r e (rw q at h)
-
 -- ---- bytes written into the rest of the output
 
 module _ (write : Bool) (writes : write ≡ true) (out : Bytes) (at : ℕ) (s : Bytes) (room : RoomFor write out at s) where

@@ -59,21 +59,10 @@ module _ (tag : Kind → Bytes) (text : Bytes) where
 pub taken_none : (m n : ℕ) → m ≡ 0 → None ≡ lent_taken m n
 taken_none m n e = rw e
 
-pub taken-given : (m n : ℕ) → m ≢ 0 → Some n ≡ lent_taken m n
-taken-given zero n h = absurd (h refl)
-taken-given (suc m) n h = refl
-
 taken_in_lem : (m n : ℕ) → given_in (lent_taken m n) ≡ if_given m n
 unfolding given_in
 taken_in_lem zero n = refl
 taken_in_lem (suc m) n = refl
-
-pub checksum-none : (m start len : ℕ) → m ≡ 0 → None ≡ lent_checksum m start len
-checksum-none m start len e = rw e
-
-pub checksum-given : (m start len : ℕ) (p : Part) → m ≢ 0 → p ≡ lent_part start len → Some p ≡ lent_checksum m start len
-checksum-given zero start len p h e = absurd (h refl)
-checksum-given (suc m) start len p h e = rw e
 
 checksum_in_lem : (text : Bytes) (m start len : ℕ) → m < 2 → (m ≡ 1 → start + len ≤ length text) → checksum_in text (lent_checksum m start len) ≡ accepted (if_given m (part text start len))
 unfolding checksum_in

@@ -1,5 +1,4 @@
 -- `filter::keep_held` meets its contract. Assumes nothing.
-use Rattle.std.proofs.Common.{arith}
 use lib.ListN.{take}
 use Rattle.line_num_pairs.specs.Pairs.{ranges_in}
 use Rattle.filter.proofs.RowsLaws.{moved-rows, moved-chosen}

@@ -1,5 +1,4 @@
 -- `filter::required_len` meets its contract: the output is surely long enough, or the lines are measured. Assumes nothing.
-use Rattle.std.proofs.Common.{arith, ◌*◌, ◌^◌, ◌<◌, length}
 use Rattle.tag_table.specs.Tags.{tag_of}
 use lib.ListN.{take}
 use Rattle.line_num_pairs.specs.Pairs.{ranges_in}

@@ -1,5 +1,4 @@
 -- `merge_combine::same_checksums` meets its contract. Assumes nothing.
-use Rattle.std.proofs.Common.{arith}
 use Rattle.compare.proofs.OrderLaws.{tells_equal}
 use Rattle.merge_combine.proofs.same_checksums.Goals as goal
 

@@ -1,5 +1,5 @@
 -- `print_rows::emit_data` meets its contract. Assumes nothing.
-use Rattle.std.proofs.Common.{rules, arith}
+use Rattle.std.proofs.Common.{arith}
 use Rattle.print_rows.proofs.EmitLaws.{room-written, emitted-written, emitted-past}
 use Rattle.print_rows.proofs.LentLaws.{count-line, line-number-fits}
 use Rattle.print_rows.proofs.emit_data.Goals as goal

@@ -1,5 +1,5 @@
 -- `print_rows::emit_item` meets its contract. Assumes nothing.
-use Rattle.std.proofs.Common.{rules, arith}
+use Rattle.std.proofs.Common.{arith}
 use Rattle.print_rows.proofs.EmitLaws.{room_as, emitted_as, emitted_empty}
 use Rattle.print_rows.proofs.LentLaws.{function-line, branch-line, checked_line, no_data, line-fits, block_fits, branch-number-fits, line-number-fits}
 use Rattle.print_rows.proofs.emit_item.Goals as goal

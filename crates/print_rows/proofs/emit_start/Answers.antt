@@ -1,5 +1,5 @@
 -- `print_rows::emit_start` meets its contract. Assumes nothing.
-use Rattle.std.proofs.Common.{rules, arith, sym, ◌∙◌}
+use Rattle.std.proofs.Common.{arith, sym, ◌∙◌}
 use Rattle.print_rows.proofs.EmitLaws.{room_as, emitted_as, emitted_empty, emitted-past}
 use Rattle.print_rows.proofs.LentLaws.{key-start, start-line, no_start, start_fits}
 use Rattle.print_rows.proofs.emit_start.Goals as goal
