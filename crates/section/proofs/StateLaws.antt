@@ -237,7 +237,6 @@ module _ {ws : List ℕ} {index limit : ℕ} {st named : State} {path : Part} (e
 
 -- where no SF came the path is empty, as the model has it
 module _ (text : List ℕ) where
-
   pub path_or_lem : (b : Bool) (path : Part) → PathInside text b path → part_in text path ≡ path_or (path_in text b path)
   path_or_lem true path i = refl
   path_or_lem false path e = rw e
