@@ -55,6 +55,7 @@ fn all_fit(bundle: &[u8], n: usize, total: usize) -> bool
 }
 
 // Well formed, with so many bytes in the arrays for each text.
+#[tactic(auto, using(crate::proofs::BundleLaws::bad_short, crate::proofs::BundleLaws::bad_count, crate::proofs::BundleLaws::bad_length))]
 pub fn is_well_formed_as(bundle: &[u8], width: usize) -> bool
     requires { (8 ≤ width) × (width ≤ 16) }
     ensures { result ≡ well_formed_as width bundle.now }

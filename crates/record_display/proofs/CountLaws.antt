@@ -24,7 +24,7 @@ use Rattle.record_display.specs.declared.fields.Last.TheVariants as L
 use Rattle.record_display.specs.declared.fields.Fields.{Fields}
 use Rattle.format.proofs.OverLaws.{second_at, second-room, second_fits, second_len, second-out}
 use Rattle.record_display.proofs.FieldLaws.{head_first, inside_nothing}
-use Rattle.record_display.proofs.RecordFieldLaws.{line_first, line_len, line-within, line-fits, line_kept, line-out, fits-any}
+use Rattle.record_display.proofs.RecordFieldLaws.{line_first, line_len, line-within, line_kept, line-out, fits-any}
 use Rattle.record_display.proofs.LineLaws.{print_room, print_written, print_out}
 
 -- ---- the line

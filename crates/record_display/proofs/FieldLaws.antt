@@ -3,7 +3,6 @@ use Prim.Native.Nat.{ℕ, zero, suc, ◌+◌, ◌-◌, ◌^◌, ◌≤◌, ◌<�
 use mathlib.Core.Path.{◌≡◌, refl, sym, ap, ◌∙◌}
 use mathlib.Core.List.{List, [], ◌∷◌, ◌++◌, append_assoc, append-nil}
 use mathlib.Core.Bool.{Bool, true, false}
-use mathlib.Core.Option.{some}
 use native.Mathlib.Omega.{arith}
 use lib.Dec.{leb}
 use lib.ListN.{length, take, drop, get_or, length-append, length-drop, length-map}
@@ -12,17 +11,16 @@ use mir.Val.{Fits}
 use mir.Syntax.{w64}
 use borrow.Author.Tests.{leb-true, leb-false, le-leb, lt-leb, eq-eqb, ne_eqb}
 use Rattle.model.specs.declared.Kind.{Kind}
-use Rattle.model.specs.declared.Kind.TheVariants as Kd
 use Rattle.model.specs.declared.Part.{Part}
 use Rattle.model.specs.Bytes.{Bytes, ascii}
 use Rattle.model.specs.Number.{decimal}
-use Rattle.model.specs.Output.{written, output_after}
-use Rattle.format.specs.Put.{put_len, over}
+use Rattle.model.specs.Output.{output_after}
+use Rattle.format.specs.Put.{over}
 use Rattle.scan.proofs.ByteLaws.{drop-end, drop-next}
 use Rattle.record_display.specs.Fields.{separated, number_texts, last_len, last_field, inside, sep_after, head_of}
 use Rattle.record_display.specs.declared.fields.Last.{Last}
 use Rattle.record_display.specs.declared.fields.Last.TheVariants as L
-use Rattle.format.proofs.OverLaws.{lent_size, over-more, put_len_lem, put_over, to_end}
+use Rattle.format.proofs.OverLaws.{lent_size, over-more, to_end}
 
 -- the last field, known by its variant
 module _ (last : Last) where

@@ -6,7 +6,7 @@ use mathlib.Core.List.{List, [], ◌∷◌, ◌++◌, map, append_assoc, append-
 use mathlib.Core.Bool.{true}
 use native.Mathlib.Omega.{arith}
 use native.Mathlib.Numerals.{one-add}
-use lib.Dec.{eqb-suc-zero, leb, lit≤}
+use lib.Dec.{eqb-suc-zero}
 use lib.ListN.{length, take, drop, set, length-append, length-drop, length-take}
 use lib.Seq.{length-take-le}
 use mir.Val.{Fits}
@@ -134,6 +134,3 @@ head_most tags are kind count numbers h =
 pub fits-any : {s : Fields} {room : ℕ} (tags : Bytes) → are_tags tags ≡ true → (n : ℕ) → s.count ≤ 4 → n ≡ last_len s.last → max_head + n ≤ room → Fitting (tags_of tags) s room true
 fits-any {s} {room} tags are n few e h =
     record { is = sym (le-leb (length (head_of (tags_of tags) s.kind s.numbers s.count) + last_len s.last + 1) room (omega (arith, head_most tags are s.kind s.count s.numbers few))) }
-
-pub fits_measured : (tag : Kind → Bytes) {s : Fields} {room : ℕ} (n : ℕ) → n ≡ length (head_of tag s.kind s.numbers s.count) + last_len s.last + 1 → Fitting tag s room (leb n room)
-fits_measured tag {s} {room} n e = record { is = ap (λ (k : ℕ). leb k room) e }
