@@ -12,7 +12,7 @@ use Rattle.model_bounds.specs.declared.Bounds.{Bounds}
 use Rattle.model_bounds.specs.Bounds.{bounds}
 use Rattle.table.specs.declared.Row.{Row}
 use Rattle.table_section.specs.Sections.{Sections}
-use Rattle.std.specs.Prelude.{Result, Ok, Err}
+use Rattle.std.specs.Prelude.{Result}
 use Rattle.model.specs.declared.Refusal.{Refusal}
 use Rattle.report_parser.specs.declared.TextRead.{TextRead as TextSizes}
 use Rattle.report_parser.specs.Reader.{TextRead}

@@ -1,10 +1,9 @@
 -- The highest revisions of a bundle gathered. Assumes nothing.
 use Prim.Native.Nat.{ℕ, ◌+◌, ◌*◌, ◌≤◌, ◌<◌}
 use native.Mathlib.Omega.{arith}
-use mathlib.Core.Path.{◌≡◌, refl, sym, ap, ◌∙◌}
+use mathlib.Core.Path.{◌≡◌, refl, sym, ◌∙◌}
 use mathlib.Core.Bool.{Bool, true, false}
 use mathlib.Core.List.{List, []}
-use lib.ListN.{length}
 use Rattle.model.specs.declared.Kind.{Kind}
 use Rattle.model.specs.declared.Fault.TheVariants.{MalformedBundle}
 use Rattle.model.specs.declared.Mode.TheVariants.{Checked}
@@ -12,7 +11,7 @@ use Rattle.model.specs.declared.Refusal.{Refusal}
 use Rattle.model.specs.Bytes.{Bytes}
 use Rattle.model.specs.Answer.{unplaced}
 use Rattle.model.specs.Limits.{max_texts}
-use Rattle.model.specs.Bundle.{Text, text_count}
+use Rattle.model.specs.Bundle.{text_count}
 use Rattle.model.specs.Gather.{entry_limit, gather_texts}
 use Rattle.text_choice.specs.RevisionBundle.{well_formed_revisions, revision_text, is_highest, highest_texts}
 use Rattle.text_choice.specs.Revisions.{gather_highest}
@@ -21,7 +20,7 @@ use Rattle.bundle.specs.Marks.{is_marked}
 use Rattle.bundle.specs.Places.{text_from, TextsInside}
 use Rattle.bundle_revisions.specs.Revisions.{Counted, FirstRepeatAt, HighestMarked}
 use Rattle.bundle_revisions.proofs.RevisionLaws.{well_few, well_length, well_text}
-use Rattle.std.specs.Prelude.{Result as Answered, Ok, Err}
+use Rattle.std.specs.Prelude.{Result as Answered, Err}
 use Rattle.joined_table.specs.Gathering.{marked_texts, BundleGathered}
 use Rattle.joined_revisions.specs.Repeats.{repeat_at}
 

@@ -16,8 +16,8 @@ use Rattle.model.specs.Output.{written, output_after}
 use Rattle.format.specs.Put.{put_len, over}
 use Rattle.format.proofs.DecimalLaws.{decimal-most}
 use Rattle.format.proofs.OverLaws.{second_at, second-room, second_fits, second_len, second-out, over_size, put_over, put_len_lem, to_end}
-use Rattle.print_rows.specs.Emit.{RoomFor, Emitted}
-use Rattle.print_rows.proofs.EmitLaws.{room_as, emitted_as}
+use Rattle.print_rows.specs.Emit.{Emitted}
+use Rattle.print_rows.proofs.EmitLaws.{emitted_as}
 use Rattle.model_totals.specs.declared.Ratio.{Ratio}
 use Rattle.model_totals.specs.declared.Totals.{Totals}
 use Rattle.model_totals.specs.Totals.{blank, share, print_share, print_ratio, columns}
@@ -212,8 +212,5 @@ module _ (t : Totals) where
       omega (arith, over_size old out (blank ∷ columns t) [] [] n o (omega (arith, all_fit old room, ap length columns-are)), all_fit old room, ap length columns-are)
 
   module _ (write : Bool) (old line : Bytes) (n : ℕ) (e : n ≡ 1 + length (columns t)) (o : line ≡ over (blank ∷ columns t) old) where
-    pub slice-room : (out : Bytes) (at : ℕ) → RoomFor write out at (columns t) → RoomFor write out at (take (n - 1) (drop 1 line))
-    slice-room out at h = room_as write out at _ _ (columns-slice old line n e o) h
-
     pub slice-emitted : {out out' : Bytes} {at r : ℕ} → Emitted write out out' at (take (n - 1) (drop 1 line)) r → Emitted write out out' at (columns t) r
     slice-emitted ε = emitted_as write _ _ (columns-slice old line n e o) ε

@@ -16,7 +16,7 @@ use Rattle.table_item.specs.Items.{part, kind_of}
 use Rattle.table_section.specs.Sections.{test_of, path_of}
 use Rattle.section.specs.Table.{Table}
 use Rattle.print_rows.specs.Emit.{RoomFor, Emitted, Numbered}
-use Rattle.print_rows.proofs.EmitLaws.{room-first, room-then, room_as, emitted_both, emitted_as}
+use Rattle.print_rows.proofs.EmitLaws.{room_as, emitted_both, emitted_as}
 use Rattle.print_report.specs.declared.KindRanges.{KindRanges}
 use Rattle.print_report.specs.Printing.{entries_from, AreKindRanges}
 use Rattle.print_report.proofs.KindLaws.{first-header, next-header}
@@ -33,16 +33,10 @@ use Rattle.print_totals.proofs.CountLaws.{section-most, section-totals, totals_a
 -- ---- a blank and a name
 
 module _ (text : Bytes) (start len : ℕ) (write : Bool) (out : Bytes) (at : ℕ) (room : RoomFor write out at (blank ∷ part text start len)) where
-  pub blank-room : RoomFor write out at (blank ∷ [])
-  blank-room = room-first write out at (blank ∷ []) (part text start len) room
-
   slice_is : take (start + len - start) (drop start text) ≡ part text start len
   slice_is = ap (λ (n : ℕ). take n (drop start text)) (let e : start + len - start ≡ len = omega arith in e)
 
   module _ (few : length out * 1 < 2 ^ 63) {out₁ : Bytes} {r₁ : ℕ} (ε : Emitted write out out₁ at (blank ∷ []) r₁) where
-    pub name-room : RoomFor write out₁ r₁ (take (start + len - start) (drop start text))
-    name-room = room_as write out₁ r₁ _ _ slice_is (room-then write out at (blank ∷ []) (part text start len) room few ε)
-
     pub name-emitted : {out₂ : Bytes} {r₂ : ℕ} → Emitted write out₁ out₂ r₁ (take (start + len - start) (drop start text)) r₂
         → Emitted write out out₂ at (blank ∷ part text start len) r₂
     name-emitted ε₂ = emitted_both write out at (blank ∷ []) (part text start len) room few ε (emitted_as write _ _ slice_is ε₂)
@@ -60,22 +54,13 @@ module _ (text : Bytes) (header : Row) (write : Bool) (out : Bytes) (at : ℕ) (
   at_test : Going write out out at at (name_columns text header) (name_columns text header)
   at_test = going_start room few place
 
-  pub test-room : RoomFor write out at test
-  test-room = going_room at_test test (spelling ++ (newline ∷ [])) refl
-
   module _ {out₁ : Bytes} {r₁ : ℕ} (ε₁ : Emitted write out out₁ at test r₁) where
     at_path : Going write out out₁ at r₁ (name_columns text header) (spelling ++ (newline ∷ []))
     at_path = going_next at_test test (spelling ++ (newline ∷ [])) refl ε₁
 
-    pub path_room : RoomFor write out₁ r₁ spelling
-    path_room = going_room at_path spelling (newline ∷ []) refl
-
     module _ {out₂ : Bytes} {r₂ : ℕ} (ε₂ : Emitted write out₁ out₂ r₁ spelling r₂) where
       at_newline : Going write out out₂ at r₂ (name_columns text header) (newline ∷ [])
       at_newline = going_next at_path spelling (newline ∷ []) refl ε₂
-
-      pub names-end : RoomFor write out₂ r₂ (newline ∷ [])
-      names-end = going_room at_newline (newline ∷ []) [] refl
 
       pub names-emitted : {out₃ : Bytes} {r₃ : ℕ} → Emitted write out₂ out₃ r₂ (newline ∷ []) r₃ → Emitted write out out₃ at (name_columns text header) r₃
       names-emitted ε₃ = going_done (going_next at_newline (newline ∷ []) [] refl ε₃) refl
@@ -147,9 +132,6 @@ module _ {write : Bool} {text ws out : List ℕ} {index n lo at : ℕ} {header :
   pub columns-room : RoomFor write out at (columns t)
   columns-room = going_room at_columns (columns t) (name_columns text header ++ rest) all
 
-  pub header-named : (header.test + header.test_len ≤ length text) × (header.path + header.path_len ≤ length text)
-  header-named = let ν = (η.table.whole lo η.more).named in rw η.is (ν.test, ν.path)
-
   module _ {out₁ : Bytes} {a : ℕ} (ε : Emitted write out out₁ at (columns t) a) where
     at_names : Going write out out₁ at a (lines_from text ws index n lo) (name_columns text header ++ rest)
     at_names = going_next at_columns (columns t) (name_columns text header ++ rest) all ε
@@ -209,9 +191,6 @@ counting_start {write} {text} {ws} {out} {index} {n} τ h few = record {
 module _ {write : Bool} {text ws out₀ out : List ℕ} {index n lo at : ℕ} {sums : Totals} (κ : Counting write text ws out₀ out index n lo at sums) where
   pub lines-room : RoomFor write out at (lines_from text ws index n lo)
   lines-room = going_room κ.going (lines_from text ws index n lo) (last_line text ws index n) refl
-
-  pub sums-small : n ≤ max_entries → {out' : Bytes} {r : Line} → LinePrinted write text ws out out' index n lo at r → AtMost max_entries (add_totals sums r.totals)
-  sums-small few {out'} {r} λp = totals_wider (omega (arith, λp.more, λp.most)) (totals-most sums r.totals κ.small λp.small)
 
   pub counting_next : {out' : Bytes} {r : Line} {next : Totals} → LinePrinted write text ws out out' index n lo at r → length out' ≡ length out → next ≡ add_totals sums r.totals
       → Counting write text ws out₀ out' index n r.next r.at next
