@@ -269,6 +269,22 @@ fn windows_rows(table: &Table) {
         let what = format!("windows over {MAX_TEXTS} texts of 1,000 entries, w = {width}");
         compared::windows_row(table, &what, width, &bundle);
     }
+    sixteen_gathers_row(table, &bundle);
+}
+
+/// The widest windows, where the Rust gathers all texts as often as such a window has texts.
+fn sixteen_gathers_row(table: &Table, bundle: &[u8]) {
+    let kept = Kept::roomy(&rust::windows(MAX_WIDTH as usize, bundle));
+    table.row(Work {
+        what: &format!("windows over {MAX_TEXTS} texts of 1,000 entries, w = {MAX_WIDTH}, where the Rust gathers all {MAX_WIDTH} times"),
+        times: 1,
+        port: &|port| kept.call(|lent| port.windows(black_box(bundle), MAX_WIDTH, lent)),
+        rust: &[("", &|| {
+            for _ in 0..MAX_WIDTH {
+                drop(black_box(rust::gather(black_box(bundle))));
+            }
+        })],
+    });
 }
 
 /// Each lab sends a text in turn, and all are let in.
