@@ -1,4 +1,5 @@
-// Three-way comparison of numbers, byte strings and paths. SPEC 4 says which keys compare how.
+// Three-way comparison of byte strings and paths. SPEC 4 says which keys compare how. Numbers have the library's `cmp`, of which
+// proofs/OrderLaws.antt has laws.
 #![tactic(auto)]
 
 mod path;

@@ -11,6 +11,7 @@ ghost use Rattle.line_num_pairs.specs.Pairs.{pair, range_at, span, ranges_in, En
 use model::{Fault, Range, Refusal};
 
 // "Half-open a..b becomes a to b − 1, with b = 0 read as b = 1."
+#[tactic(auto, unfolding(model::specs::Ranges::half_open))]
 pub fn half_open(a: u32, b: u32) -> Range
     ensures { result ≡ half_open a b }
 {

@@ -4,12 +4,13 @@
 
 mod effect;
 
-ghost use Rattle.std.specs.Prelude.{◌≡◌, true, ◌≤◌, ◌<◌, length};
+ghost use Rattle.std.specs.Prelude.{◌≡◌, true, ◌≤◌, ◌<◌, length, Err};
+ghost use Rattle.model.specs.declared.Refusal.{Refusal};
 ghost use Rattle.section.specs.Reading.{SectionRoom, HoldsState};
 ghost use Rattle.report_parser.specs.Reader.{at_line, fault_at, LineDone, TextFinished, TextRead as TextIsRead};
 ghost use Rattle.tag_table.specs.Tags.{tag_of};
 
-use model::{Fault, Refusal};
+use model::{Fault, Record, Refusal};
 use section::State;
 use tag_table::Tags;
 
@@ -43,6 +44,16 @@ fn at_line(line: u64, refusal: Refusal) -> Refusal
     Refusal { line, ..refusal }
 }
 
+// A line that is refused ends the reading there. No caller hands over a record that was read.
+fn refused_line(got: Result<Record, Refusal>, number: u64) -> Result<LineRead, Refusal>
+    ensures { (refusal : Refusal) → got ≡ Err refusal → result ≡ Err (at_line number refusal) }
+{
+    match got {
+        Err(refusal) => Err(at_line(number, refusal)),
+        Ok(_made) => Err(fault_at(number, Fault::UnknownRecord)),
+    }
+}
+
 // Reads the line that starts at `at`; it has this number.
 fn read_line_at(
     tags: Tags,
@@ -58,15 +69,16 @@ fn read_line_at(
     ensures { LineDone (tag_of tags.entry) text.now words.old words.new index limit at number state result }
 {
     let len = scan_line::first_line_len(&text[at..]);
-    match record_parse::read_record(tags, &text[at..at + len]) {
-        Ok(made) => match effect::step(text, words, index, limit, state, made, at, len) {
-            Ok(after) => Ok(LineRead {
-                state: after,
-                next: at + len + 1,
-            }),
-            Err(fault) => Err(fault_at(number, fault)),
-        },
-        Err(refusal) => Err(at_line(number, refusal)),
+    let got = record_parse::read_record(tags, &text[at..at + len]);
+    let Ok(made) = got else {
+        return refused_line(got, number);
+    };
+    match effect::step(text, words, index, limit, state, made, at, len) {
+        Ok(after) => Ok(LineRead {
+            state: after,
+            next: at + len + 1,
+        }),
+        Err(fault) => Err(fault_at(number, fault)),
     }
 }
 

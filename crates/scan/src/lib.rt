@@ -102,7 +102,7 @@ fn is_above(value: u64, digit: u64, max: u64) -> bool
     requires { digit ≤ 9 }
     ensures { Above value digit max result }
 {
-    max / 10 < value || value == max / 10 && max - value * 10 < digit
+    max / 10 <= value && (max / 10 < value || max - value * 10 < digit)
 }
 
 // The number at the front of s, up to the first comma or the end; it is at most max.

@@ -149,7 +149,8 @@ pub fn on_item(
 {
     let kept = state.kept;
     let most = limit + state.tombstones;
-    if most <= kept {
+    let is_full = most <= kept;
+    if is_full {
         return Err(Fault::TooManyEntries);
     }
     let sizes = state.sizes;
@@ -175,7 +176,8 @@ pub fn on_item(
             }
             let all = flush_midway(text, words, index, used, spare, kept + 1, next);
             let total = kept + 1 + all.main + all.delta;
-            if most < total {
+            let is_past = most < total;
+            if is_past {
                 return Err(Fault::TooManyEntries);
             }
             Ok(with_open(state, used, all))

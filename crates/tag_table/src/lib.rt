@@ -1,10 +1,10 @@
 // The thirteen tags (SPEC 2.2): a lent table is checked, a tag's kind is told, and a kind's tag is written.
 #![tactic(auto)]
 
-ghost use Rattle.std.specs.Prelude.{◌≡◌, true, [], ◌≤◌, ◌<◌, length};
+ghost use Rattle.std.specs.Prelude.{◌≡◌, true, [], ◌≤◌, ◌<◌, eqb, length};
 ghost use Rattle.model.specs.Bytes.{before, same_bytes};
 ghost use Rattle.model.specs.Tags.{default_tag};
-ghost use Rattle.model.specs.TagTable.{place_of, tag_length, tag_at, lent_tag, well_formed_tags};
+ghost use Rattle.model.specs.TagTable.{place_of, tag_length, tag_at, lent_tag, well_formed_tags, tags_of, are_tags};
 ghost use Rattle.format.specs.Put.{over};
 ghost use Rattle.tag_table.specs.Kinds.{body_at, ends_at, TaggedAs, FoundIn};
 ghost use Rattle.tag_table.specs.Loading.{LoadedAs};
@@ -167,7 +167,7 @@ fn lent_kind(tags: &[u8], s: &[u8]) -> Option<Tagged>
     search_kind(tags, s)
 }
 
-impl Tags<'_> {
+impl<'a> Tags<'a> {
     // The default tags.
     pub fn defaults() -> Self
         ensures { tag_of result ≡ default_tag }
@@ -175,9 +175,18 @@ impl Tags<'_> {
         Tags { table: b"" }
     }
 
-    // Whether these are the default tags.
+    // The tags of a table that is known to keep the rules that `load` checks, or the default tags, where it is empty.
+    pub fn of(table: &'a [u8]) -> Self
+        requires { are_tags table.now ≡ true }
+        ensures { tag_of result ≡ tags_of table.now }
+    {
+        Tags { table }
+    }
+
+    // Whether these are the default tags: no table is lent.
     pub fn are_default(self) -> bool
-        ensures { result ≡ true → tag_of self.entry ≡ default_tag }
+        ensures told { result ≡ eqb (length self.entry.table.now) 0 }
+        ensures tags { result ≡ true → tag_of self.entry ≡ default_tag }
     {
         self.table.len() == 0
     }

@@ -34,7 +34,8 @@ fn answer(input: &[u8], scratch: &mut [u64], out: &mut [u8]) -> usize
     requires { (length scratch.old ≡ program_words) × (length out.old ≡ program_output) }
     ensures { Fronts result out.new (totals_program input.now) }
 {
-    if MAX_INPUT < input.len() {
+    let is_too_long = MAX_INPUT < input.len();
+    if is_too_long {
         return program_io::put_refusal(Refusal::from(Fault::MalformedBundle), out);
     }
     totals(input, scratch, out)

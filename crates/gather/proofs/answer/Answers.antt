@@ -5,11 +5,11 @@ use Rattle.model.specs.Gather.{gather, gather_program}
 use Rattle.program_io.proofs.AnswerLaws.{too_long, short_enough}
 use Rattle.gather.proofs.answer.Goals as goal
 
-pub returns-then-input-gt-MAX_INPUT : goal.returns-then-input-gt-MAX_INPUT
+pub returns-then-is_too_long : goal.returns-then-is_too_long
 unfolding gather_program
-returns-then-input-gt-MAX_INPUT c =
-    too_long (gather default_tag Checked) _ _ _ _ _ c.if-input-gt-MAX_INPUT.true c.from.ensures c.put_refusal.ensures.0 c.put_refusal.ensures.1
+returns-then-is_too_long c =
+    too_long (gather default_tag Checked) _ _ _ _ _ c.if-is_too_long.true c.from.ensures c.put_refusal.ensures.0 c.put_refusal.ensures.1
 
 pub returns : goal.returns
 unfolding gather_program
-returns c = short_enough (gather default_tag Checked) _ c.args.out.now _ _ c.if-input-gt-MAX_INPUT.false c.gather.ensures
+returns c = short_enough (gather default_tag Checked) _ c.args.out.now _ _ c.if-is_too_long.false c.gather.ensures

@@ -1,6 +1,6 @@
-use Rattle.std.proofs.Common.{arith, ◌≡◌, ℕ, List, ◌++◌, length, drop, ap, sym, ◌∙◌}
+use Rattle.std.proofs.Common.{arith, refl, ◌≡◌, ℕ, List, ◌++◌, length, drop, ap, sym, ◌∙◌}
 use Rattle.model.specs.Output.{output_after}
-use Rattle.format.proofs.PutLaws.{short_out, fits_out}
+use Rattle.format.proofs.PutLaws.{short_out, copied_out}
 use Rattle.lcov_c_words.proofs.put_words.Goals as goal
 
 pub returns-then-slice-lt8 : goal.returns-then-slice-lt8
@@ -13,4 +13,5 @@ returns c =
     let slice = c.args.slice.now in
     let n : length words ≡ 8 = omega (arith, c.well_formed) in
     ap (λ (s : List ℕ). s ++ drop 8 slice) c.copy_from_slice.ensures.after
-    ∙ fits_out words slice (words ++ drop 8 slice) (omega (arith, n, c.if-slice-lt8.false)) (ap (λ (k : ℕ). words ++ drop k slice) (sym n))
+    ∙ ap (λ (k : ℕ). words ++ drop k slice) (sym n)
+    ∙ copied_out words slice words refl (omega (arith, n, c.if-slice-lt8.false))

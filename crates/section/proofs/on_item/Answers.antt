@@ -4,8 +4,8 @@ use Rattle.section.proofs.StateLaws.{next_as, open_as, flushed_there, flushed_em
 use Rattle.section.proofs.ItemLaws.{adding_as, flushed_as, added_none, header-free, line_open, line-next, line-past, line_refused}
 use Rattle.section.proofs.on_item.Goals as goal
 
-pub returns-then-most-kept : goal.returns-then-most-kept
-returns-then-most-kept c = added_none c.requires.0 c.args.row c.args.accumulate (omega arith)
+pub returns-then-is_full : goal.returns-then-is_full
+returns-then-is_full c = added_none c.requires.0 c.args.row c.args.accumulate (omega arith)
 
 pub add_row-requires-clause-open_section : goal.add_row-requires-clause-open_section
 add_row-requires-clause-open_section c =
@@ -25,8 +25,8 @@ returns-then-end-most c =
     next_as c.with_open.ensures
     (line-next ζ h.ensures h.auto.words kept u.ensures u.auto.words c.args.row c.args.accumulate α (flushed_there α.still (omega arith)) (omega arith) c.add_row.auto.words)
 
-pub returns-then-most-total : goal.returns-then-most-total
-returns-then-most-total c =
+pub returns-then-is_past : goal.returns-then-is_past
+returns-then-is_past c =
     let h = c.reserve_row-header_used in
     let u = c.reserve_row-used in
     let ζ = c.requires.0 in
@@ -35,8 +35,8 @@ returns-then-most-total c =
     line-past ζ h.ensures h.auto.words kept u.ensures u.auto.words c.args.row c.args.accumulate
     (adding_as c.in-Ok.is e c.add_row.ensures) (flushed_as e (flushed_emptied _ c.flush_midway-all.ensures)) (omega (arith, c.flush_midway-all.ensures.none))
 
-pub returns-else-most-total : goal.returns-else-most-total
-returns-else-most-total c =
+pub returns-else-is_past : goal.returns-else-is_past
+returns-else-is_past c =
     let h = c.reserve_row-header_used in
     let u = c.reserve_row-used in
     let ζ = c.requires.0 in

@@ -1,5 +1,5 @@
 use Rattle.tag_table.proofs.LoadLaws.{empty_table}
 use Rattle.tag_table.proofs.tags.Tags.are_default.Goals as goal
 
-pub returns : goal.returns
-returns c = empty_table c.args.self.table.now
+pub returns-clause-tags : goal.returns-clause-tags
+returns-clause-tags c = empty_table c.args.self.table.now
